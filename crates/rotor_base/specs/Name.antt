@@ -1,0 +1,27 @@
+-- Names of values (the OCaml manual, "Lexical conventions" and "Names").
+use Rattle.std.specs.Prelude.{ℕ, List, [], ◌∷◌, Bool, false, ◌==◌, ◌&&◌, ◌||◌, not, length, nat_le, codes}
+use Rattle.std.specs.Char.{is_ascii_lowercase, is_ascii_alphanumeric}
+use Rattle.std.specs.List.{list_all, list_any}
+use Rattle.std.specs.Str.{bytes_eq}
+use Rattle.rotor_base.specs.declared.name.TheConstants.{KEYWORDS}
+
+-- a value name begins with a lower-case letter or `_`
+abbrev pub starts_as_value_name : List ℕ → Bool
+starts_as_value_name [] = false
+starts_as_value_name (b ∷ bs) = is_ascii_lowercase b || b == 95
+
+-- letters, digits, `_` and `'`
+abbrev pub is_identifier_byte : ℕ → Bool
+is_identifier_byte b = is_ascii_alphanumeric b || b == 95 || b == 39
+
+-- one of the keywords
+unfoldable pub is_keyword_word : List ℕ → Bool
+is_keyword_word word = list_any (λ keyword. bytes_eq keyword.now word) KEYWORDS
+
+-- a keyword, or the word `_`
+abbrev pub is_reserved_word : List ℕ → Bool
+is_reserved_word word = is_keyword_word word || bytes_eq word (codes "_")
+
+-- the words that may name a value
+abbrev pub is_value_name : List ℕ → Bool
+is_value_name word = starts_as_value_name word && nat_le (length word) 255 && not (is_reserved_word word) && list_all is_identifier_byte word

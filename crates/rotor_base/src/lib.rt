@@ -1,0 +1,33 @@
+//! The types that the crates of ROTOR share: names, places, goals, facts, refusals, reports and limits.
+//!
+//! Contracts see a [`Name`], a [`Text`] and a [`Row`] as lists, so that two values of this crate are equal in a
+//! clause exactly where they hold the same contents.
+#![tactic(auto)]
+
+mod fault;
+mod limits;
+mod looks;
+mod name;
+mod place;
+mod refusal;
+mod report;
+mod row;
+mod source;
+mod target;
+mod token;
+
+pub use fault::{Failed, Memory};
+pub use limits::{
+    MAX_BATCH_LINES, MAX_FILE_BYTES, MAX_LEVELS, MAX_NAME_BYTES, MAX_NESTING, MAX_OPENED,
+    MAX_PLAN_BYTES, MAX_SAMPLE, MAX_SOURCES, MAX_TOTAL_BYTES, MAX_WEIGHT, MAX_WEIGHT_SUM, MAX_WORK,
+    MIN_SAMPLE,
+};
+pub use looks::{LinkLook, Looks, RefLook, Watch};
+pub use name::{Name, is_name};
+pub use place::{Facts, Foot, Goal, Link, Place, Ref};
+pub use refusal::{LoadError, Refusal};
+pub use report::{Counts, FootReport, SampleReport};
+pub use row::Row;
+pub use source::{SourceFile, Text};
+pub use target::Target;
+pub use token::{Class, FormKind, Token};

@@ -1,0 +1,156 @@
+ghost use Rattle.std.specs.Prelude.{◌≡◌, IfOk};
+ghost use Rattle.std.specs.List.{list_all, list_any};
+ghost use Rattle.std.specs.Str.{bytes_eq};
+ghost use Rattle.rotor_base.specs.Name.{is_value_name, is_keyword_word, is_reserved_word, starts_as_value_name, is_identifier_byte};
+
+use crate::{MAX_NAME_BYTES, Memory};
+use std::alloc::Global;
+use std::marker::Model;
+
+/// The word of an identifier or an operator. Contracts see it as the list of its bytes.
+#[derive(Debug, Drop)]
+pub struct Name {
+    bytes: Vec<u8>,
+}
+
+impl Model for Name {
+    ghost use Rattle.std.specs.Prelude.{List, ℕ};
+
+    ghost Value = { List ℕ };
+
+    ghost view = { λ n. n.bytes.items };
+}
+
+impl Name {
+    /// The name of these bytes.
+    pub fn new(alloc: Global, bytes: &[u8]) -> Result<Self, Memory>
+        ensures { IfOk result (λ name. name ≡ bytes.now) }
+    {
+        Ok(Name {
+            bytes: bytes.to_vec(alloc)?,
+        })
+    }
+
+    /// The bytes.
+    pub fn as_bytes(&self) -> &[u8]
+        ensures { result.now ≡ self.now }
+    {
+        &self.bytes
+    }
+}
+
+/// The keywords of the language.
+const KEYWORDS: [&str; 56] = [
+    "and",
+    "as",
+    "assert",
+    "asr",
+    "begin",
+    "class",
+    "constraint",
+    "do",
+    "done",
+    "downto",
+    "else",
+    "end",
+    "exception",
+    "external",
+    "false",
+    "for",
+    "fun",
+    "function",
+    "functor",
+    "if",
+    "in",
+    "include",
+    "inherit",
+    "initializer",
+    "land",
+    "lazy",
+    "let",
+    "lor",
+    "lsl",
+    "lsr",
+    "lxor",
+    "match",
+    "method",
+    "mod",
+    "module",
+    "mutable",
+    "new",
+    "nonrec",
+    "object",
+    "of",
+    "open",
+    "or",
+    "private",
+    "rec",
+    "sig",
+    "struct",
+    "then",
+    "to",
+    "true",
+    "try",
+    "type",
+    "val",
+    "virtual",
+    "when",
+    "while",
+    "with",
+];
+
+/// Whether a word may name a value: a lower-case letter or `_`, then letters, digits, `_` and `'`, at most 255
+/// bytes in all, no keyword and not `_` alone (the manual's chapter on lexical conventions). It takes no memory.
+pub fn is_name(word: &[u8]) -> bool
+    ensures { result ≡ is_value_name word.now }
+{
+    if !begins_as_value_name(word) {
+        return false;
+    }
+    if word.len() > MAX_NAME_BYTES {
+        return false;
+    }
+    if is_reserved(word) {
+        return false;
+    }
+    is_identifier(word)
+}
+
+/// Whether a word begins with a lower-case letter or `_`.
+fn begins_as_value_name(word: &[u8]) -> bool
+    ensures { result ≡ starts_as_value_name word.now }
+{
+    match word {
+        [] => false,
+        [first, ..] => first.is_ascii_lowercase() || *first == b'_',
+    }
+}
+
+/// Whether all bytes of a word may stand in an identifier.
+fn is_identifier(word: &[u8]) -> bool
+    ensures { result ≡ list_all is_identifier_byte word.now }
+{
+    word.iter().all(|byte| byte.is_ascii_alphanumeric() || *byte == b'_' || *byte == b'\'')
+}
+
+/// Whether a word is a keyword or `_`.
+fn is_reserved(word: &[u8]) -> bool
+    ensures { result ≡ is_reserved_word word.now }
+{
+    is_keyword(word) || word == b"_".as_slice()
+}
+
+/// Whether a word is one of the keywords.
+#[tactic(auto, unfolding(crate::specs::Name::is_keyword_word))]
+fn is_keyword(word: &[u8]) -> bool
+    ensures { result ≡ is_keyword_word word.now }
+{
+    is_among(word, &KEYWORDS)
+}
+
+/// Whether a word is one of some words.
+fn is_among(word: &[u8], words: &[&str]) -> bool
+    ensures { result ≡ list_any (λ other. bytes_eq other.now word.now) words.now }
+{
+    words.iter().any(|other| other.as_bytes() == word)
+}
