@@ -28,6 +28,18 @@ pub enum Goal {
     },
 }
 
+impl Goal {
+    ghost use Rattle.std.specs.Prelude.{◌≡◌};
+    ghost use Rattle.rotor_base.specs.Place.{same_goal};
+
+    /// Whether two goals are one.
+    pub fn is(self, other: Goal) -> bool
+        ensures { result ≡ same_goal self other }
+    {
+        self == other
+    }
+}
+
 /// One line of a match of a module with a signature: the item, and what meets it.
 #[derive(Clone, Copy, Debug, PartialEq, Eq)]
 pub struct Link {

@@ -1,0 +1,5 @@
+pub mod Facts
+pub mod Grammar
+pub mod Renaming
+pub mod Run
+pub mod Token

@@ -1,0 +1,12 @@
+//! The renaming of a plain file: one file of bindings `let NAME = OPERANDS`, with `+` between names and digits.
+//!
+//! This reader stands in for the whole language until that is read, and goes away then.
+#![tactic(auto)]
+
+mod facts;
+mod grammar;
+mod renaming;
+mod run;
+mod token;
+
+pub use renaming::{Aim, Answer, Respelled, rename};
