@@ -1,0 +1,7 @@
+//! The outside of ROTOR: a folder of files and an output, as traits that a program is proved over, with two folders
+//! and an output in memory, and those of the system.
+#![tactic(auto)]
+
+mod outside;
+
+pub use outside::{Sink, Tree, TreeError};
