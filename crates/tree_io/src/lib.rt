@@ -2,6 +2,8 @@
 //! and an output in memory, and those of the system.
 #![tactic(auto)]
 
+mod host;
 mod outside;
 
+pub use host::{HostSink, HostTree};
 pub use outside::{Sink, Tree, TreeError};
