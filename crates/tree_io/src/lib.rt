@@ -4,6 +4,8 @@
 
 mod host;
 mod outside;
+mod slot;
+mod store;
 
 pub use host::{HostSink, HostTree};
 pub use outside::{Sink, Tree, TreeError};
