@@ -1,0 +1,4 @@
+pub mod Host
+pub mod Outside
+pub mod Slots
+pub mod Store

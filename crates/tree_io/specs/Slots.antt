@@ -1,0 +1,34 @@
+-- Files in a list of slots.
+use Rattle.std.specs.Prelude.{◌≡◌, ℕ, zero, suc, Bool, true, false, not, ◌&&◌, List, [], ◌∷◌, if◌then◌else◌, vec_capacity}
+use Rattle.std.specs.List.{list_any}
+use Rattle.std.specs.Str.{bytes_eq}
+use Rattle.tree_io.specs.declared.slot.Slot.{Slot}
+
+-- no name stands twice
+abbrev pub are_distinct : List (List ℕ) → Bool
+are_distinct [] = true
+are_distinct (name ∷ names) = not (list_any (bytes_eq name) names) && are_distinct names
+
+-- the slot has this name
+abbrev pub is_named : List ℕ → Slot → Bool
+is_named name slot = bytes_eq slot.name name
+
+-- the names and the bytes of the slots that are there
+abbrev pub files_in : List Slot → List (List ℕ × List ℕ)
+files_in [] = []
+files_in (slot ∷ slots) = if slot.there then (slot.name, slot.bytes.items) ∷ files_in slots else files_in slots
+
+-- the room of the first slot of a name, and none where no slot has it
+abbrev pub room_in : List Slot → List ℕ → ℕ
+room_in [] name = 0
+room_in (slot ∷ slots) name = if is_named name slot then vec_capacity slot.bytes else room_in slots name
+
+-- the first slot of the name stands at this index
+abbrev pub IsSpot : List ℕ → List Slot → ℕ → Type 0
+IsSpot name [] at = ⊥
+IsSpot name (slot ∷ slots) zero = is_named name slot ≡ true
+IsSpot name (slot ∷ slots) (suc at) = (is_named name slot ≡ false) × IsSpot name slots at
+
+-- no slot has the name
+abbrev pub NoSpot : List ℕ → List Slot → Type 0
+NoSpot name slots = list_any (is_named name) slots ≡ false
