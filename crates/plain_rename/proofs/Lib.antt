@@ -4,3 +4,4 @@ pub mod Proper
 pub mod Runs
 pub mod Sizes
 pub mod Whole
+pub mod Small

@@ -77,7 +77,7 @@ pub flat-runs : (bs : List ℕ) → flat (runs bs) ≡ bs
 flat-runs [] = refl
 flat-runs (b ∷ bs) = flat-put_front (kind_at b) b (runs bs) ∙ ap (λ (more : List ℕ). b ∷ more) (flat-runs bs)
 
-both : (a b : Bool) → (a && b) ≡ true → (a ≡ true) × (b ≡ true)
+pub both : (a b : Bool) → (a && b) ≡ true → (a ≡ true) × (b ≡ true)
 both true true h = (refl, refl)
 both true false h = cc
 both false true h = cc
@@ -102,7 +102,7 @@ value_name_run [] h = cc
 value_name_run (b ∷ bs) h = word_bytes (b ∷ bs) (both _ (list_all is_identifier_byte (b ∷ bs)) h).1
 
 -- a run of a kind that is a value name is a word
-kind_word : (k : Kind) (w : List ℕ) → IsRunOf k w → is_value_name w ≡ true → k ≡ Word
+pub kind_word : (k : Kind) (w : List ℕ) → IsRunOf k w → is_value_name w ≡ true → k ≡ Word
 kind_word k [] of h = absurd of
 kind_word k (b ∷ bs) of h = sym of.0 ∙ (value_name_run (b ∷ bs) h).0
 

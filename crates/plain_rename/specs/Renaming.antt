@@ -5,8 +5,8 @@ use Rattle.std.specs.Str.{bytes_eq}
 use Rattle.rotor_base.specs.Name.{is_value_name}
 use Rattle.rotor_base.specs.Place.{same_goal}
 use Rattle.rotor_base.specs.declared.place.Ref.{Ref}
-use Rattle.rotor_base.specs.declared.refusal.Refusal.{Refusal}
-use Rattle.rotor_base.specs.declared.refusal.Refusal.TheVariants.{NoTarget, BadName, SameName, Capture}
+use Rattle.plain_rename.specs.declared.renaming.Obstacle.{Obstacle}
+use Rattle.plain_rename.specs.declared.renaming.Obstacle.TheVariants.{NoTarget, BadName, SameName, Capture}
 use Rattle.plain_rename.specs.declared.run.Kind.TheVariants.{Blank}
 use Rattle.plain_rename.specs.declared.run.Run.{Run}
 use Rattle.plain_rename.specs.declared.token.Token.{Token}
@@ -55,13 +55,13 @@ respell rs d new n [] = []
 respell rs d new n (r ∷ more) = respell_run rs d new n r ∷ respell rs d new (n + step r) more
 
 -- the first reference whose goal changes
-abbrev pub first_change : List Ref → List Ref → Option Refusal
+abbrev pub first_change : List Ref → List Ref → Option Obstacle
 first_change [] ss = None
 first_change (r ∷ rs) [] = None
 first_change (r ∷ rs) (s ∷ ss) = if same_goal r.goal s.goal then first_change rs ss else Some (Capture r.at r.goal s.goal)
 
 -- the answer where the goals of the references were compared
-abbrev pub answer_by : Option Refusal → List Run → List Run → ℕ → Answer
+abbrev pub answer_by : Option Obstacle → List Run → List Run → ℕ → Answer
 answer_by (Some refusal) old new d = Refused refusal
 answer_by None old new d = Done (record {
   bytes = flat new;

@@ -9,4 +9,4 @@ mod renaming;
 mod run;
 mod token;
 
-pub use renaming::{Aim, Answer, Respelled, rename};
+pub use renaming::{Aim, Answer, Obstacle, Respelled, rename};

@@ -11,7 +11,7 @@ use crate::facts::{binders_of, is_goal, last_named, place_of, refs_of};
 use crate::grammar::is_plain;
 use crate::run::{Kind, Run, runs_of};
 use crate::token::{Token, text_of, tokens_of};
-use rotor_base::{Memory, Name, Place, Ref, Refusal, Row, is_name};
+use rotor_base::{Goal, Memory, Name, Place, Ref, Row, is_name};
 use std::alloc::Global;
 
 /// What a target word means in the one file.
@@ -25,13 +25,26 @@ pub enum Aim {
     Nothing,
 }
 
+/// What stands against a renaming.
+#[derive(Clone, Copy, Debug, PartialEq, Eq)]
+pub enum Obstacle {
+    /// The target declares no value.
+    NoTarget,
+    /// The new name is no value name.
+    BadName,
+    /// The new name is the old one.
+    SameName,
+    /// A reference would change its goal.
+    Capture { at: Place, was: Goal, would: Goal },
+}
+
 /// The answer to a renaming.
 #[derive(Debug, Drop)]
 pub enum Answer {
     /// The file is not plain.
     NotPlain,
     /// The renaming is refused.
-    Refused(Refusal),
+    Refused(Obstacle),
     /// The renaming is done.
     Done(Respelled),
 }
@@ -60,13 +73,13 @@ pub fn rename(alloc: Global, bytes: &[u8], aim: &Aim, name: &[u8]) -> Result<Ans
     }
     let binders = binders_of(alloc, &tokens)?;
     let Some(target) = binder_at(&tokens, &binders, aim) else {
-        return Ok(Answer::Refused(Refusal::NoTarget));
+        return Ok(Answer::Refused(Obstacle::NoTarget));
     };
     if !is_name(name) {
-        return Ok(Answer::Refused(Refusal::BadName));
+        return Ok(Answer::Refused(Obstacle::BadName));
     }
     if text_of(&tokens, target) == name {
-        return Ok(Answer::Refused(Refusal::SameName));
+        return Ok(Answer::Refused(Obstacle::SameName));
     }
     judge(alloc, &runs, &tokens, target, name)
 }
@@ -188,7 +201,7 @@ fn count_of(references: &[Ref], target: u32) -> u64
 }
 
 /// The first reference whose goal changes.
-fn first_difference(old: &[Ref], new: &[Ref]) -> Option<Refusal>
+fn first_difference(old: &[Ref], new: &[Ref]) -> Option<Obstacle>
     ensures { result ≡ first_change old.now new.now }
 {
     for (index, was) in old.iter().enumerate() {
@@ -196,7 +209,7 @@ fn first_difference(old: &[Ref], new: &[Ref]) -> Option<Refusal>
             return None;
         };
         if !was.goal.is(would.goal) {
-            return Some(Refusal::Capture {
+            return Some(Obstacle::Capture {
                 at: was.at,
                 was: was.goal,
                 would: would.goal,

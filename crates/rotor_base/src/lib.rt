@@ -13,6 +13,7 @@ mod refusal;
 mod report;
 mod row;
 mod source;
+mod stem;
 mod target;
 mod token;
 
@@ -29,5 +30,6 @@ pub use refusal::{LoadError, Refusal};
 pub use report::{Counts, FootReport, SampleReport};
 pub use row::Row;
 pub use source::{SourceFile, Text};
+pub use stem::{is_body, is_face, is_source};
 pub use target::Target;
 pub use token::{Class, FormKind, Token};

@@ -1,0 +1,4 @@
+pub mod Chains
+pub mod Folder
+pub mod Replies
+pub mod Writing

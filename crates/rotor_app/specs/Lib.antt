@@ -1,0 +1,5 @@
+pub mod Aim
+pub mod Said
+pub mod Table
+pub mod Text
+pub mod Words
