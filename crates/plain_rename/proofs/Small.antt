@@ -1,12 +1,11 @@
 -- A plain file is small, so that more bytes than a source may have are never plain.
-use Rattle.std.proofs.Common.{◌≡◌, ℕ, ◌+◌, ◌*◌, ◌≤◌, ◌<◌, Bool, true, false, cond, ◌&&◌, List, [], ◌∷◌, ◌++◌, length, take, take_all, count_by, nat_le, codes, refl, sym, ap, ◌∙◌, arith, length-append, length-take}
+use Rattle.std.proofs.Common.{◌≡◌, ℕ, ◌+◌, ◌*◌, ◌≤◌, ◌<◌, Bool, true, false, cond, List, [], ◌∷◌, length, take, take_all, count_by, nat_le, codes, refl, sym, ap, ◌∙◌, arith, length-append, length-take}
 use Rattle.std.specs.Str.{bytes_eq}
 use Rattle.std.proofs.lemmas.List.Sums.{sum_by-cons}
 use Rattle.std.proofs.lemmas.Slice.Eq.{bytes_eq-Decides}
 use Rattle.std.proofs.lemmas.Bool.Decides.{nat_tests}
 use Rattle.rotor_base.specs.Name.{is_value_name, is_keyword_word}
 use Rattle.plain_rename.specs.declared.renaming.Aim.{Aim}
-use Rattle.plain_rename.specs.declared.renaming.Answer.{Answer}
 use Rattle.plain_rename.specs.declared.run.Kind.{Kind}
 use Rattle.plain_rename.specs.declared.run.Kind.TheVariants.{Blank, Word}
 use Rattle.plain_rename.specs.declared.run.Run.{Run}
@@ -16,7 +15,7 @@ use Rattle.plain_rename.specs.Token.{tokens, part_by, part_at}
 use Rattle.plain_rename.specs.declared.token.Part.{Part}
 use Rattle.plain_rename.specs.declared.token.Part.TheVariants.{Named}
 use Rattle.plain_rename.specs.declared.renaming.Answer.TheVariants.{NotPlain}
-use Rattle.plain_rename.specs.Grammar.{is_plain_file, is_named, other_bytes, follows}
+use Rattle.plain_rename.specs.Grammar.{is_plain_file, is_named, other_bytes}
 use Rattle.plain_rename.specs.Renaming.{answer_of}
 use Rattle.plain_rename.proofs.Proper.{AreProper, IsRunOf, both, kind_word, runs_proper, flat-runs}
 

@@ -1,5 +1,5 @@
 -- The one source of a plain folder does not depend on the order of the names, and is in the folder.
-use Rattle.std.proofs.Common.{◌≡◌, ℕ, ◌+◌, Bool, true, false, cond, ◌&&◌, ◌||◌, List, [], ◌∷◌, length, filter, sum_by, Option, Some, None, IsSome, is_some, IsPermutation, refl, sym, ap, subst, ◌∙◌, arith, rules}
+use Rattle.std.proofs.Common.{◌≡◌, ℕ, Bool, true, false, cond, ◌&&◌, ◌||◌, List, [], ◌∷◌, length, filter, Option, Some, None, IsSome, IsPermutation, refl, sym, ap, ◌∙◌, arith}
 use Rattle.std.specs.List.{list_any}
 use Rattle.std.specs.Ordering.{nat_cmp, eq_by_cmp}
 use Rattle.std.specs.Cmp.Lexicographic.{slice_cmp}
@@ -26,7 +26,7 @@ same_alone : (xs ys : List (List ℕ)) → length xs ≡ length ys → ((w : Lis
 same_alone [] [] e h = refl
 same_alone [] (y ∷ ys) e h = absurd (omega arith)
 same_alone (x ∷ xs) [] e h = absurd (omega arith)
-same_alone (x ∷ []) (y ∷ []) e h = ap (λ z. Some z) (one_of x y (h x))  where
+same_alone (x ∷ []) (y ∷ []) e h = ap (λ z. Some z) (one_of x y (h x)) where
   one_of : (x y : List ℕ) → (bytes_eq x x || false) ≡ (bytes_eq x y || false) → x ≡ y
   one_of x y h =
       let itself : bytes_eq x x ≡ true = (bytes_eq-Decides x x).1 refl in

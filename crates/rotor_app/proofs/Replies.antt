@@ -1,5 +1,5 @@
 -- The reply of a renaming that is done.
-use Rattle.std.proofs.Common.{◌≡◌, ℕ, List, [], ◌∷◌, ◌++◌, take, Option, Some, None, IsSome, IfSome, IsPermutation, refl, sym, ap, ◌∙◌}
+use Rattle.std.proofs.Common.{◌≡◌, ℕ, List, [], ◌∷◌, ◌++◌, take, Option, Some, None, IsSome, IfSome, IsPermutation, refl, sym, ap, subst, ◌∙◌}
 use Rattle.std.specs.Option.{ForSome}
 use Rattle.std.specs.FinMap.{get, keys}
 use Rattle.tree_io.specs.Outside.{FileMap, IsFront}
@@ -14,7 +14,7 @@ use Rattle.plain_rename.specs.Renaming.{answer_of}
 use Rattle.rotor_app.specs.declared.reply.Status.TheVariants.{Done}
 use Rattle.rotor_app.specs.declared.reply.Reply.{Reply}
 use Rattle.rotor_app.specs.Aim.{aim_at}
-use Rattle.rotor_app.specs.Said.{reply_from, reply_to, reply_by, reply_in, plain_name, plain_file, not_yet_reply}
+use Rattle.rotor_app.specs.Said.{reply_from, reply_to, reply_by, reply_in, plain_name, plain_file, not_yet_reply, IsReply}
 use Rattle.rotor_app.specs.Text.{done_text}
 
 pub done_reply : (source bytes target name : List ℕ) (aim : Aim) (answer : Answer) (done : Respelled) (writes : List SourceFile) (text : List ℕ)
@@ -52,8 +52,22 @@ source_read None names x bytes request reply h e front r = tt
 source_read (Some files) names x bytes request reply h e front r = read (get files x) refl front where
   same : plain_name (keys files) ≡ Some x
   same = plain_name_permuted (keys files) names (h files refl) ∙ sym e
+
   read : (file : Option (List ℕ)) → get files x ≡ file → IsFront 1048577 file bytes → reply ≡ reply_by (plain_file files) request
   read None g f = cc
   read (Some whole) g f =
       let cut : take 1048577 whole ≡ bytes = cc in
       rw (same, g) (r ∙ ap (λ (bs : List ℕ). reply_from x bs request) (sym cut) ∙ ap (λ (a : Answer). reply_to x request.1 a) (answer_of-take whole (aim_at request.0 x) request.1))
+
+-- a reply has a status that a reply has
+pub reply_kind : (name new : List ℕ) (a : Answer) → IsReply (reply_to name new a).status (reply_to name new a).writes
+reply_kind name new answers.NotPlain = refl
+reply_kind name new (answers.Refused obstacle) = refl
+reply_kind name new (answers.Done done) = tt
+
+pub reply_from_kind : (name bytes : List ℕ) (request : List ℕ × List ℕ) (reply : Reply) → reply ≡ reply_from name bytes request → IsReply reply.status reply.writes
+reply_from_kind name bytes request reply e =
+    subst (λ (r : Reply). IsReply r.status r.writes) (sym e) (reply_kind name request.1 (answer_of bytes (aim_at request.0 name) request.1))
+
+pub not_yet_kind : (reply : Reply) → reply ≡ not_yet_reply → IsReply reply.status reply.writes
+not_yet_kind reply e = subst (λ (r : Reply). IsReply r.status r.writes) (sym e) refl

@@ -1,5 +1,5 @@
 -- Files written one after another.
-use Rattle.std.proofs.Common.{◌≡◌, ℕ, ◌+◌, ◌<◌, ◌≤◌, List, [], ◌∷◌, ◌++◌, length, take, drop, get_or, Option, Some, None, option_map, Result, Ok, Err, OnErr, refl, sym, ap, subst, ◌∙◌, arith}
+use Rattle.std.proofs.Common.{◌≡◌, ℕ, ◌+◌, ◌<◌, List, [], ◌∷◌, ◌++◌, length, take, drop, get_or, Option, Some, None, option_map, Result, Ok, Err, OnErr, refl, sym, ap, subst, ◌∙◌, arith}
 use Rattle.std.specs.FinMap.{insert}
 use Rattle.std.proofs.lemmas.List.{take_more, at_drop_more, take-append-drop}
 use Rattle.rotor_base.specs.declared.source.SourceFile.{SourceFile}
@@ -51,5 +51,5 @@ pub stopped_at : (writes : List SourceFile) (i : ℕ) (f : SourceFile) (before m
 stopped_at writes i f before mid now name h e w en s =
     let front = take i writes in
     let split : writes ≡ front ++ f ∷ drop (i + 1) writes =
-      sym (take-append-drop i writes) ∙ at_drop_more (λ (fs : List SourceFile). front ++ fs) writes i f h ∙ ap (λ (g : SourceFile). front ++ g ∷ drop (i + 1) writes) (sym e) in
+    sym (take-append-drop i writes) ∙ at_drop_more (λ (fs : List SourceFile). front ++ fs) writes i f h ∙ ap (λ (g : SourceFile). front ++ g ∷ drop (i + 1) writes) (sym e) in
     (front, f, drop (i + 1) writes, s.0, split, spoiled front before mid now f.name s.0 w (subst (λ (n : List ℕ). Writes n s.0 mid now) en s.1))

@@ -1,5 +1,5 @@
 -- What a target word means in a folder of one source.
-use Rattle.std.specs.Prelude.{ℕ, List, [], ◌∷◌, Bool, ◌==◌, ◌&&◌, ◌+◌, ◌-◌, ◌*◌, ◌^◌, Option, Some, None, option_and_then, if◌then◌else◌, nat_le, nat_lt, length, take, codes}
+use Rattle.std.specs.Prelude.{ℕ, List, [], ◌∷◌, ◌==◌, ◌&&◌, ◌+◌, ◌-◌, ◌*◌, Option, Some, None, option_and_then, if◌then◌else◌, nat_le, nat_lt, length, take, codes}
 use Rattle.std.specs.Char.{is_ascii_digit, to_ascii_uppercase}
 use Rattle.plain_rename.specs.declared.renaming.Aim.{Aim}
 use Rattle.plain_rename.specs.declared.renaming.Aim.TheVariants.{Token, Value, Nothing}

@@ -1,5 +1,5 @@
 -- What the program answers to its words over the files of a folder, and what the folder holds after it.
-use Rattle.std.specs.Prelude.{ℕ, List, [], ◌∷◌, ◌≤◌, Bool, Option, Some, None, option_map, option_and_then, if◌then◌else◌, filter, length, codes}
+use Rattle.std.specs.Prelude.{ℕ, List, [], ◌∷◌, ◌≤◌, ◌≡◌, Bool, Option, Some, None, option_map, option_and_then, if◌then◌else◌, filter, length, codes}
 use Rattle.std.specs.List.{list_any, AllByRecursion}
 use Rattle.std.specs.Str.{bytes_eq}
 use Rattle.std.specs.FinMap.{get, insert, keys}
@@ -9,7 +9,8 @@ use Rattle.tree_io.specs.Outside.{FileMap}
 use Rattle.plain_rename.specs.declared.renaming.Answer.{Answer}
 use Rattle.plain_rename.specs.declared.renaming.Answer.TheVariants as answers
 use Rattle.plain_rename.specs.Renaming.{answer_of}
-use Rattle.rotor_app.specs.declared.reply.Status.TheVariants.{Done, Refused, Usage, Project}
+use Rattle.rotor_app.specs.declared.reply.Status.{Status}
+use Rattle.rotor_app.specs.declared.reply.Status.TheVariants.{Done, Refused, Usage, Project, TreeFault, SinkFault, Memory}
 use Rattle.rotor_app.specs.declared.reply.Reply.{Reply}
 use Rattle.rotor_app.specs.Aim.{aim_at}
 use Rattle.rotor_app.specs.Text.{usage_text, not_yet_text, obstacle_text, done_text}
@@ -77,3 +78,13 @@ after (f ∷ fs) files = after fs (insert files f.name f.bytes)
 -- there is room for each of these files
 abbrev pub HasRoom : (List ℕ → ℕ) → List SourceFile → Type 0
 HasRoom room writes = AllByRecursion (λ f. (length f.bytes ≤ room f.name) × (1 ≤ room f.name)) writes
+
+-- a status that a reply has: files are written only where it is Done
+abbrev pub IsReply : Status → List SourceFile → Type 0
+IsReply Done writes = Unit {0}
+IsReply Refused writes = writes ≡ []
+IsReply Project writes = writes ≡ []
+IsReply Usage writes = ⊥
+IsReply TreeFault writes = ⊥
+IsReply SinkFault writes = ⊥
+IsReply Memory writes = ⊥

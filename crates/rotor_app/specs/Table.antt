@@ -1,9 +1,12 @@
--- What stands after a call of the program.
-use Rattle.std.specs.Prelude.{◌≡◌, ℕ, List, [], ◌∷◌, ◌++◌, Option, option_map}
+-- What stands after a call of the program: the table of its answers.
+use Rattle.std.specs.Prelude.{◌≡◌, ◌⊎◌, ℕ, ◌<◌, ◌≤◌, List, ◌∷◌, ◌++◌, Option, Some, None, option_map}
 use Rattle.std.specs.FinMap.{insert}
 use Rattle.rotor_base.specs.declared.source.SourceFile.{SourceFile}
-use Rattle.tree_io.specs.Outside.{FileMap}
-use Rattle.rotor_app.specs.Said.{after}
+use Rattle.tree_io.specs.Outside.{FileMap, Rose, Takes, TakesPrefix}
+use Rattle.rotor_app.specs.declared.reply.Status.{Status}
+use Rattle.rotor_app.specs.declared.reply.Status.TheVariants.{Done, Refused, Usage, Project, TreeFault, SinkFault, Memory}
+use Rattle.rotor_app.specs.declared.reply.Reply.{Reply}
+use Rattle.rotor_app.specs.Said.{after, usage_reply, said_by, IsReply}
 
 -- where the content is told, all these files were written
 abbrev pub Written : List SourceFile → Option FileMap → Option FileMap → Type 0
@@ -14,3 +17,111 @@ abbrev pub StoppedWriting : List SourceFile → Option FileMap → Option FileMa
 StoppedWriting writes before now =
     (done : List SourceFile) × (failed : SourceFile) × (rest : List SourceFile) × (any : List ℕ)
     × (writes ≡ done ++ failed ∷ rest) × (now ≡ option_map (λ files. insert (after done files) failed.name any) before)
+
+-- what can be seen of a folder and of an output before a call and after it: the counts of faults, the files, the bytes taken
+pub record Seen : Type 0 where
+  pub faults : ℕ
+  pub sink_faults : ℕ
+  pub content : Option FileMap
+  pub taken : Option (List ℕ)
+
+-- no count of faults rose in the call
+pub record IsQuiet (before now : Seen) : Type 0 where
+  pub tree : ¬ (Rose before.faults now.faults)
+  pub sink : ¬ (Rose before.sink_faults now.sink_faults)
+
+-- the status, the files and the text are those of the reply
+pub record IsAsSaid (reply : Reply) (held : FileMap) (before now : Seen) (ended : Status) : Type 0 where
+  pub status : ended ≡ reply.status
+  pub files : now.content ≡ Some (after reply.writes held)
+  pub text : Takes reply.text before.taken now.taken
+
+-- The status comes only where a count rose, and always where it is greater afterwards.
+pub record IsFault (fault : Status) (before now : ℕ) (status : Status) : Type 0 where
+  pub later : before ≤ now
+  pub only : status ≡ fault → Rose before now
+  pub passed : before < now → status ≡ fault
+
+-- the folder failed: nothing was written, or the renaming was accepted and a write failed
+abbrev pub TreeStopped : Reply → FileMap → Option FileMap → Type 0
+TreeStopped reply files now = (now ≡ Some files) ⊎ ((reply.status ≡ Done) × StoppedWriting reply.writes (Some files) now)
+
+-- the output failed: the folder is as at the status that would have come, and a prefix of the text was taken
+pub record SinkStopped (reply : Reply) (held : FileMap) (before now : Seen) : Type 0 where
+  pub files : now.content ≡ Some (after reply.writes held)
+  pub text : TakesPrefix reply.text before.taken now.taken
+
+-- the statuses that leave the folder as it was
+abbrev pub IsRefusal : Status → Type 0
+IsRefusal Done = ⊥
+IsRefusal Refused = Unit {0}
+IsRefusal Usage = Unit {0}
+IsRefusal Project = Unit {0}
+IsRefusal TreeFault = ⊥
+IsRefusal SinkFault = ⊥
+IsRefusal Memory = Unit {0}
+
+abbrev pub seen : ℕ → ℕ → Option FileMap → Option (List ℕ) → Seen
+seen faults sink_faults content taken = record { faults = faults; sink_faults = sink_faults; content = content; taken = taken }
+
+-- the folder was not called, or its calls did not fail and changed no file
+pub record TreeRests (before now : Seen) : Type 0 where
+  pub faults : now.faults ≡ before.faults
+  pub content : now.content ≡ before.content
+
+-- the output was not called
+pub record SinkRests (before now : Seen) : Type 0 where
+  pub faults : now.sink_faults ≡ before.sink_faults
+  pub taken : now.taken ≡ before.taken
+
+-- a put was taken whole
+pub record SinkTook (text : List ℕ) (before now : Seen) : Type 0 where
+  pub faults : now.sink_faults ≡ before.sink_faults
+  pub taken : Takes text before.taken now.taken
+
+-- a put failed
+pub record SinkFailed (text : List ℕ) (before now : Seen) : Type 0 where
+  pub later : before.sink_faults ≤ now.sink_faults
+  pub rose : Rose before.sink_faults now.sink_faults
+  pub taken : TakesPrefix text before.taken now.taken
+
+-- the reply to what the words ask for, where the content is told
+pub record IsReplyTo (request : Option (List ℕ × List ℕ)) (before : Seen) (reply : Reply) : Type 0 where
+  pub kind : IsReply reply.status reply.writes
+  pub said : (files : FileMap) → before.content ≡ Some files → reply ≡ said_by request files
+
+-- How a call of the program ends. `request` is what the words ask for; `tree_same` and `sink_same` say that the folder
+-- and the output are as they were.
+pub data Ending (request : Option (List ℕ × List ℕ)) (before now : Seen) (tree_same sink_same : Type 0) (status : Status) : Type 0 where
+  -- the words have none of the forms, and the usage is put
+  told_usage : status ≡ Usage → request ≡ None → tree_same → TreeRests before now → SinkTook usage_reply.text before now → Ending request before now tree_same sink_same status
+  -- the same, and the put failed
+  cut_usage : status ≡ SinkFault → request ≡ None → tree_same → TreeRests before now → SinkFailed usage_reply.text before now → Ending request before now tree_same sink_same status
+  -- the folder could not be read
+  unread : (asked : List ℕ × List ℕ) → request ≡ Some asked → status ≡ TreeFault → before.faults ≤ now.faults → Rose before.faults now.faults → now.content ≡ before.content → sink_same → SinkRests before now → Ending request before now tree_same sink_same status
+  -- there was no memory
+  wanting : (asked : List ℕ × List ℕ) → request ≡ Some asked → status ≡ Memory → TreeRests before now → sink_same → SinkRests before now → Ending request before now tree_same sink_same status
+  -- the reply was carried out
+  carried : (asked : List ℕ × List ℕ) → request ≡ Some asked → (reply : Reply) → IsReplyTo request before reply → status ≡ reply.status → now.faults ≡ before.faults → Written reply.writes before.content now.content
+      → SinkTook reply.text before now → Ending request before now tree_same sink_same status
+  -- a write failed
+  unwritten : (asked : List ℕ × List ℕ) → request ≡ Some asked → (reply : Reply) → IsReplyTo request before reply → status ≡ TreeFault → before.faults ≤ now.faults → Rose before.faults now.faults
+      → StoppedWriting reply.writes before.content now.content → sink_same → SinkRests before now → Ending request before now tree_same sink_same status
+  -- the put failed
+  unput : (asked : List ℕ × List ℕ) → request ≡ Some asked → (reply : Reply) → IsReplyTo request before reply → status ≡ SinkFault → now.faults ≡ before.faults → Written reply.writes before.content now.content
+      → SinkFailed reply.text before now → Ending request before now tree_same sink_same status
+
+-- a text was put, and the call ends with this status, or the put failed
+pub data Put (text : List ℕ) (wanted : Status) (faults_before faults_now : ℕ) (taken_before taken_now : Option (List ℕ)) (status : Status) : Type 0 where
+  taken : status ≡ wanted → faults_now ≡ faults_before → Takes text taken_before taken_now → Put text wanted faults_before faults_now taken_before taken_now status
+  failed : status ≡ SinkFault → faults_before ≤ faults_now → Rose faults_before faults_now → TakesPrefix text taken_before taken_now → Put text wanted faults_before faults_now taken_before taken_now status
+
+-- a reply was carried out, or a write failed, or the put
+pub data Carried (reply : Reply) (before now : Seen) (sink_same : Type 0) (status : Status) : Type 0 where
+  whole : status ≡ reply.status → now.faults ≡ before.faults → Written reply.writes before.content now.content → SinkTook reply.text before now → Carried reply before now sink_same status
+  write_failed : status ≡ TreeFault → before.faults ≤ now.faults → Rose before.faults now.faults → StoppedWriting reply.writes before.content now.content → sink_same → SinkRests before now → Carried reply before now sink_same status
+  put_failed : status ≡ SinkFault → now.faults ≡ before.faults → Written reply.writes before.content now.content → SinkFailed reply.text before now → Carried reply before now sink_same status
+
+-- the status is that of the reply, or there was no memory
+abbrev pub IsComplete : Reply → Status → Type 0
+IsComplete reply status = (status ≡ reply.status) ⊎ (status ≡ Memory)

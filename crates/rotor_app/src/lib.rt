@@ -2,10 +2,10 @@
 #![tactic(auto)]
 
 mod aim;
-
 mod reply;
 mod request;
 mod text;
 mod top;
 
 pub use reply::{Reply, Status};
+pub use top::rotor;

@@ -5,7 +5,7 @@ ghost use Rattle.std.specs.FinMap.{keys};
 ghost use Rattle.std.specs.Option.{ForSome, option_copied};
 ghost use Rattle.tree_io.specs.Outside.{HasCause, StaysSteady};
 ghost use Rattle.rotor_base.specs.Stem.{is_source_name};
-ghost use Rattle.rotor_app.specs.Said.{plain_name, is_manifest, alone, reply_in, reply_from, not_yet_reply, HasRoom};
+ghost use Rattle.rotor_app.specs.Said.{plain_name, is_manifest, alone, reply_in, reply_from, not_yet_reply, HasRoom, IsReply};
 
 use crate::aim::aim_of;
 use crate::text::{NOT_YET, done_lines, obstacle_line};
@@ -52,6 +52,7 @@ pub fn decide<T: Tree>(
     name: &[u8],
     tree: &mut T,
 ) -> Result<Reply, TreeError>
+    ensures kind { IfOk result (λ reply. IsReply reply.status reply.writes) }
     ensures said { IfOk result (λ reply. IfSome (T.content tree.old) (λ files. reply ≡ reply_in files (target.now, name.now))) }
     ensures content { T.content tree.new ≡ T.content tree.old }
     ensures room { IfOk result (λ reply. HasRoom (T.room_for tree.new) reply.writes) }
@@ -73,6 +74,7 @@ fn reply_over<T: Tree>(
     tree: &mut T,
 ) -> Result<Reply, TreeError>
     requires { ForSome (T.content tree.old) (λ files. IsPermutation (keys files) (map string_bytes names.now)) }
+    ensures kind { IfOk result (λ reply. IsReply reply.status reply.writes) }
     ensures said { IfOk result (λ reply. IfSome (T.content tree.old) (λ files. reply ≡ reply_in files (target.now, name.now))) }
     ensures content { T.content tree.new ≡ T.content tree.old }
     ensures cause { HasCause (T.faults tree.old) (T.faults tree.new) result }

@@ -68,12 +68,7 @@ fn push_counts(
 }
 
 /// Adds the line that gives the words of the undo.
-fn push_undo(
-    alloc: Global,
-    text: &mut Vec<u8>,
-    file: &[u8],
-    done: &Respelled,
-) -> Result<(), Memory>
+fn push_undo(alloc: Global, text: &mut Vec<u8>, file: &[u8], done: &Respelled) -> Result<(), Memory>
     ensures { OnOk result (text.new.items ≡ text.old.items ++ undo_text file.now done.now) }
 {
     text.extend_from_slice(b"undo ")?;

@@ -1,15 +1,104 @@
 //! The program: the words, the folder, the writes and the report.
-ghost use Rattle.std.specs.Prelude.{IsErr, OnOk, OnErr};
-ghost use Rattle.tree_io.specs.Outside.{HasFault, StaysSteady};
-ghost use Rattle.rotor_app.specs.Said.{HasRoom};
-ghost use Rattle.rotor_app.specs.Table.{Written, StoppedWriting};
+ghost use Rattle.std.specs.Prelude.{◌≡◌, ◌⊎◌, None, IsErr, OnOk, OnErr, IfSome, map, string_bytes, length};
+ghost use Rattle.std.specs.Option.{ForSome};
+ghost use Rattle.tree_io.specs.Outside.{HasFault, StaysSteady, Rose, Takes};
+ghost use Rattle.rotor_app.specs.Words.{asked};
+ghost use Rattle.rotor_app.specs.Said.{said, usage_reply, HasRoom};
+ghost use Rattle.rotor_app.specs.Table.{Written, StoppedWriting, Ending, seen, IsComplete, Carried, Put, IsQuiet, IsAsSaid, IsFault, TreeStopped, SinkStopped, IsRefusal};
 
-
-
-
+use crate::reply::{Reply, Status, decide};
+use crate::request::read_words;
+use crate::text::USAGE;
 use rotor_base::{Failed, SourceFile};
+use std::alloc::Global;
+use tree_io::{Sink, Tree, TreeError};
 
-use tree_io::Tree;
+/// Does what the words ask for, over a folder and an output, and says how it ended.
+///
+/// The words are `rename TARGET NAME --write`. In a plain folder the one source is written with the declaration and
+/// all references to it respelled, and the report is put; or the folder is left as it is, and the line of the refusal
+/// is put. All memory, the folder's room too, is taken before the first write and the put.
+pub fn rotor<T: Tree, S: Sink>(alloc: Global, words: &[String], tree: &mut T, out: &mut S) -> Status
+    // Where no count of faults rose and there was memory: the status, the files and the text that are said.
+    ensures answer { ForSome (T.content tree.old) (λ files.
+        IsQuiet (seen (T.faults tree.old) (S.faults out.old) (T.content tree.old) (S.taken out.old))
+        (seen (T.faults tree.new) (S.faults out.new) (T.content tree.new) (S.taken out.new))
+        → (result ≡ Status.Memory → ⊥)
+        → IsAsSaid (said (map string_bytes words.now) files) files
+        (seen (T.faults tree.old) (S.faults out.old) (T.content tree.old) (S.taken out.old))
+        (seen (T.faults tree.new) (S.faults out.new) (T.content tree.new) (S.taken out.new)) result) }
+
+    // The words alone decide the usage, and for words of no form the folder is not called.
+    ensures usage { (result ≡ Status.Usage) → (asked (map string_bytes words.now) ≡ None) }
+    ensures usage_always { asked (map string_bytes words.now) ≡ None → (Rose (S.faults out.old) (S.faults out.new) → ⊥)
+        → (result ≡ Status.Usage) × Takes usage_reply.text (S.taken out.old) (S.taken out.new) }
+    ensures usage_tree { asked (map string_bytes words.now) ≡ None → tree.new ≡ tree.old }
+
+    // A fault comes only where its count rose, and none is passed over.
+    ensures tree_fault { IsFault Status.TreeFault (T.faults tree.old) (T.faults tree.new) result }
+    ensures sink_fault { IsFault Status.SinkFault (S.faults out.old) (S.faults out.new) result }
+
+    // What a fault leaves.
+    ensures tree_stopped { (result ≡ Status.TreeFault) → ForSome (T.content tree.old) (λ files. TreeStopped (said (map string_bytes words.now) files) files (T.content tree.new)) }
+    ensures sink_stopped { (result ≡ Status.SinkFault) → ForSome (T.content tree.old) (λ files.
+        SinkStopped (said (map string_bytes words.now) files) files
+        (seen (T.faults tree.old) (S.faults out.old) (T.content tree.old) (S.taken out.old))
+        (seen (T.faults tree.new) (S.faults out.new) (T.content tree.new) (S.taken out.new))) }
+
+    // Refusals and want of memory leave the folder; a folder that failed and want of memory put nothing.
+    ensures unchanged { IsRefusal result → T.content tree.new ≡ T.content tree.old }
+    ensures quiet { (result ≡ Status.TreeFault) ⊎ (result ≡ Status.Memory) → out.new ≡ out.old }
+
+    // Over a folder and an output that do not fail, the status is the one that is said, or there was no memory.
+    ensures complete { T.is_steady tree.old → IfSome (T.content tree.old) (λ files.
+        S.accepts out.old (length (said (map string_bytes words.now) files).text) → IsComplete (said (map string_bytes words.now) files) result) }
+{
+    conclude(alloc, words, tree, out)
+}
+
+/// Does what the words ask for, over a folder and an output.
+fn conclude<T: Tree, S: Sink>(alloc: Global, words: &[String], tree: &mut T, out: &mut S) -> Status
+    ensures ending { Ending (asked (map string_bytes words.now))
+        (seen (T.faults tree.old) (S.faults out.old) (T.content tree.old) (S.taken out.old))
+        (seen (T.faults tree.new) (S.faults out.new) (T.content tree.new) (S.taken out.new))
+        (tree.new ≡ tree.old) (out.new ≡ out.old) result }
+    ensures complete { T.is_steady tree.old → IfSome (T.content tree.old) (λ files.
+        S.accepts out.old (length (said (map string_bytes words.now) files).text) → IsComplete (said (map string_bytes words.now) files) result) }
+{
+    let Some(request) = read_words(words) else {
+        return put_text(USAGE, Status::Usage, out);
+    };
+    match decide(alloc, request.target, request.name, tree) {
+        Err(TreeError::Failed) => Status::TreeFault,
+        Err(TreeError::Memory) => Status::Memory,
+        Ok(reply) => carry_out(&reply, tree, out),
+    }
+}
+
+/// Writes what a reply says, and puts its text.
+fn carry_out<T: Tree, S: Sink>(reply: &Reply, tree: &mut T, out: &mut S) -> Status
+    requires { HasRoom (T.room_for tree.old) reply.now.writes }
+    ensures carried { Carried reply.now
+        (seen (T.faults tree.old) (S.faults out.old) (T.content tree.old) (S.taken out.old))
+        (seen (T.faults tree.new) (S.faults out.new) (T.content tree.new) (S.taken out.new)) (out.new ≡ out.old) result }
+    ensures complete { T.is_steady tree.old → S.accepts out.old (length reply.now.text) → result ≡ reply.now.status }
+{
+    match write_all(reply.writes.as_slice(), tree) {
+        Err(_) => Status::TreeFault,
+        Ok(()) => put_text(reply.text.as_slice(), reply.status, out),
+    }
+}
+
+/// Puts a text, and ends with the status where that does not fail.
+fn put_text<S: Sink>(text: &[u8], status: Status, out: &mut S) -> Status
+    ensures put { Put text.now status (S.faults out.old) (S.faults out.new) (S.taken out.old) (S.taken out.new) result }
+    ensures complete { S.accepts out.old (length text.now) → result ≡ status }
+{
+    match out.put(text) {
+        Ok(()) => status,
+        Err(_) => Status::SinkFault,
+    }
+}
 
 /// Writes the changed files, one after another, and stops at the first that fails.
 fn write_all<T: Tree>(writes: &[SourceFile], tree: &mut T) -> Result<(), Failed>

@@ -1,5 +1,4 @@
-use Rattle.std.proofs.Common.{◌≡◌, ℕ, List, [], ◌∷◌, ◌++◌, ◌∙◌, sym, ap}
-use Rattle.rotor_base.specs.declared.source.SourceFile.{SourceFile}
+use Rattle.std.proofs.Common.{ℕ, List, ◌∙◌, ap}
 use Rattle.rotor_app.specs.Aim.{aim_at}
 use Rattle.rotor_app.specs.Text.{done_text}
 use Rattle.rotor_app.proofs.Replies.{done_reply, one_write}

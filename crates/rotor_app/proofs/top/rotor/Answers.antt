@@ -1,0 +1,75 @@
+use Rattle.std.proofs.Common.{◌≡◌, map, string_bytes}
+use Rattle.rotor_app.specs.Words.{asked}
+use Rattle.rotor_app.specs.Table.{seen}
+use Rattle.rotor_app.proofs.Endings.{answers, usage_only, usage_always, usage_tree, tree_fault, sink_fault, tree_stopped, sink_stopped, unchanged, quiet_sink}
+use Rattle.rotor_app.proofs.top.rotor.Goals as goal
+
+pub returns-clause-answer : goal.returns-clause-answer
+returns-clause-answer g c =
+    answers (asked (map string_bytes c.args.words.now))
+    (seen (g.T.Tree.faults c.args.tree.now) (g.S.Sink.faults c.args.out.now) (g.T.Tree.content c.args.tree.now) (g.S.Sink.taken c.args.out.now))
+    (seen (g.T.Tree.faults c.conclude.new.tree) (g.S.Sink.faults c.conclude.new.out) (g.T.Tree.content c.conclude.new.tree) (g.S.Sink.taken c.conclude.new.out))
+    (c.conclude.new.tree ≡ c.args.tree.now) (c.conclude.new.out ≡ c.args.out.now) c.conclude.result c.conclude.ensures.ending
+
+pub returns-clause-usage : goal.returns-clause-usage
+returns-clause-usage g c =
+    usage_only (asked (map string_bytes c.args.words.now))
+    (seen (g.T.Tree.faults c.args.tree.now) (g.S.Sink.faults c.args.out.now) (g.T.Tree.content c.args.tree.now) (g.S.Sink.taken c.args.out.now))
+    (seen (g.T.Tree.faults c.conclude.new.tree) (g.S.Sink.faults c.conclude.new.out) (g.T.Tree.content c.conclude.new.tree) (g.S.Sink.taken c.conclude.new.out))
+    (c.conclude.new.tree ≡ c.args.tree.now) (c.conclude.new.out ≡ c.args.out.now) c.conclude.result c.conclude.ensures.ending
+
+pub returns-clause-usage_always : goal.returns-clause-usage_always
+returns-clause-usage_always g c =
+    usage_always (asked (map string_bytes c.args.words.now))
+    (seen (g.T.Tree.faults c.args.tree.now) (g.S.Sink.faults c.args.out.now) (g.T.Tree.content c.args.tree.now) (g.S.Sink.taken c.args.out.now))
+    (seen (g.T.Tree.faults c.conclude.new.tree) (g.S.Sink.faults c.conclude.new.out) (g.T.Tree.content c.conclude.new.tree) (g.S.Sink.taken c.conclude.new.out))
+    (c.conclude.new.tree ≡ c.args.tree.now) (c.conclude.new.out ≡ c.args.out.now) c.conclude.result c.conclude.ensures.ending
+
+pub returns-clause-usage_tree : goal.returns-clause-usage_tree
+returns-clause-usage_tree g c =
+    usage_tree (asked (map string_bytes c.args.words.now))
+    (seen (g.T.Tree.faults c.args.tree.now) (g.S.Sink.faults c.args.out.now) (g.T.Tree.content c.args.tree.now) (g.S.Sink.taken c.args.out.now))
+    (seen (g.T.Tree.faults c.conclude.new.tree) (g.S.Sink.faults c.conclude.new.out) (g.T.Tree.content c.conclude.new.tree) (g.S.Sink.taken c.conclude.new.out))
+    (c.conclude.new.tree ≡ c.args.tree.now) (c.conclude.new.out ≡ c.args.out.now) c.conclude.result c.conclude.ensures.ending
+
+pub returns-clause-tree_fault : goal.returns-clause-tree_fault
+returns-clause-tree_fault g c =
+    tree_fault (asked (map string_bytes c.args.words.now))
+    (seen (g.T.Tree.faults c.args.tree.now) (g.S.Sink.faults c.args.out.now) (g.T.Tree.content c.args.tree.now) (g.S.Sink.taken c.args.out.now))
+    (seen (g.T.Tree.faults c.conclude.new.tree) (g.S.Sink.faults c.conclude.new.out) (g.T.Tree.content c.conclude.new.tree) (g.S.Sink.taken c.conclude.new.out))
+    (c.conclude.new.tree ≡ c.args.tree.now) (c.conclude.new.out ≡ c.args.out.now) c.conclude.result c.conclude.ensures.ending
+
+pub returns-clause-sink_fault : goal.returns-clause-sink_fault
+returns-clause-sink_fault g c =
+    sink_fault (asked (map string_bytes c.args.words.now))
+    (seen (g.T.Tree.faults c.args.tree.now) (g.S.Sink.faults c.args.out.now) (g.T.Tree.content c.args.tree.now) (g.S.Sink.taken c.args.out.now))
+    (seen (g.T.Tree.faults c.conclude.new.tree) (g.S.Sink.faults c.conclude.new.out) (g.T.Tree.content c.conclude.new.tree) (g.S.Sink.taken c.conclude.new.out))
+    (c.conclude.new.tree ≡ c.args.tree.now) (c.conclude.new.out ≡ c.args.out.now) c.conclude.result c.conclude.ensures.ending
+
+pub returns-clause-tree_stopped : goal.returns-clause-tree_stopped
+returns-clause-tree_stopped g c =
+    tree_stopped (asked (map string_bytes c.args.words.now))
+    (seen (g.T.Tree.faults c.args.tree.now) (g.S.Sink.faults c.args.out.now) (g.T.Tree.content c.args.tree.now) (g.S.Sink.taken c.args.out.now))
+    (seen (g.T.Tree.faults c.conclude.new.tree) (g.S.Sink.faults c.conclude.new.out) (g.T.Tree.content c.conclude.new.tree) (g.S.Sink.taken c.conclude.new.out))
+    (c.conclude.new.tree ≡ c.args.tree.now) (c.conclude.new.out ≡ c.args.out.now) c.conclude.result c.conclude.ensures.ending
+
+pub returns-clause-sink_stopped : goal.returns-clause-sink_stopped
+returns-clause-sink_stopped g c =
+    sink_stopped (asked (map string_bytes c.args.words.now))
+    (seen (g.T.Tree.faults c.args.tree.now) (g.S.Sink.faults c.args.out.now) (g.T.Tree.content c.args.tree.now) (g.S.Sink.taken c.args.out.now))
+    (seen (g.T.Tree.faults c.conclude.new.tree) (g.S.Sink.faults c.conclude.new.out) (g.T.Tree.content c.conclude.new.tree) (g.S.Sink.taken c.conclude.new.out))
+    (c.conclude.new.tree ≡ c.args.tree.now) (c.conclude.new.out ≡ c.args.out.now) c.conclude.result c.conclude.ensures.ending
+
+pub returns-clause-unchanged : goal.returns-clause-unchanged
+returns-clause-unchanged g c =
+    unchanged (asked (map string_bytes c.args.words.now))
+    (seen (g.T.Tree.faults c.args.tree.now) (g.S.Sink.faults c.args.out.now) (g.T.Tree.content c.args.tree.now) (g.S.Sink.taken c.args.out.now))
+    (seen (g.T.Tree.faults c.conclude.new.tree) (g.S.Sink.faults c.conclude.new.out) (g.T.Tree.content c.conclude.new.tree) (g.S.Sink.taken c.conclude.new.out))
+    (c.conclude.new.tree ≡ c.args.tree.now) (c.conclude.new.out ≡ c.args.out.now) c.conclude.result c.conclude.ensures.ending
+
+pub returns-clause-quiet : goal.returns-clause-quiet
+returns-clause-quiet g c =
+    quiet_sink (asked (map string_bytes c.args.words.now))
+    (seen (g.T.Tree.faults c.args.tree.now) (g.S.Sink.faults c.args.out.now) (g.T.Tree.content c.args.tree.now) (g.S.Sink.taken c.args.out.now))
+    (seen (g.T.Tree.faults c.conclude.new.tree) (g.S.Sink.faults c.conclude.new.out) (g.T.Tree.content c.conclude.new.tree) (g.S.Sink.taken c.conclude.new.out))
+    (c.conclude.new.tree ≡ c.args.tree.now) (c.conclude.new.out ≡ c.args.out.now) c.conclude.result c.conclude.ensures.ending
