@@ -3,6 +3,7 @@
 #![tactic(auto)]
 
 mod counts;
+mod distinct;
 mod host;
 mod mem_sink;
 mod mem_tree;
@@ -11,6 +12,7 @@ mod slot;
 mod sound_tree;
 mod store;
 
+pub use distinct::have_distinct_names;
 pub use host::{HostSink, HostTree};
 pub use mem_sink::MemSink;
 pub use mem_tree::MemTree;
