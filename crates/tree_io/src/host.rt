@@ -33,7 +33,7 @@ impl<'a, R: Files> HostTree<'a, R> {
 }
 
 impl<'a, R: Files> Tree for HostTree<'a, R> {
-    ghost faults = { λ t. t.faults };
+    ghost faults = { tree_faults };
 
     ghost content = { λ _. None };
 
@@ -46,7 +46,10 @@ impl<'a, R: Files> Tree for HostTree<'a, R> {
     /// # Errors
     ///
     /// `Failed` after a counted fault, and `Memory`.
-    fn list(&mut self, alloc: Global) -> Result<Vec<String>, TreeError> {
+    fn list(&mut self, alloc: Global) -> Result<Vec<String>, TreeError>
+        ensures few { IfOk result (λ names. vec_len names ≤ 1048576) }
+        ensures cause { HasCause (tree_faults self.old) (tree_faults self.new) result }
+    {
         let answer = list_folder(self.rt, alloc);
         count_fault(&mut self.faults, answer)
     }
@@ -84,7 +87,7 @@ impl<'a, R: Print> HostSink<'a, R> {
 }
 
 impl<'a, R: Print> Sink for HostSink<'a, R> {
-    ghost faults = { λ s. s.faults };
+    ghost faults = { sink_faults };
 
     ghost taken = { λ _. None };
 

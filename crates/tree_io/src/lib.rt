@@ -2,10 +2,19 @@
 //! and an output in memory, and those of the system.
 #![tactic(auto)]
 
+mod counts;
+mod distinct;
 mod host;
+mod mem_sink;
+mod mem_tree;
 mod outside;
 mod slot;
+mod sound_tree;
 mod store;
 
+pub use distinct::have_distinct_names;
 pub use host::{HostSink, HostTree};
+pub use mem_sink::MemSink;
+pub use mem_tree::MemTree;
 pub use outside::{Sink, Tree, TreeError};
+pub use sound_tree::SoundTree;
