@@ -1,7 +1,8 @@
 //! Replacing spans of a source: the new bytes, their number, and what stays.
 #![tactic(auto)]
 
-ghost use Rattle.std.specs.Prelude.{◌≡◌, ℕ, ◌≤◌, List, All, IfOk, length};
+ghost use Rattle.std.specs.Prelude.{◌≡◌, ℕ, ◌*◌, ◌≤◌, List, All, IfOk, length};
+ghost use Rattle.edits.specs.Undo.{GivesBack, CanGoBack};
 ghost use Rattle.edits.specs.Replaced.{AreInOrder, HasShortText, replaced, KeepsTheRest};
 
 use rotor_base::{Memory, Name};
@@ -40,6 +41,7 @@ pub fn new_len(src_len: u32, list: &[Edit]) -> u64
     requires texts { All HasShortText list.now }
     requires source { src_len ≤ 1048576 }
     ensures len { (src : List ℕ) → length src ≡ src_len → result ≡ length (replaced src list.now) }
+    ensures bounded { result ≤ 256 * src_len }
 {
     let mut len: u64 = 0;
     let mut from: u32 = 0;
@@ -53,4 +55,11 @@ pub fn new_len(src_len: u32, list: &[Edit]) -> u64
 /// Law: the new source is the kept pieces of the old one and the texts, one after the other, in order.
 pub fn replacing_keeps_the_rest()
     ensures kept { KeepsTheRest }
+{}
+
+/// Law: the inverse edits, which put the source's own bytes back in place of the texts, give the source back; and
+/// where no text is empty and no span is longer than 255 bytes, [`apply`] takes them on the new source.
+pub fn replacing_is_undone()
+    ensures back { GivesBack }
+    ensures fits { CanGoBack }
 {}

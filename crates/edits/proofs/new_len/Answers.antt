@@ -26,4 +26,5 @@ returns c =
     record {
       len = λ src is. whole ∙ (ap (λ (n : ℕ). pieces_len 0 n c.args.list.now) (sym is)
           ∙ sym (length-replaced src c.args.list.now (let P : ℕ → Type 0 = λ n. AreInOrder 0 n c.args.list.now in subst P (sym is) c.requires.spans)));
+      bounded = let bound = pieces_len-le 0 c.args.src_len c.args.list.now c.requires.spans c.requires.texts in omega (arith, whole, bound);
     }
