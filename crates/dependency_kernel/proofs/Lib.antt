@@ -5,3 +5,4 @@ pub mod Paths
 pub mod Worklist
 pub mod Fixed
 pub mod Laws
+pub mod Only

@@ -31,3 +31,7 @@ FixedStays =
     → IsFoot links d foot → AgreesAlong links old → AgreesAlong links new
     → ((p : Place) → IsFixed links p → new p ≡ old p) → IsSome foot.outside
     → (b : Place) → Contains foot.decls b → new b ≡ old b
+
+-- a declaration has one footprint
+abbrev pub IsTheOnly : Type 0
+IsTheOnly = (links : List Link) (d : Place) (foot other : Foot) → IsFoot links d foot → IsFoot links d other → foot ≡ other

@@ -3,7 +3,7 @@
 
 ghost use Rattle.std.specs.Prelude.{IfOk};
 ghost use Rattle.dependency_kernel.specs.Foot.{IsFoot};
-ghost use Rattle.dependency_kernel.specs.Laws.{HasOneName, ChangesAll, FixedStays};
+ghost use Rattle.dependency_kernel.specs.Laws.{HasOneName, ChangesAll, FixedStays, IsTheOnly};
 
 mod neighbors;
 mod outside;
@@ -14,7 +14,7 @@ use std::alloc::Global;
 
 /// The footprint of the declaration at `d`: the declarations that are reached from it along links in either
 /// direction, both of whose ends are declarations, in order of places; and the least of them that is in a link
-/// with the outside, if there is one. `Memory` is the only error.
+/// with the outside where there is one. `Memory` is the only error.
 pub fn footprint(alloc: Global, facts: &Facts, d: Place) -> Result<Foot, Memory>
     ensures foot { IfOk result (λ foot. IsFoot facts.now.links d foot) }
 {
@@ -34,4 +34,9 @@ pub fn footprints_are_least()
     ensures name { HasOneName }
     ensures all { ChangesAll }
     ensures fixed { FixedStays }
+{}
+
+/// Law: links and a declaration have one footprint.
+pub fn footprints_are_one()
+    ensures only { IsTheOnly }
 {}
