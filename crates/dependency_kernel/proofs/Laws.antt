@@ -1,11 +1,11 @@
 -- The proofs of the laws of footprints.
 use Rattle.std.proofs.Common.{◌≡◌, ℕ, refl, sym, ◌∙◌, inl, inr, List, Contains, Option, Some, None}
-use Rattle.std.specs.Prelude.{IsSome}
+use Rattle.std.specs.Prelude.{IsSome, ◌↔◌}
 use Rattle.rotor_base.specs.declared.place.Place.{Place}
 use Rattle.rotor_base.specs.declared.place.Link.{Link}
 use Rattle.rotor_base.specs.declared.place.Foot.{Foot}
-use Rattle.dependency_kernel.specs.Foot.{Joined, Path, here, along, IsFixed, IsLeastFixed, IsFoot}
-use Rattle.dependency_kernel.specs.Laws.{AgreesAlong, HasOneName, ChangesAll, FixedStays}
+use Rattle.dependency_kernel.specs.Foot.{Joined, Path, here, along, IsFixed, IsPinned, IsLeastFixed, IsFoot}
+use Rattle.dependency_kernel.specs.Laws.{AgreesAlong, HasOneName, ChangesAll, FixedStays, TellsPinned}
 
 -- the ends of a link have one name
 joined_agree : (links : List Link) (name : Place → List ℕ) → AgreesAlong links name → (a b : Place) → Joined links a b → name a ≡ name b
@@ -35,3 +35,10 @@ stays links d foot old new (Some p) is least was agree keeps some b in_b =
 
 pub fixed_stays : FixedStays
 fixed_stays links d foot old new is was agree keeps some b in_b = stays links d foot old new foot.outside is is.outside was agree keeps some b in_b
+
+pinned : (links : List Link) (d : Place) (foot : Foot) (outside : Option Place) → IsFoot links d foot → IsLeastFixed links foot.decls outside → IsSome outside ↔ IsPinned links d
+pinned links d foot None is least = ((λ some. cc), (λ p. absurd (least.none p.0 (is.all p.0 p.1) p.2)))
+pinned links d foot (Some p) is least = ((λ some. (p, is.reached p least.member, least.fixed)), (λ q. refl))
+
+pub tells_pinned : TellsPinned
+tells_pinned links d foot is = pinned links d foot foot.outside is is.outside

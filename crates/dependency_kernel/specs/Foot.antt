@@ -26,6 +26,10 @@ IsFixedBy link p = (link ≡ record { item = Decl p; source = Outside }) ⊎ (li
 abbrev pub IsFixed : List Link → Place → Type 0
 IsFixed links p = (link : Link) × Contains links link × IsFixedBy link p
 
+-- something that is reached from the declaration d is in a link whose other end is the outside
+abbrev pub IsPinned : List Link → Place → Type 0
+IsPinned links d = (p : Place) × Path links d p × IsFixed links p
+
 -- the order of places: by file, then token
 abbrev pub IsBefore : Place → Place → Type 0
 IsBefore p q = (p.file < q.file) ⊎ ((p.file ≡ q.file) × (p.token < q.token))

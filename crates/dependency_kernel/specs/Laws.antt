@@ -1,9 +1,9 @@
 -- The laws of footprints: the graph half of 'least footprint'.
-use Rattle.std.specs.Prelude.{◌≡◌, ◌≢◌, ℕ, List, Contains, IsSome}
+use Rattle.std.specs.Prelude.{◌≡◌, ◌≢◌, ◌↔◌, ℕ, List, Contains, IsSome}
 use Rattle.rotor_base.specs.declared.place.Place.{Place}
 use Rattle.rotor_base.specs.declared.place.Link.{Link}
 use Rattle.rotor_base.specs.declared.place.Foot.{Foot}
-use Rattle.dependency_kernel.specs.Foot.{link_of, IsFixed, IsFoot}
+use Rattle.dependency_kernel.specs.Foot.{link_of, IsFixed, IsPinned, IsFoot}
 
 -- the names agree along links: both ends of a link of two declarations have one name
 abbrev pub AgreesAlong : List Link → (Place → List ℕ) → Type 0
@@ -31,6 +31,10 @@ FixedStays =
     → IsFoot links d foot → AgreesAlong links old → AgreesAlong links new
     → ((p : Place) → IsFixed links p → new p ≡ old p) → IsSome foot.outside
     → (b : Place) → Contains foot.decls b → new b ≡ old b
+
+-- a footprint touches the outside exactly where its declaration is pinned
+abbrev pub TellsPinned : Type 0
+TellsPinned = (links : List Link) (d : Place) (foot : Foot) → IsFoot links d foot → IsSome foot.outside ↔ IsPinned links d
 
 -- a declaration has one footprint
 abbrev pub IsTheOnly : Type 0

@@ -3,7 +3,7 @@
 
 ghost use Rattle.std.specs.Prelude.{IfOk};
 ghost use Rattle.dependency_kernel.specs.Foot.{IsFoot};
-ghost use Rattle.dependency_kernel.specs.Laws.{HasOneName, ChangesAll, FixedStays, IsTheOnly};
+ghost use Rattle.dependency_kernel.specs.Laws.{HasOneName, ChangesAll, FixedStays, TellsPinned, IsTheOnly};
 
 mod neighbors;
 mod outside;
@@ -36,7 +36,9 @@ pub fn footprints_are_least()
     ensures fixed { FixedStays }
 {}
 
-/// Law: links and a declaration have one footprint.
+/// Law: links and a declaration have one footprint, and it names a declaration that the outside fixes exactly where
+/// one is reached.
 pub fn footprints_are_one()
     ensures only { IsTheOnly }
+    ensures pinned { TellsPinned }
 {}

@@ -1,4 +1,4 @@
-ghost use Rattle.std.specs.Prelude.{◌≡◌, ◌⊎◌, ◌↔◌, IfOk, OnOk, IfSome, IfNone};
+ghost use Rattle.std.specs.Prelude.{◌≡◌, ◌⊎◌, IfOk, OnOk, IfSome, IfNone};
 ghost use Rattle.rotor_base.specs.declared.place.Place.{Place};
 ghost use Rattle.dependency_kernel.specs.Foot.{Joined, link_of};
 ghost use Rattle.dependency_kernel.specs.Neighbors.{HasNeighbor};
