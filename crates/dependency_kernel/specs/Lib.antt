@@ -1,0 +1,3 @@
+pub mod Foot
+pub mod Neighbors
+pub mod Laws
