@@ -1,3 +1,4 @@
 pub mod Steps
 pub mod Levels
 pub mod Cut
+pub mod OneCutting

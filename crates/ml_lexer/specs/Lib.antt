@@ -5,3 +5,4 @@ pub mod Trivia
 pub mod Pieces
 pub mod Lexed
 pub mod Answers
+pub mod Laws

@@ -3,6 +3,7 @@
 
 mod bytes;
 mod error;
+mod laws;
 mod number;
 mod piece;
 mod quotes;
@@ -10,4 +11,5 @@ mod scan;
 mod trivia;
 
 pub use error::LexError;
+pub use laws::one_cutting;
 pub use scan::lex;
