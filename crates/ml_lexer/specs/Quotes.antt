@@ -3,29 +3,46 @@ use Rattle.std.specs.Prelude.{ℕ, ◌+◌, List, [], ◌∷◌, Bool, true, fal
 use Rattle.std.specs.Char.{is_ascii_digit, is_ascii_hexdigit}
 use Rattle.std.specs.List.{prefix_len, starts_with}
 use Rattle.std.specs.Str.{byte}
+use Prim.Native.String.{String}
 use Rattle.ml_lexer.specs.Bytes.{among, is_at, is_quoted_word_byte}
 
 abbrev pub is_octal_digit : ℕ → Bool
 is_octal_digit c = among "01234567" c
 
--- what a `\` takes: `\ " ' n t b r` or a space and `'`; three decimal digits, `x` with two hexadecimal digits or
--- `o` with three octal digits, and `'`. The length counts from the first `'`.
-unfoldable pub escape_length : List ℕ → Option ℕ
-escape_length bytes =
-    if among "\\\"'ntbr " (slice_index bytes 2) && is_at "'" 3 bytes then Some 4 else
-    if is_ascii_digit (slice_index bytes 2) && is_ascii_digit (slice_index bytes 3) && is_ascii_digit (slice_index bytes 4) && is_at "'" 5 bytes then Some 6 else
-    if is_at "x" 2 bytes && is_ascii_hexdigit (slice_index bytes 3) && is_ascii_hexdigit (slice_index bytes 4) && is_at "'" 5 bytes then Some 6 else
-    if is_at "o" 2 bytes && is_octal_digit (slice_index bytes 3) && is_octal_digit (slice_index bytes 4) && is_octal_digit (slice_index bytes 5) && is_at "'" 6 bytes then Some 7 else
-    None
+-- each test passes at its byte, the first at this place
+abbrev pub fit : List (ℕ → Bool) → ℕ → List ℕ → Bool
+fit [] i bytes = true
+fit (test ∷ tests) i bytes = test (slice_index bytes i) && fit tests (i + 1) bytes
+
+abbrev pub is : String → ℕ → Bool
+is character c = c == byte character
+
+-- the forms of a Char: one byte; and behind a `\`, one of `\ " ' n t b r` or a space, three decimal digits, `x` with
+-- two hexadecimal digits, or `o` with three octal digits
+abbrev pub plain_char : List (ℕ → Bool)
+plain_char = is "'" ∷ (λ c. not (among "'\\\n\r" c)) ∷ is "'" ∷ []
+
+abbrev pub short_escape : List (ℕ → Bool)
+short_escape = is "'" ∷ is "\\" ∷ among "\\\"'ntbr " ∷ is "'" ∷ []
+
+abbrev pub decimal_escape : List (ℕ → Bool)
+decimal_escape = is "'" ∷ is "\\" ∷ is_ascii_digit ∷ is_ascii_digit ∷ is_ascii_digit ∷ is "'" ∷ []
+
+abbrev pub hexadecimal_escape : List (ℕ → Bool)
+hexadecimal_escape = is "'" ∷ is "\\" ∷ is "x" ∷ is_ascii_hexdigit ∷ is_ascii_hexdigit ∷ is "'" ∷ []
+
+abbrev pub octal_escape : List (ℕ → Bool)
+octal_escape = is "'" ∷ is "\\" ∷ is "o" ∷ is_octal_digit ∷ is_octal_digit ∷ is_octal_digit ∷ is "'" ∷ []
 
 -- the length of the Char that begins here, where one begins
 unfoldable pub char_length : List ℕ → Option ℕ
 char_length bytes =
-    if is_at "'" 0 bytes then
-    if is_at "\\" 1 bytes then escape_length bytes else
-    if is_at "'" 2 bytes && not (among "'\n\r" (slice_index bytes 1)) then Some 3 else
+    if fit plain_char 0 bytes then Some 3 else
+    if fit short_escape 0 bytes then Some 4 else
+    if fit decimal_escape 0 bytes then Some 6 else
+    if fit hexadecimal_escape 0 bytes then Some 6 else
+    if fit octal_escape 0 bytes then Some 7 else
     None
-    else None
 
 -- where a Text that has run for `n` bytes ends: behind the next `"` that no `\` takes
 unfoldable pub text_end : ℕ → Bool → List ℕ → Option ℕ

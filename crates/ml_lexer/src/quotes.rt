@@ -1,7 +1,7 @@
 //! Characters, texts and quoted texts.
 
 ghost use Rattle.std.specs.Prelude.{◌≡◌, ◌+◌, ◌<◌, ◌≤◌, ◌^◌, ◌∷◌, length, true, IfSome, slice_index};
-ghost use Rattle.ml_lexer.specs.Quotes.{is_octal_digit, escape_length, char_length, text_end as text_end_spec, text_length, opens_quoted as opens_spec, closes_quoted as closes_spec, quoted_end as quoted_end_spec, quoted_length};
+ghost use Rattle.ml_lexer.specs.Quotes.{char_length, closes_quoted as closes_spec, decimal_escape, fit, hexadecimal_escape, is_octal_digit, octal_escape, opens_quoted as opens_spec, plain_char, quoted_length, short_escape, text_length};
 
 use crate::bytes::{after, byte_at, front, quoted_word_len};
 
@@ -12,38 +12,65 @@ fn is_octal(byte: u8) -> bool
     b"01234567".contains(&byte)
 }
 
-/// The length of the Char with a `\` that begins here, from its first `'`.
-#[tactic(auto, unfolding(crate::specs::Quotes::escape_length))]
-fn escape_len(bytes: &[u8]) -> Option<usize>
-    ensures value { result ≡ escape_length bytes.now }
-    ensures within { IfSome result (λ n. (0 < n) × (n ≤ length bytes.now)) }
+/// Whether a Char of one byte begins here.
+fn is_plain_char(bytes: &[u8]) -> bool
+    ensures value { result ≡ fit plain_char 0 bytes.now }
+    ensures within { result ≡ true → 3 ≤ length bytes.now }
 {
-    if b"\\\"'ntbr ".contains(&byte_at(bytes, 2)) && byte_at(bytes, 3) == b'\'' {
-        return Some(4);
-    }
-    if byte_at(bytes, 2).is_ascii_digit()
+    byte_at(bytes, 0) == b'\''
+        && !b"'\\\n\r".contains(&byte_at(bytes, 1))
+        && byte_at(bytes, 2) == b'\''
+}
+
+/// Whether a Char of a `\` and one character begins here.
+fn is_short_escape(bytes: &[u8]) -> bool
+    ensures value { result ≡ fit short_escape 0 bytes.now }
+    ensures within { result ≡ true → 4 ≤ length bytes.now }
+{
+    byte_at(bytes, 0) == b'\''
+        && byte_at(bytes, 1) == b'\\'
+        && b"\\\"'ntbr ".contains(&byte_at(bytes, 2))
+        && byte_at(bytes, 3) == b'\''
+}
+
+/// Whether a Char of a `\` and three digits begins here.
+fn is_decimal_escape(bytes: &[u8]) -> bool
+    ensures value { result ≡ fit decimal_escape 0 bytes.now }
+    ensures within { result ≡ true → 6 ≤ length bytes.now }
+{
+    byte_at(bytes, 0) == b'\''
+        && byte_at(bytes, 1) == b'\\'
+        && byte_at(bytes, 2).is_ascii_digit()
         && byte_at(bytes, 3).is_ascii_digit()
         && byte_at(bytes, 4).is_ascii_digit()
         && byte_at(bytes, 5) == b'\''
-    {
-        return Some(6);
-    }
-    if byte_at(bytes, 2) == b'x'
+}
+
+/// Whether a Char of `\x` and two digits begins here.
+fn is_hexadecimal_escape(bytes: &[u8]) -> bool
+    ensures value { result ≡ fit hexadecimal_escape 0 bytes.now }
+    ensures within { result ≡ true → 6 ≤ length bytes.now }
+{
+    byte_at(bytes, 0) == b'\''
+        && byte_at(bytes, 1) == b'\\'
+        && byte_at(bytes, 2) == b'x'
         && byte_at(bytes, 3).is_ascii_hexdigit()
         && byte_at(bytes, 4).is_ascii_hexdigit()
         && byte_at(bytes, 5) == b'\''
-    {
-        return Some(6);
-    }
-    if byte_at(bytes, 2) == b'o'
+}
+
+/// Whether a Char of `\o` and three digits begins here.
+fn is_octal_escape(bytes: &[u8]) -> bool
+    ensures value { result ≡ fit octal_escape 0 bytes.now }
+    ensures within { result ≡ true → 7 ≤ length bytes.now }
+{
+    byte_at(bytes, 0) == b'\''
+        && byte_at(bytes, 1) == b'\\'
+        && byte_at(bytes, 2) == b'o'
         && is_octal(byte_at(bytes, 3))
         && is_octal(byte_at(bytes, 4))
         && is_octal(byte_at(bytes, 5))
         && byte_at(bytes, 6) == b'\''
-    {
-        return Some(7);
-    }
-    None
 }
 
 /// The length of the Char that begins here.
@@ -52,15 +79,19 @@ pub fn char_len(bytes: &[u8]) -> Option<usize>
     ensures value { result ≡ char_length bytes.now }
     ensures within { IfSome result (λ n. (0 < n) × (n ≤ length bytes.now)) }
 {
-    if byte_at(bytes, 0) == b'\'' {
-        if byte_at(bytes, 1) == b'\\' {
-            return escape_len(bytes);
-        }
-        if byte_at(bytes, 2) == b'\'' && !b"'\n\r".contains(&byte_at(bytes, 1)) {
-            return Some(3);
-        }
+    if is_plain_char(bytes) {
+        Some(3)
+    } else if is_short_escape(bytes) {
+        Some(4)
+    } else if is_decimal_escape(bytes) {
+        Some(6)
+    } else if is_hexadecimal_escape(bytes) {
+        Some(6)
+    } else if is_octal_escape(bytes) {
+        Some(7)
+    } else {
+        None
     }
-    None
 }
 
 /// The length of the Text that begins here, where it ends.
