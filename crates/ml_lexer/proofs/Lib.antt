@@ -1,0 +1,5 @@
+pub mod Steps
+pub mod Levels
+pub mod Cut
+pub mod OneCutting
+pub mod Rows

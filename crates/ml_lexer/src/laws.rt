@@ -1,0 +1,10 @@
+//! The laws of cutting, each as the contract of a function that does nothing.
+
+ghost use Rattle.ml_lexer.specs.Laws.{OneLexed, OneFault, LexedOrFault};
+
+/// A file has one cutting at most: one list of lexemes, or one fault, and not both.
+pub fn one_cutting()
+    ensures lexemes { OneLexed }
+    ensures faults { OneFault }
+    ensures apart { LexedOrFault }
+{}
