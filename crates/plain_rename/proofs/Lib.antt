@@ -1,7 +1,11 @@
+pub mod Binders
 pub mod Judged
+pub mod Laws
 pub mod Lists
 pub mod Proper
 pub mod Runs
 pub mod Sizes
 pub mod Whole
 pub mod Small
+pub mod Kept
+pub mod Undone

@@ -3,3 +3,4 @@ pub mod Grammar
 pub mod Renaming
 pub mod Run
 pub mod Token
+pub mod Undo

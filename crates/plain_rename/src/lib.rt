@@ -5,8 +5,10 @@
 
 mod facts;
 mod grammar;
+mod law;
 mod renaming;
 mod run;
 mod token;
 
+pub use law::renamings_are_undone;
 pub use renaming::{Aim, Answer, Obstacle, Respelled, rename};
