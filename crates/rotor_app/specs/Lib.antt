@@ -1,5 +1,6 @@
 pub mod Aim
 pub mod Said
+pub mod Status
 pub mod Table
 pub mod Text
 pub mod Words

@@ -33,6 +33,26 @@ pub enum Status {
     Memory,
 }
 
+impl Status {
+    ghost use Rattle.std.specs.Prelude.{◌≡◌};
+    ghost use Rattle.rotor_app.specs.Status.{code_of};
+
+    /// The exit code of the program.
+    pub fn code(self) -> u8
+        ensures { result ≡ code_of self }
+    {
+        match self {
+            Status::Done => 0,
+            Status::Refused => 1,
+            Status::Usage => 2,
+            Status::Project => 3,
+            Status::TreeFault => 4,
+            Status::SinkFault => 5,
+            Status::Memory => 6,
+        }
+    }
+}
+
 /// An answer, before anything is written: the status, the changed files with their new bytes in byte order of their
 /// names, and the text.
 #[derive(Debug, Drop)]
