@@ -1,8 +1,11 @@
 -- A renaming that is done is undone by the renaming back.
-use Rattle.std.proofs.Common.{◌≡◌, ℕ, ◌==◌, ◌⊎◌, inl, inr, Bool, true, false, not, List, [], Option, Some, None, count_by, refl, sym, ap, subst, ◌∙◌}
+use Rattle.std.proofs.Common.{◌∷◌, ◌≡◌, ℕ, ◌==◌, ◌⊎◌, inl, inr, Bool, true, false, not, List, [], Option, Some, None, count_by, refl, sym, ap, subst, ◌∙◌, zero, suc, ◌-◌, ◌^◌, ◌<◌, ◌≤◌, nat_le, slice_get, length, arith}
 use Rattle.std.specs.Bool.{if◌then◌else◌}
 use Rattle.std.specs.List.{list_any}
 use Rattle.std.specs.Str.{bytes_eq}
+use Rattle.std.proofs.lemmas.Bool.Decides.{nat_tests}
+use Rattle.plain_rename.proofs.Small.{plain_small}
+use Rattle.plain_rename.proofs.Sizes.{length-tokens, length-runs}
 use Rattle.std.proofs.lemmas.Slice.Eq.{bytes_eq-Decides}
 use Rattle.rotor_base.specs.Name.{is_value_name}
 use Rattle.rotor_base.specs.declared.place.Ref.{Ref}
@@ -84,6 +87,25 @@ target_named rs d h = by_case (binder_named (tokens rs) [] d 1 false [] (tokens 
   by_case : (list_any (λ c. c == d) [] ≡ true) ⊎ (is_value_name (text_at (tokens rs) d) ≡ true) → is_value_name (text_at (tokens rs) d) ≡ true
   by_case (inl bad) = cc
   by_case (inr e) = e
+
+past : (ts : List Token) (i : ℕ) → length ts ≤ i → slice_get ts i ≡ None
+past [] i h = refl
+past (t ∷ ts) zero h = absurd (omega arith)
+past (t ∷ ts) (suc i) h = past ts i (omega arith)
+
+-- a token that has a word has a number of the file
+number_there : (ts : List Token) (d : ℕ) → is_value_name (text_at ts d) ≡ true → (0 < d) × (d ≤ length ts)
+number_there ts d h = by_zero (d == 0) refl where
+  by_place : (b : Bool) → nat_le d (length ts) ≡ b → (d == 0) ≡ false → (0 < d) × (d ≤ length ts)
+  by_place true e z = (grind (arith, nat_tests), grind (arith, nat_tests))
+  by_place false e z =
+      let behind : length ts ≤ d - 1 = grind (arith, nat_tests) in
+      let bad : false ≡ true = rw (z, past ts (d - 1) behind) at h in
+      cc
+
+  by_zero : (b : Bool) → (d == 0) ≡ b → (0 < d) × (d ≤ length ts)
+  by_zero true e = let bad : false ≡ true = rw e at h in cc
+  by_zero false e = by_place (nat_le d (length ts)) refl e
 
 differ_back : (v w : List ℕ) → bytes_eq v w ≡ false → bytes_eq w v ≡ false
 differ_back v w h = by_test (bytes_eq w v) refl where
@@ -185,8 +207,14 @@ renamings_undone bytes aim new done h =
     let is = done_is rs aim new done a proper again in
     let kept = facts_kept rs aim new done a proper again in
     let back = undo_answer rs aim new done a proper again in
+    let named : is_value_name (text_at (tokens rs) a.target) ≡ true = target_named rs a.target (aimed_in (tokens rs) (binders_in (tokens rs)) aim a.target a.aimed_at) in
+    let there = number_there (tokens rs) a.target named in
+    let few : length (tokens rs) < 2 ^ 32 = omega (arith, length-tokens rs, length-runs bytes, plain_small bytes a.plain) in
+    let place : (0 < a.target) × (a.target < 2 ^ 32) = (there.0, omega (arith, there.1, few)) in
     record {
       facts = ap (λ (d : Respelled). facts_of d.bytes) is ∙ kept;
+      placed = subst (λ (d : Respelled). (0 < d.at.token) × (d.at.token < 2 ^ 32)) (sym is) place;
+      named = ap (λ (d : Respelled). is_value_name d.old) is ∙ old_named rs aim new done a proper again;
       undo =
           ap (λ (d : Respelled). answer_of d.bytes (aims.Token d.at.token) d.old) is ∙ back
           ∙ ap (λ (bs : List ℕ). Done (record { bytes = bs; old = new; at = place_at a.target; refs = count_by (λ r. leads_to a.target r.goal) (refs_in (tokens rs)) })) (flat-runs bytes)

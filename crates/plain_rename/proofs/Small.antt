@@ -75,7 +75,7 @@ names_and_others (r ∷ rs) h = by_name (is_value_name r.text) refl (names_and_o
   by_name true e rest = rw (e, counted_name r rs h.0 e) (omega (arith, length-append r.text (flat rs), value_name_short r.text e, rest))
   by_name false e rest = rw e (omega (arith, length-append r.text (flat rs), counted r rs, rest))
 
-plain_small : (bytes : List ℕ) → is_plain_file (runs bytes) (tokens (runs bytes)) ≡ true → length bytes ≤ 326656
+pub plain_small : (bytes : List ℕ) → is_plain_file (runs bytes) (tokens (runs bytes)) ≡ true → length bytes ≤ 326656
 plain_small bytes h =
     let rs = runs bytes in
     let few : names (tokens rs) ≤ 1024 = le_of (names (tokens rs)) 1024 (both _ _ (both _ _ h).0).1 in

@@ -2,10 +2,9 @@
 #![tactic(auto)]
 
 use rotor_app::rotor;
-use std::env;
-use std::io;
 use std::process::ExitCode;
 use std::rt::Env;
+use std::{env, io};
 use tree_io::{HostSink, HostTree};
 
 /// The exit code where there was no memory for the words.

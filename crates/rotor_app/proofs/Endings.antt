@@ -185,3 +185,13 @@ module _ (request : Option (List ℕ × List ℕ)) (before now : Seen) (tree_sam
   unchanged (carried asked r reply to s f w took) h = unwritten_at reply.status reply.writes before.content now.content to.kind (subst IsRefusal s h) w
   unchanged (unwritten asked r reply to s later rose stopped same rests) h = absurd (subst IsRefusal s h)
   unchanged (unput asked r reply to s f w failed) h = absurd (subst IsRefusal s h)
+
+  -- a call that is done is one whose answer is done
+  pub done_said : Ending request before now tree_same sink_same status → status ≡ Done → (files : FileMap) → before.content ≡ Some files → (said_by request files).status ≡ Done
+  done_said (told_usage s r t rests took) e files held = let no : Usage ≡ Done = sym s ∙ e in cc
+  done_said (cut_usage s r t rests failed) e files held = let no : SinkFault ≡ Done = sym s ∙ e in cc
+  done_said (unread asked r s later rose content same rests) e files held = let no : TreeFault ≡ Done = sym s ∙ e in cc
+  done_said (wanting asked r s rests same sink) e files held = let no : Memory ≡ Done = sym s ∙ e in cc
+  done_said (carried asked r reply to s f w took) e files held = sym (ap (λ (r : Reply). r.status) (to.said files held)) ∙ sym s ∙ e
+  done_said (unwritten asked r reply to s later rose stopped same rests) e files held = let no : TreeFault ≡ Done = sym s ∙ e in cc
+  done_said (unput asked r reply to s f w failed) e files held = let no : SinkFault ≡ Done = sym s ∙ e in cc

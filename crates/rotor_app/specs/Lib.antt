@@ -3,4 +3,5 @@ pub mod Said
 pub mod Status
 pub mod Table
 pub mod Text
+pub mod Undone
 pub mod Words

@@ -4,6 +4,7 @@ ghost use Rattle.std.specs.Option.{ForSome};
 ghost use Rattle.tree_io.specs.Outside.{HasFault, StaysSteady, Rose, Takes};
 ghost use Rattle.rotor_app.specs.Words.{asked};
 ghost use Rattle.rotor_app.specs.Said.{said, usage_reply, HasRoom};
+ghost use Rattle.rotor_app.specs.Undone.{IsUndoable};
 ghost use Rattle.rotor_app.specs.Table.{Written, StoppedWriting, Ending, seen, IsComplete, Carried, Put, IsQuiet, IsAsSaid, IsFault, TreeStopped, SinkStopped, IsRefusal};
 
 use crate::reply::{Reply, Status, decide};
@@ -48,6 +49,9 @@ pub fn rotor<T: Tree, S: Sink>(alloc: Global, words: &[String], tree: &mut T, ou
     // Refusals and want of memory leave the folder; a folder that failed and want of memory put nothing.
     ensures unchanged { IsRefusal result → T.content tree.new ≡ T.content tree.old }
     ensures quiet { (result ≡ Status.TreeFault) ⊎ (result ≡ Status.Memory) → out.new ≡ out.old }
+
+    // Of a call that is done, each reference keeps its goal, and the words of the undo line give the old files back.
+    ensures undo { (result ≡ Status.Done) → ForSome (T.content tree.old) (λ files. IsUndoable (said (map string_bytes words.now) files) files) }
 
     // Over a folder and an output that do not fail, the status is the one that is said, or there was no memory.
     ensures complete { T.is_steady tree.old → IfSome (T.content tree.old) (λ files.

@@ -1,7 +1,8 @@
 use Rattle.std.proofs.Common.{◌≡◌, map, string_bytes}
 use Rattle.rotor_app.specs.Words.{asked}
 use Rattle.rotor_app.specs.Table.{seen}
-use Rattle.rotor_app.proofs.Endings.{answers, usage_only, usage_always, usage_tree, tree_fault, sink_fault, tree_stopped, sink_stopped, unchanged, quiet_sink}
+use Rattle.rotor_app.proofs.Endings.{answers, usage_only, usage_always, usage_tree, tree_fault, sink_fault, tree_stopped, sink_stopped, unchanged, quiet_sink, done_said}
+use Rattle.rotor_app.proofs.Undoing.{said_undoable}
 use Rattle.rotor_app.proofs.top.rotor.Goals as goal
 
 pub returns-clause-answer : goal.returns-clause-answer
@@ -73,3 +74,11 @@ returns-clause-quiet g c =
     (seen (g.T.Tree.faults c.args.tree.now) (g.S.Sink.faults c.args.out.now) (g.T.Tree.content c.args.tree.now) (g.S.Sink.taken c.args.out.now))
     (seen (g.T.Tree.faults c.conclude.new.tree) (g.S.Sink.faults c.conclude.new.out) (g.T.Tree.content c.conclude.new.tree) (g.S.Sink.taken c.conclude.new.out))
     (c.conclude.new.tree ≡ c.args.tree.now) (c.conclude.new.out ≡ c.args.out.now) c.conclude.result c.conclude.ensures.ending
+
+pub returns-clause-undo : goal.returns-clause-undo
+returns-clause-undo g c = λ done files held. said_undoable (asked (map string_bytes c.args.words.now)) files (
+    done_said (asked (map string_bytes c.args.words.now))
+    (seen (g.T.Tree.faults c.args.tree.now) (g.S.Sink.faults c.args.out.now) (g.T.Tree.content c.args.tree.now) (g.S.Sink.taken c.args.out.now))
+    (seen (g.T.Tree.faults c.conclude.new.tree) (g.S.Sink.faults c.conclude.new.out) (g.T.Tree.content c.conclude.new.tree) (g.S.Sink.taken c.conclude.new.out))
+    (c.conclude.new.tree ≡ c.args.tree.now) (c.conclude.new.out ≡ c.args.out.now) c.conclude.result c.conclude.ensures.ending
+    done files held)
