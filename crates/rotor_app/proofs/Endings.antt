@@ -70,6 +70,16 @@ module _ (request : Option (List ℕ × List ℕ)) (before now : Seen) (tree_sam
   usage_always (unwritten asked r reply to s later rose stopped same rests) e quiet = absurd (unasked asked r e)
   usage_always (unput asked r reply to s f w failed) e quiet = absurd (unasked asked r e)
 
+  -- where the output fails, a prefix of its text is put
+  pub usage_cut : Ending request before now tree_same sink_same status → request ≡ None → status ≡ SinkFault → TakesPrefix usage_reply.text before.taken now.taken
+  usage_cut (told_usage s r t rests took) e f = let no : Usage ≡ SinkFault = sym s ∙ f in cc
+  usage_cut (cut_usage s r t rests failed) e f = failed.taken
+  usage_cut (unread asked r s later rose content same rests) e f = absurd (unasked asked r e)
+  usage_cut (wanting asked r s rests same sink) e f = absurd (unasked asked r e)
+  usage_cut (carried asked r reply to s f' w took) e f = absurd (unasked asked r e)
+  usage_cut (unwritten asked r reply to s later rose stopped same rests) e f = absurd (unasked asked r e)
+  usage_cut (unput asked r reply to s f' w failed) e f = absurd (unasked asked r e)
+
   -- the folder is not called for them
   pub usage_tree : Ending request before now tree_same sink_same status → request ≡ None → tree_same
   usage_tree (told_usage s r t rests took) e = t

@@ -1,7 +1,7 @@
 //! The program: the words, the folder, the writes and the report.
 ghost use Rattle.std.specs.Prelude.{◌≡◌, ◌⊎◌, None, IsErr, OnOk, OnErr, IfSome, map, string_bytes, length};
 ghost use Rattle.std.specs.Option.{ForSome};
-ghost use Rattle.tree_io.specs.Outside.{HasFault, StaysSteady, Rose, Takes};
+ghost use Rattle.tree_io.specs.Outside.{HasFault, StaysSteady, Rose, Takes, TakesPrefix};
 ghost use Rattle.rotor_app.specs.Words.{asked};
 ghost use Rattle.rotor_app.specs.Said.{said, usage_reply, HasRoom};
 ghost use Rattle.rotor_app.specs.Undone.{IsUndoable};
@@ -33,6 +33,7 @@ pub fn rotor<T: Tree, S: Sink>(alloc: Global, words: &[String], tree: &mut T, ou
     ensures usage { (result ≡ Status.Usage) → (asked (map string_bytes words.now) ≡ None) }
     ensures usage_always { asked (map string_bytes words.now) ≡ None → (Rose (S.faults out.old) (S.faults out.new) → ⊥)
         → (result ≡ Status.Usage) × Takes usage_reply.text (S.taken out.old) (S.taken out.new) }
+    ensures usage_cut { asked (map string_bytes words.now) ≡ None → (result ≡ Status.SinkFault) → TakesPrefix usage_reply.text (S.taken out.old) (S.taken out.new) }
     ensures usage_tree { asked (map string_bytes words.now) ≡ None → tree.new ≡ tree.old }
 
     // A fault comes only where its count rose, and none is passed over.
@@ -56,6 +57,7 @@ pub fn rotor<T: Tree, S: Sink>(alloc: Global, words: &[String], tree: &mut T, ou
     // Over a folder and an output that do not fail, the status is the one that is said, or there was no memory.
     ensures complete { T.is_steady tree.old → IfSome (T.content tree.old) (λ files.
         S.accepts out.old (length (said (map string_bytes words.now) files).text) → IsComplete (said (map string_bytes words.now) files) result) }
+    ensures steady { T.is_steady tree.old → T.is_steady tree.new }
 {
     conclude(alloc, words, tree, out)
 }
@@ -68,6 +70,7 @@ fn conclude<T: Tree, S: Sink>(alloc: Global, words: &[String], tree: &mut T, out
         (tree.new ≡ tree.old) (out.new ≡ out.old) result }
     ensures complete { T.is_steady tree.old → IfSome (T.content tree.old) (λ files.
         S.accepts out.old (length (said (map string_bytes words.now) files).text) → IsComplete (said (map string_bytes words.now) files) result) }
+    ensures steady { T.is_steady tree.old → T.is_steady tree.new }
 {
     let Some(request) = read_words(words) else {
         return put_text(USAGE, Status::Usage, out);
@@ -86,6 +89,7 @@ fn carry_out<T: Tree, S: Sink>(reply: &Reply, tree: &mut T, out: &mut S) -> Stat
         (seen (T.faults tree.old) (S.faults out.old) (T.content tree.old) (S.taken out.old))
         (seen (T.faults tree.new) (S.faults out.new) (T.content tree.new) (S.taken out.new)) (out.new ≡ out.old) result }
     ensures complete { T.is_steady tree.old → S.accepts out.old (length reply.now.text) → result ≡ reply.now.status }
+    ensures steady { T.is_steady tree.old → T.is_steady tree.new }
 {
     match write_all(reply.writes.as_slice(), tree) {
         Err(_) => Status::TreeFault,

@@ -3,7 +3,6 @@ use Rattle.std.specs.Prelude.{ℕ, List, [], ◌∷◌, Bool, false, ◌==◌, �
 use Rattle.std.specs.Char.{is_ascii_lowercase, is_ascii_alphanumeric}
 use Rattle.std.specs.List.{list_all, list_any}
 use Rattle.std.specs.Str.{bytes_eq}
-use Rattle.rotor_base.specs.declared.name.TheConstants.{KEYWORDS}
 
 -- a value name begins with a lower-case letter or `_`
 abbrev pub starts_as_value_name : List ℕ → Bool
@@ -14,9 +13,22 @@ starts_as_value_name (b ∷ bs) = is_ascii_lowercase b || b == 95
 abbrev pub is_identifier_byte : ℕ → Bool
 is_identifier_byte b = is_ascii_alphanumeric b || b == 95 || b == 39
 
+-- the keywords of the language
+abbrev pub keywords : List (List ℕ)
+keywords =
+    codes "and" ∷ codes "as" ∷ codes "assert" ∷ codes "asr" ∷ codes "begin" ∷ codes "class" ∷
+    codes "constraint" ∷ codes "do" ∷ codes "done" ∷ codes "downto" ∷ codes "else" ∷ codes "end" ∷
+    codes "exception" ∷ codes "external" ∷ codes "false" ∷ codes "for" ∷ codes "fun" ∷ codes "function" ∷
+    codes "functor" ∷ codes "if" ∷ codes "in" ∷ codes "include" ∷ codes "inherit" ∷ codes "initializer" ∷
+    codes "land" ∷ codes "lazy" ∷ codes "let" ∷ codes "lor" ∷ codes "lsl" ∷ codes "lsr" ∷ codes "lxor" ∷
+    codes "match" ∷ codes "method" ∷ codes "mod" ∷ codes "module" ∷ codes "mutable" ∷ codes "new" ∷
+    codes "nonrec" ∷ codes "object" ∷ codes "of" ∷ codes "open" ∷ codes "or" ∷ codes "private" ∷ codes "rec" ∷
+    codes "sig" ∷ codes "struct" ∷ codes "then" ∷ codes "to" ∷ codes "true" ∷ codes "try" ∷ codes "type" ∷
+    codes "val" ∷ codes "virtual" ∷ codes "when" ∷ codes "while" ∷ codes "with" ∷ []
+
 -- one of the keywords
 unfoldable pub is_keyword_word : List ℕ → Bool
-is_keyword_word word = list_any (λ keyword. bytes_eq keyword.now word) KEYWORDS
+is_keyword_word word = list_any (λ keyword. bytes_eq keyword word) keywords
 
 -- a keyword, or the word `_`
 abbrev pub is_reserved_word : List ℕ → Bool

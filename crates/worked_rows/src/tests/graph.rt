@@ -8,8 +8,11 @@ use std::test::Fail;
 const CHAIN: u32 = 100_000;
 
 const A: Goal = Goal::Decl(Place { file: 0, token: 1 });
+
 const B: Goal = Goal::Decl(Place { file: 0, token: 2 });
+
 const C: Goal = Goal::Decl(Place { file: 0, token: 3 });
+
 const D: Goal = Goal::Decl(Place { file: 0, token: 4 });
 
 /// The declaration at a token of the first file.
@@ -35,17 +38,76 @@ struct Case {
 }
 
 const CASES: [Case; 11] = [
-    Case { links: &[], start: 7, decls: &[7], outside: None },
-    Case { links: &[(A, B)], start: 4, decls: &[4], outside: None },
-    Case { links: &[(A, A)], start: 1, decls: &[1], outside: None },
-    Case { links: &[(C, A), (A, B), (B, C)], start: 2, decls: &[1, 2, 3], outside: None },
-    Case { links: &[(B, A), (B, C)], start: 1, decls: &[1, 2, 3], outside: None },
-    Case { links: &[(A, B), (C, D)], start: 3, decls: &[3, 4], outside: None },
-    Case { links: &[(A, B), (C, D), (D, Goal::Outside)], start: 1, decls: &[1, 2], outside: None },
-    Case { links: &[(A, B), (B, C), (C, Goal::Outside)], start: 1, decls: &[1, 2, 3], outside: Some(3) },
-    Case { links: &[(Goal::Outside, C), (B, Goal::Outside), (A, B), (B, C)], start: 3, decls: &[1, 2, 3], outside: Some(2) },
-    Case { links: &[(A, Goal::Missing), (B, Goal::Hidden), (Goal::Outside, Goal::Outside)], start: 1, decls: &[1], outside: None },
-    Case { links: &[(A, Goal::Outside), (B, Goal::Outside)], start: 1, decls: &[1], outside: Some(1) },
+    Case {
+        links: &[],
+        start: 7,
+        decls: &[7],
+        outside: None,
+    },
+    Case {
+        links: &[(A, B)],
+        start: 4,
+        decls: &[4],
+        outside: None,
+    },
+    Case {
+        links: &[(A, A)],
+        start: 1,
+        decls: &[1],
+        outside: None,
+    },
+    Case {
+        links: &[(C, A), (A, B), (B, C)],
+        start: 2,
+        decls: &[1, 2, 3],
+        outside: None,
+    },
+    Case {
+        links: &[(B, A), (B, C)],
+        start: 1,
+        decls: &[1, 2, 3],
+        outside: None,
+    },
+    Case {
+        links: &[(A, B), (C, D)],
+        start: 3,
+        decls: &[3, 4],
+        outside: None,
+    },
+    Case {
+        links: &[(A, B), (C, D), (D, Goal::Outside)],
+        start: 1,
+        decls: &[1, 2],
+        outside: None,
+    },
+    Case {
+        links: &[(A, B), (B, C), (C, Goal::Outside)],
+        start: 1,
+        decls: &[1, 2, 3],
+        outside: Some(3),
+    },
+    Case {
+        links: &[(Goal::Outside, C), (B, Goal::Outside), (A, B), (B, C)],
+        start: 3,
+        decls: &[1, 2, 3],
+        outside: Some(2),
+    },
+    Case {
+        links: &[
+            (A, Goal::Missing),
+            (B, Goal::Hidden),
+            (Goal::Outside, Goal::Outside),
+        ],
+        start: 1,
+        decls: &[1],
+        outside: None,
+    },
+    Case {
+        links: &[(A, Goal::Outside), (B, Goal::Outside)],
+        start: 1,
+        decls: &[1],
+        outside: Some(1),
+    },
 ];
 
 #[test]
@@ -54,7 +116,10 @@ fn small_graphs(rt: HostRuntime) -> Result<(), Fail> {
     for (at, case) in CASES.iter().enumerate() {
         let mut links = Vec::new(alloc);
         for (item, source) in case.links {
-            links.push(Link { item: *item, source: *source })?;
+            links.push(Link {
+                item: *item,
+                source: *source,
+            })?;
         }
         let foot = footprint(alloc, &facts_of(alloc, links), place(case.start))?;
         let mut tokens = Vec::new(alloc);
@@ -70,9 +135,15 @@ fn small_graphs(rt: HostRuntime) -> Result<(), Fail> {
 /// A chain of links, in the order that is hardest to follow, with the outside at its far end.
 fn chain(alloc: Global) -> Result<Vec<Link>, Memory> {
     let mut links = Vec::new(alloc);
-    links.push(Link { item: Goal::Decl(place(CHAIN + 1)), source: Goal::Outside })?;
+    links.push(Link {
+        item: Goal::Decl(place(CHAIN + 1)),
+        source: Goal::Outside,
+    })?;
     for at in (1..=CHAIN).rev() {
-        links.push(Link { item: Goal::Decl(place(at)), source: Goal::Decl(place(at + 1)) })?;
+        links.push(Link {
+            item: Goal::Decl(place(at)),
+            source: Goal::Decl(place(at + 1)),
+        })?;
     }
     Ok(links)
 }
@@ -82,7 +153,10 @@ fn long_chain(rt: HostRuntime) -> Result<(), Fail> {
     let alloc = rt.alloc();
     let foot = footprint(alloc, &facts_of(alloc, chain(alloc)?), place(1))?;
     assert_eq!(rt; foot.decls.as_slice().len(), CHAIN as usize + 1);
-    assert_eq!(rt; foot.decls.as_slice().last().copied(), Some(place(CHAIN + 1)));
+    assert_eq!(rt;
+        foot.decls.as_slice().last().copied(),
+        Some(place(CHAIN + 1))
+    );
     assert_eq!(rt; foot.outside, Some(place(CHAIN + 1)));
     Ok(())
 }

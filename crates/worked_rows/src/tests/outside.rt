@@ -26,13 +26,25 @@ fn host_tree(rt: HostRuntime) -> Result<(), Fail> {
     fs::write(&rt, "a.ml", ONE_LINE)?;
     let mut tree = HostTree::new(&rt);
     let steps = [
-        (["rename", "A.x", "z", "--write"], ONE_LINE_NEW, ONE_LINE_TEXT),
-        (["rename", "a.ml#2", "x", "--write"], ONE_LINE, ONE_LINE_BACK),
+        (
+            ["rename", "A.x", "z", "--write"],
+            ONE_LINE_NEW,
+            ONE_LINE_TEXT,
+        ),
+        (
+            ["rename", "a.ml#2", "x", "--write"],
+            ONE_LINE,
+            ONE_LINE_BACK,
+        ),
     ];
     for (step, after, text) in steps {
         let mut sink = MemSink::new(alloc, 1_000, Vec::new(alloc))?;
         let list = words(alloc, &step)?;
-        assert_eq!(rt; rotor(alloc, &list, &mut tree, &mut sink), Status::Done, "{after}");
+        assert_eq!(rt;
+            rotor(alloc, &list, &mut tree, &mut sink),
+            Status::Done,
+            "{after}"
+        );
         assert_eq!(rt; sink.bytes(), text.as_bytes());
         assert_eq!(rt; fs::read_to_string(&rt, "a.ml")?.as_str(), after);
     }
@@ -41,5 +53,6 @@ fn host_tree(rt: HostRuntime) -> Result<(), Fail> {
     let status = rotor(alloc, &list, &mut tree, &mut HostSink::new(&rt));
     assert_eq!(rt; status, Status::Refused);
     assert_eq!(rt; fs::read_to_string(&rt, "a.ml")?.as_str(), ONE_LINE);
+    fs::remove_file(&rt, "a.ml")?;
     Ok(())
 }

@@ -6,9 +6,12 @@ use std::process::Abort;
 use tree_io::{MemTree, have_distinct_names};
 
 pub const ONE_LINE: &str = "let x = 1 let y = x + x";
+
 pub const ONE_LINE_NEW: &str = "let z = 1 let y = z + z";
+
 pub const ONE_LINE_TEXT: &str =
     "rename x to z\ndeclaration a.ml#2\nreferences 2\nfiles 1\nundo a.ml#2 x\n";
+
 pub const ONE_LINE_BACK: &str =
     "rename z to x\ndeclaration a.ml#2\nreferences 2\nfiles 1\nundo a.ml#2 z\n";
 

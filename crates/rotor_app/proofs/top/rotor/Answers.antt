@@ -1,7 +1,7 @@
 use Rattle.std.proofs.Common.{◌≡◌, map, string_bytes}
 use Rattle.rotor_app.specs.Words.{asked}
 use Rattle.rotor_app.specs.Table.{seen}
-use Rattle.rotor_app.proofs.Endings.{answers, usage_only, usage_always, usage_tree, tree_fault, sink_fault, tree_stopped, sink_stopped, unchanged, quiet_sink, done_said}
+use Rattle.rotor_app.proofs.Endings.{answers, usage_only, usage_always, usage_cut, usage_tree, tree_fault, sink_fault, tree_stopped, sink_stopped, unchanged, quiet_sink, done_said}
 use Rattle.rotor_app.proofs.Undoing.{said_undoable}
 use Rattle.rotor_app.proofs.top.rotor.Goals as goal
 
@@ -22,6 +22,13 @@ returns-clause-usage g c =
 pub returns-clause-usage_always : goal.returns-clause-usage_always
 returns-clause-usage_always g c =
     usage_always (asked (map string_bytes c.args.words.now))
+    (seen (g.T.Tree.faults c.args.tree.now) (g.S.Sink.faults c.args.out.now) (g.T.Tree.content c.args.tree.now) (g.S.Sink.taken c.args.out.now))
+    (seen (g.T.Tree.faults c.conclude.new.tree) (g.S.Sink.faults c.conclude.new.out) (g.T.Tree.content c.conclude.new.tree) (g.S.Sink.taken c.conclude.new.out))
+    (c.conclude.new.tree ≡ c.args.tree.now) (c.conclude.new.out ≡ c.args.out.now) c.conclude.result c.conclude.ensures.ending
+
+pub returns-clause-usage_cut : goal.returns-clause-usage_cut
+returns-clause-usage_cut g c =
+    usage_cut (asked (map string_bytes c.args.words.now))
     (seen (g.T.Tree.faults c.args.tree.now) (g.S.Sink.faults c.args.out.now) (g.T.Tree.content c.args.tree.now) (g.S.Sink.taken c.args.out.now))
     (seen (g.T.Tree.faults c.conclude.new.tree) (g.S.Sink.faults c.conclude.new.out) (g.T.Tree.content c.conclude.new.tree) (g.S.Sink.taken c.conclude.new.out))
     (c.conclude.new.tree ≡ c.args.tree.now) (c.conclude.new.out ≡ c.args.out.now) c.conclude.result c.conclude.ensures.ending
