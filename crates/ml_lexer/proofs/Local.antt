@@ -74,7 +74,7 @@ pub and_right : (a b : Bool) → (a && b) ≡ true → b ≡ true
 and_right true b e = e
 and_right false b e = cc
 
-and_false : (a : Bool) → (a && false) ≡ false
+pub and_false : (a : Bool) → (a && false) ≡ false
 and_false true = refl
 and_false false = refl
 
@@ -156,7 +156,7 @@ unfolding char_length
 char_same c q r r' closer ends alike =
     rw (plain_same c q r r' closer ends alike, escape_same short_escape c q r r' ends closer.short, escape_same decimal_escape c q r r' ends closer.decimal, escape_same hexadecimal_escape c q r r' ends closer.hexadecimal, escape_same octal_escape c q r r' ends closer.octal) refl
 
-opens_at : (b : List ℕ) (n : ℕ) → quoted_word_length b ≡ n → opens_quoted b ≡ (is_at "{" 0 b && is_at "|" (1 + n) b)
+pub opens_at : (b : List ℕ) (n : ℕ) → quoted_word_length b ≡ n → opens_quoted b ≡ (is_at "{" 0 b && is_at "|" (1 + n) b)
 unfolding opens_quoted
 opens_at b n e = rw e refl
 

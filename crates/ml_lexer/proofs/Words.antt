@@ -24,21 +24,21 @@ alike_stops p v f (both_words {c = c} {c' = c'} {r = r} {r' = r'} h h') e = elim
   | inr y ↦ let no = f c' h' ∙ y in rw no refl
 ]
 
-word_byte_is_identifier : (c : ℕ) → is_quoted_word_byte c ≡ true → is_identifier_byte c ≡ true
+pub word_byte_is_identifier : (c : ℕ) → is_quoted_word_byte c ≡ true → is_identifier_byte c ≡ true
 word_byte_is_identifier c e = elim (which (is_identifier_byte c)) [
   | inl y ↦ y
   | inr n ↦ let r = word_range c e in absurd (grind (arith, nat_tests, n, r))
 ]
 
-take_front : (front rest : List ℕ) → take (length front) (front ++ rest) ≡ front
+pub take_front : (front rest : List ℕ) → take (length front) (front ++ rest) ≡ front
 take_front [] rest = refl
 take_front (c ∷ front) rest = ap (λ cs. c ∷ cs) (take_front front rest)
 
-word_at_length : (b : List ℕ) (n : ℕ) → word_length b ≡ n → word_at b ≡ cond (is_long n) piece.LongName (piece.Lexeme (word_class (take n b)) n)
+pub word_at_length : (b : List ℕ) (n : ℕ) → word_length b ≡ n → word_at b ≡ cond (is_long n) piece.LongName (piece.Lexeme (word_class (take n b)) n)
 unfolding word_at
 word_at_length b n e = rw e refl
 
-lexeme_of_cond : (t : Bool) (kind k : Class) (n m : ℕ) → cond t piece.LongName (piece.Lexeme kind n) ≡ piece.Lexeme k m → n ≡ m
+pub lexeme_of_cond : (t : Bool) (kind k : Class) (n m : ℕ) → cond t piece.LongName (piece.Lexeme kind n) ≡ piece.Lexeme k m → n ≡ m
 lexeme_of_cond true kind k n m e = cc
 lexeme_of_cond false kind k n m e = cc
 
