@@ -1,5 +1,15 @@
 pub mod Steps
 pub mod Levels
 pub mod Cut
+pub mod Local
+pub mod Nested
 pub mod OneCutting
 pub mod Rows
+pub mod Words
+pub mod Signs
+pub mod Respelling
+pub mod Marks
+pub mod Digits
+pub mod Apart
+pub mod Fronts
+pub mod Replaced

@@ -10,7 +10,7 @@ use Rattle.ml_lexer.specs.Lexed.{Lexeme, LexedFrom, Lexed, Fault, FaultFrom, Lex
 use Rattle.ml_lexer.specs.Lexed as lexed
 
 -- nothing begins at the end
-end_piece : piece_at [] ≡ piece.Bad
+pub end_piece : piece_at [] ≡ piece.Bad
 unfolding piece_at lexeme_at sign_at begins_label begins_operator mark_length opens_quoted char_length
 end_piece = refl
 

@@ -6,3 +6,4 @@ pub mod Pieces
 pub mod Lexed
 pub mod Answers
 pub mod Laws
+pub mod Respelled

@@ -11,5 +11,5 @@ mod scan;
 mod trivia;
 
 pub use error::LexError;
-pub use laws::one_cutting;
+pub use laws::{one_cutting, replaced_names};
 pub use scan::lex;
