@@ -1,7 +1,6 @@
 -- What the lexemes are not.
-use Rattle.std.proofs.Common.{◌≡◌, ℕ, suc, ◌+◌, List, [], ◌∷◌, ◌++◌, Bool, true, false, cond, ◌==◌, ◌&&◌, ◌⊎◌, inl, inr, length, take, drop, get_or, nat_lt, Option, Some, None, refl, ap, sym, ◌∙◌, arith}
+use Rattle.std.proofs.Common.{◌≡◌, ℕ, ◌+◌, List, Bool, true, false, cond, inl, inr, take, drop, get_or, nat_lt, Option, Some, None, refl, ap, sym, ◌∙◌}
 use Rattle.std.specs.Char.{is_ascii_digit}
-use Rattle.std.specs.Str.{byte}
 use Rattle.rotor_base.specs.Name.{is_identifier_byte}
 use Rattle.rotor_base.specs.declared.token.Class.{Class}
 use Rattle.rotor_base.specs.declared.token.Class.TheVariants as class
@@ -108,11 +107,11 @@ no_word_other b nay =
     let two = cond (is_at "\"" 0 b) text three in
     ap other (lexeme_tests b (opens_quoted b) (begins_label b) refl refl ∙ ap (λ t. cond t (word_at b) (no_word b)) nay)
     ∙ cond_other (is_ascii_digit (get_or b 0 0)) (number_at b) two (number_other b) (
-        cond_other (is_at "\"" 0 b) text three (text_other (text_length b)) (
-        cond_other (opens_quoted b) quoted four (quoted_other (quoted_length b)) (
-        cond_other (is_at "'" 0 b) quote five (quote_other (char_length b) b) (
-        cond_other (is_at "`" 0 b) tag six (tag_other b) (
-        cond_other (begins_label b) (label_at b) (sign_at b) (label_other b) (sign_other b))))))
+    cond_other (is_at "\"" 0 b) text three (text_other (text_length b)) (
+    cond_other (opens_quoted b) quoted four (quoted_other (quoted_length b)) (
+    cond_other (is_at "'" 0 b) quote five (quote_other (char_length b) b) (
+    cond_other (is_at "`" 0 b) tag six (tag_other b) (
+    cond_other (begins_label b) (label_at b) (sign_at b) (label_other b) (sign_other b))))))
 
 pub word_lexeme : (b : List ℕ) → is_word_start (get_or b 0 0) ≡ true → lexeme_at b ≡ word_at b
 word_lexeme b aye = lexeme_tests b (opens_quoted b) (begins_label b) refl refl ∙ ap (λ t. cond t (word_at b) (no_word b)) aye

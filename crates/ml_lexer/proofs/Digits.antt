@@ -1,10 +1,9 @@
 -- A number that ends with the front is the same whatever follows, where the first byte behind is alike.
-use Rattle.std.proofs.Common.{◌≡◌, ◌≢◌, ℕ, zero, suc, ◌+◌, ◌-◌, ◌<◌, ◌≤◌, ◌⊎◌, inl, inr, List, [], ◌∷◌, ◌++◌, Bool, true, false, not, cond, ◌==◌, ◌&&◌, ◌||◌, length, take, drop, get_or, nat_lt, refl, ap, sym, ◌∙◌, arith, length-append, length-drop}
+use Rattle.std.proofs.Common.{◌≡◌, ℕ, ◌+◌, ◌<◌, ◌≤◌, inl, inr, List, [], ◌∷◌, ◌++◌, Bool, true, false, cond, ◌==◌, ◌&&◌, ◌||◌, length, drop, get_or, nat_lt, refl, ap, sym, ◌∙◌, arith, length-drop}
 use Rattle.std.specs.Char.{is_ascii_digit, is_ascii_hexdigit}
 use Rattle.std.specs.List.{prefix_len, list_all, list_any}
 use Rattle.std.specs.Prelude.{codes}
 use Rattle.std.specs.Str.{byte}
-use Rattle.std.proofs.lemmas.Grind.{common_steps}
 use Rattle.std.proofs.lemmas.List.{drop-append-le}
 use Rattle.std.proofs.lemmas.Bool.Decides.{nat_tests}
 use Prim.Native.String.{String}
@@ -13,11 +12,10 @@ use Rattle.rotor_base.specs.declared.token.Class.{Class}
 use Rattle.rotor_base.specs.declared.token.Class.TheVariants as class
 use Rattle.ml_lexer.specs.declared.number.Base.{Base}
 use Rattle.ml_lexer.specs.declared.number.Base.TheVariants.{Binary, Octal, Decimal, Hexadecimal}
-use Rattle.ml_lexer.specs.declared.piece.Piece.{Piece}
 use Rattle.ml_lexer.specs.declared.piece.Piece.TheVariants as piece
-use Rattle.ml_lexer.specs.Bytes.{among, is_at, is_quoted_word_byte}
+use Rattle.ml_lexer.specs.Bytes.{among, is_at}
 use Rattle.ml_lexer.specs.Numbers.{is_digit_of, digits_length, has_head, base_of, head_length, fraction_length, begins_exponent, sign_end, exponent_length, has_floats, float_part_length, suffix_length, unless_identifier_follows, number_at}
-use Rattle.ml_lexer.proofs.Local.{Alike, both_end, same_byte, both_words, which, and_left, and_right, and_false, le_or_lt}
+use Rattle.ml_lexer.proofs.Local.{Alike, both_end, same_byte, both_words, which, and_left, and_right}
 use Rattle.ml_lexer.proofs.Words.{word_byte_is_identifier}
 use Rattle.ml_lexer.proofs.Signs.{among_none, byte_behind}
 

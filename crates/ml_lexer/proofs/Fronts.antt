@@ -1,5 +1,5 @@
 -- A lexeme or a trivia that ends with the front is the same whatever follows, where the first byte behind is alike.
-use Rattle.std.proofs.Common.{◌≡◌, ◌≢◌, ℕ, zero, suc, ◌+◌, ◌-◌, ◌<◌, ◌≤◌, ◌⊎◌, inl, inr, List, [], ◌∷◌, ◌++◌, Bool, true, false, not, cond, ◌==◌, ◌&&◌, ◌||◌, length, take, drop, get_or, nat_lt, Option, Some, None, refl, ap, sym, ◌∙◌, arith, length-append}
+use Rattle.std.proofs.Common.{◌≡◌, ℕ, suc, ◌+◌, ◌<◌, ◌≤◌, ◌⊎◌, inl, inr, List, [], ◌∷◌, ◌++◌, Bool, true, false, not, cond, ◌==◌, ◌&&◌, length, get_or, Option, Some, None, refl, ap, sym, ◌∙◌, arith}
 use Rattle.std.specs.Char.{is_ascii_digit, is_ascii_hexdigit}
 use Rattle.std.specs.List.{prefix_len}
 use Rattle.std.specs.Str.{byte}
@@ -8,15 +8,14 @@ use Rattle.rotor_base.specs.declared.token.Class.{Class}
 use Rattle.rotor_base.specs.declared.token.Class.TheVariants as class
 use Rattle.ml_lexer.specs.declared.piece.Piece.{Piece}
 use Rattle.ml_lexer.specs.declared.piece.Piece.TheVariants as piece
-use Rattle.ml_lexer.specs.Bytes.{among, is_at, is_word_start, is_quoted_word_byte, word_length}
-use Rattle.ml_lexer.specs.Numbers.{number_at}
+use Rattle.ml_lexer.specs.Bytes.{among, is_at, is_word_start, is_quoted_word_byte}
 use Rattle.ml_lexer.specs.Quotes.{is_octal_digit, fit, is, plain_char, short_escape, decimal_escape, hexadecimal_escape, octal_escape, char_length, text_length, opens_quoted, quoted_length, quoted_word_length}
 use Rattle.ml_lexer.specs.Trivia.{opens_comment, comment_length, attribute_length}
-use Rattle.ml_lexer.specs.Pieces.{trivia, ended, word_at, marked_word_at, label_at, mark_length, mark_of, operator_at, char_or_variable, begins_label, begins_operator, sign_at, lexeme_at, piece_at}
-use Rattle.ml_lexer.proofs.Local.{Alike, both_end, same_byte, both_words, which, le_or_lt, alike_test, and_false, fit_same, byte_inside, run_inside, run_stops, run_exact, word_range, opens_at, quoted_far, quoted_same}
+use Rattle.ml_lexer.specs.Pieces.{trivia, ended, marked_word_at, mark_length, char_or_variable, begins_label, begins_operator, sign_at, lexeme_at, piece_at}
+use Rattle.ml_lexer.proofs.Local.{Alike, which, le_or_lt, alike_test, and_false, fit_same, byte_inside, run_inside, run_stops, run_exact, word_range, opens_at, quoted_far, quoted_same}
 use Rattle.ml_lexer.proofs.Nested.{text_length_same, comment_exact, attribute_exact}
 use Rattle.ml_lexer.proofs.Words.{alike_stops, word_same}
-use Rattle.ml_lexer.proofs.Signs.{among_none, marked_same, marked_starts, marked_long, label_same, byte_behind}
+use Rattle.ml_lexer.proofs.Signs.{marked_same, marked_starts, marked_long, label_same, byte_behind}
 use Rattle.ml_lexer.proofs.Marks.{word_is_not, cond_same, mark_tests, sign_same, sign_tests}
 use Rattle.ml_lexer.proofs.Digits.{number_same}
 use Rattle.ml_lexer.proofs.Apart.{lexeme_tests, lexeme_is_no_trivia}
@@ -111,13 +110,13 @@ lexeme_same : (k : Class) (x : ℕ) (f rest rest' : List ℕ) → Alike rest res
 lexeme_same k x f rest rest' alike opens e =
     lexeme_tests ((x ∷ f) ++ rest') _ _ opens (begins_same x f rest rest' alike)
     ∙ cond_same (is_word_start x) (word_same k (x ∷ f) rest rest' alike) (
-        cond_same (is_ascii_digit x) (number_same k (x ∷ f) rest rest' alike) (
-        cond_same (x == byte "\"") (ended_same class.Text k (text_length ((x ∷ f) ++ rest)) (text_length ((x ∷ f) ++ rest')) (suc (length f)) (λ m. text_length_same (x ∷ f) rest rest' m (omega arith))) (
-        cond_same (opens_quoted ((x ∷ f) ++ rest)) (ended_same class.Quoted k (quoted_length ((x ∷ f) ++ rest)) (quoted_length ((x ∷ f) ++ rest')) (suc (length f)) (quoted_same (x ∷ f) rest rest')) (
-        cond_same (x == byte "'") (quote_same k (x ∷ f) rest rest' alike) (
-        cond_same (x == byte "`") (marked_same class.Tag k (x ∷ f) rest rest' alike) (
-        cond_same (begins_label ((x ∷ f) ++ rest)) (label_same k (x ∷ f) rest rest' alike) (sign_same k (x ∷ f) rest rest' alike)))))))
-      (sym (lexeme_tests ((x ∷ f) ++ rest) _ _ refl refl) ∙ e)
+    cond_same (is_ascii_digit x) (number_same k (x ∷ f) rest rest' alike) (
+    cond_same (x == byte "\"") (ended_same class.Text k (text_length ((x ∷ f) ++ rest)) (text_length ((x ∷ f) ++ rest')) (suc (length f)) (λ m. text_length_same (x ∷ f) rest rest' m (omega arith))) (
+    cond_same (opens_quoted ((x ∷ f) ++ rest)) (ended_same class.Quoted k (quoted_length ((x ∷ f) ++ rest)) (quoted_length ((x ∷ f) ++ rest')) (suc (length f)) (quoted_same (x ∷ f) rest rest')) (
+    cond_same (x == byte "'") (quote_same k (x ∷ f) rest rest' alike) (
+    cond_same (x == byte "`") (marked_same class.Tag k (x ∷ f) rest rest' alike) (
+    cond_same (begins_label ((x ∷ f) ++ rest)) (label_same k (x ∷ f) rest rest' alike) (sign_same k (x ∷ f) rest rest' alike)))))))
+    (sym (lexeme_tests ((x ∷ f) ++ rest) _ _ refl refl) ∙ e)
 
 inside : (n m : ℕ) → n ≤ m → (n < m) ⊎ (n ≡ m)
 inside n m fits = elim (le_or_lt m n) [
@@ -246,9 +245,9 @@ piece_same k x f rest rest' alike lone e =
     let opens = opens_kept k x f rest rest' alike lone (lexeme_of_piece ((x ∷ f) ++ rest) k _ e) in
     piece_tests ((x ∷ f) ++ rest') _ _ (pair_same (byte "(") (byte "*") refl x f rest rest' alike) (pair_same (byte "[") (byte "@") refl x f rest rest' alike)
     ∙ cond_same (is_white x) (λ h. h) (
-        cond_same (opens_comment ((x ∷ f) ++ rest)) (λ h. absurd (trivia_is_no_lexeme _ _ _ h)) (
-        cond_same (is_at "[" 0 ((x ∷ f) ++ rest) && is_at "@" 1 ((x ∷ f) ++ rest)) (λ h. absurd (trivia_is_no_lexeme _ _ _ h)) (lexeme_same k x f rest rest' alike opens)))
-      (sym (piece_tests ((x ∷ f) ++ rest) _ _ refl refl) ∙ e)
+    cond_same (opens_comment ((x ∷ f) ++ rest)) (λ h. absurd (trivia_is_no_lexeme _ _ _ h)) (
+    cond_same (is_at "[" 0 ((x ∷ f) ++ rest) && is_at "@" 1 ((x ∷ f) ++ rest)) (λ h. absurd (trivia_is_no_lexeme _ _ _ h)) (lexeme_same k x f rest rest' alike opens)))
+    (sym (piece_tests ((x ∷ f) ++ rest) _ _ refl refl) ∙ e)
 
 trivia_some : (o : Option ℕ) (n : ℕ) → trivia o ≡ piece.Trivia n → o ≡ Some n
 trivia_some None n e = cc
@@ -258,6 +257,6 @@ pub trivia_same : (x : ℕ) (f rest rest' : List ℕ) → Alike rest rest' → p
 trivia_same x f rest rest' alike e =
     piece_tests ((x ∷ f) ++ rest') _ _ (pair_same (byte "(") (byte "*") refl x f rest rest' alike) (pair_same (byte "[") (byte "@") refl x f rest rest' alike)
     ∙ cond_same (is_white x) (λ h. h) (
-        cond_same (opens_comment ((x ∷ f) ++ rest)) (λ h. ap trivia (comment_exact (x ∷ f) rest rest' alike (trivia_some _ _ h))) (
-        cond_same (is_at "[" 0 ((x ∷ f) ++ rest) && is_at "@" 1 ((x ∷ f) ++ rest)) (λ h. ap trivia (attribute_exact (x ∷ f) rest rest' alike (trivia_some _ _ h))) (λ h. absurd (lexeme_is_no_trivia ((x ∷ f) ++ rest) (suc (length f)) h))))
-      (sym (piece_tests ((x ∷ f) ++ rest) _ _ refl refl) ∙ e)
+    cond_same (opens_comment ((x ∷ f) ++ rest)) (λ h. ap trivia (comment_exact (x ∷ f) rest rest' alike (trivia_some _ _ h))) (
+    cond_same (is_at "[" 0 ((x ∷ f) ++ rest) && is_at "@" 1 ((x ∷ f) ++ rest)) (λ h. ap trivia (attribute_exact (x ∷ f) rest rest' alike (trivia_some _ _ h))) (λ h. absurd (lexeme_is_no_trivia ((x ∷ f) ++ rest) (suc (length f)) h))))
+    (sym (piece_tests ((x ∷ f) ++ rest) _ _ refl refl) ∙ e)

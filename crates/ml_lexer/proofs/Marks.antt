@@ -1,5 +1,5 @@
 -- A mark or a sign that ends with the front is the same whatever follows, where the first byte behind is alike.
-use Rattle.std.proofs.Common.{◌≡◌, ◌≢◌, ℕ, zero, suc, ◌+◌, ◌-◌, ◌<◌, ◌≤◌, ◌⊎◌, inl, inr, List, [], ◌∷◌, ◌++◌, Bool, true, false, not, cond, ◌==◌, ◌&&◌, ◌||◌, length, take, drop, get_or, nat_lt, refl, ap, sym, ◌∙◌, arith, length-append}
+use Rattle.std.proofs.Common.{◌≡◌, ℕ, ◌+◌, ◌<◌, inl, inr, List, [], ◌∷◌, ◌++◌, Bool, true, false, cond, ◌==◌, ◌&&◌, length, drop, get_or, nat_lt, refl, ap, sym, ◌∙◌, arith}
 use Rattle.std.specs.Prelude.{codes}
 use Rattle.std.specs.Str.{byte}
 use Rattle.std.proofs.lemmas.Bool.Decides.{nat_tests}
@@ -8,7 +8,7 @@ use Rattle.rotor_base.specs.declared.token.Class.TheVariants as class
 use Rattle.ml_lexer.specs.declared.piece.Piece.{Piece}
 use Rattle.ml_lexer.specs.declared.piece.Piece.TheVariants as piece
 use Rattle.ml_lexer.specs.Bytes.{among, is_at, is_quoted_word_byte, operator_length}
-use Rattle.ml_lexer.specs.Pieces.{operator_of, operator_at, mark_length, mark_of, begins_operator, sign_at}
+use Rattle.ml_lexer.specs.Pieces.{operator_at, mark_length, mark_of, begins_operator, sign_at}
 use Rattle.ml_lexer.proofs.Local.{Alike, both_end, same_byte, both_words, which, alike_test, and_left, and_right, and_false}
 use Rattle.ml_lexer.proofs.Signs.{among_none, operator_same}
 

@@ -1,5 +1,5 @@
 -- A value name in place of a Lower is a Lower, and it opens nothing.
-use Rattle.std.proofs.Common.{◌≡◌, ◌≢◌, ℕ, zero, suc, ◌+◌, ◌-◌, ◌<◌, ◌≤◌, ◌⊎◌, inl, inr, List, [], ◌∷◌, ◌++◌, Bool, true, false, not, cond, ◌==◌, ◌&&◌, ◌||◌, length, take, drop, get_or, nat_lt, nat_le, refl, ap, sym, ◌∙◌, arith, length-append}
+use Rattle.std.proofs.Common.{◌≡◌, ℕ, zero, suc, ◌+◌, ◌<◌, ◌≤◌, inl, inr, List, [], ◌∷◌, ◌++◌, Bool, true, false, not, cond, ◌==◌, ◌&&◌, length, take, get_or, nat_le, refl, ap, sym, ◌∙◌, arith}
 use Rattle.std.specs.Char.{is_ascii_uppercase}
 use Rattle.std.specs.List.{prefix_len, list_all}
 use Rattle.std.specs.Prelude.{codes}
@@ -8,13 +8,12 @@ use Rattle.std.proofs.lemmas.Bool.Decides.{nat_tests}
 use Rattle.rotor_base.specs.Name.{starts_as_value_name, is_identifier_byte, is_reserved_word, is_value_name}
 use Rattle.rotor_base.specs.declared.token.Class.{Class}
 use Rattle.rotor_base.specs.declared.token.Class.TheVariants as class
-use Rattle.ml_lexer.specs.declared.piece.Piece.{Piece}
 use Rattle.ml_lexer.specs.declared.piece.Piece.TheVariants as piece
-use Rattle.ml_lexer.specs.Bytes.{among, is_at, is_word_start, is_quoted_word_byte, word_length}
+use Rattle.ml_lexer.specs.Bytes.{among, is_at, is_quoted_word_byte, word_length}
 use Rattle.ml_lexer.specs.Quotes.{opens_quoted}
 use Rattle.ml_lexer.specs.Trivia.{opens_comment}
 use Rattle.ml_lexer.specs.Pieces.{is_long, word_class, word_at, lexeme_at, piece_at}
-use Rattle.ml_lexer.proofs.Local.{which, and_left, and_right, le_or_lt, run_stops, word_range, opens_at, byte_of_front}
+use Rattle.ml_lexer.proofs.Local.{which, and_left, and_right, le_or_lt, run_stops, word_range, byte_of_front}
 use Rattle.ml_lexer.proofs.Words.{take_front, word_at_length, lexeme_of_cond, word_byte_is_identifier}
 use Rattle.ml_lexer.proofs.Signs.{among_none, byte_behind}
 use Rattle.ml_lexer.proofs.Marks.{word_is_not}

@@ -1,6 +1,5 @@
 -- Replaced names keep the lexemes.
-use Rattle.std.proofs.Common.{◌≡◌, ◌≢◌, ℕ, zero, suc, ◌+◌, ◌-◌, ◌<◌, ◌≤◌, ◌⊎◌, inl, inr, List, [], ◌∷◌, ◌++◌, Bool, true, false, cond, ◌==◌, length, take, drop, get_or, refl, ap, sym, ◌∙◌, arith, drop-drop, get_or-drop}
-use Rattle.std.specs.List.{prefix_len}
+use Rattle.std.proofs.Common.{◌≡◌, ℕ, suc, ◌+◌, ◌-◌, ◌<◌, ◌≤◌, inl, inr, List, [], ◌∷◌, ◌++◌, true, false, ◌==◌, length, take, drop, get_or, refl, ap, sym, ◌∙◌, arith, drop-drop, get_or-drop}
 use Rattle.std.specs.Str.{byte}
 use Rattle.std.proofs.Math.Seq.{drop-append_seam}
 use Rattle.std.proofs.lemmas.Bool.Decides.{nat_tests}
@@ -21,7 +20,7 @@ use Rattle.ml_lexer.proofs.Words.{alike_stops, word_byte_is_identifier}
 use Rattle.ml_lexer.proofs.Signs.{byte_behind}
 use Rattle.ml_lexer.proofs.Marks.{word_is_not}
 use Rattle.ml_lexer.proofs.Fronts.{piece_same, trivia_same, opens_front, lexeme_of_piece, quoted_is_long}
-use Rattle.ml_lexer.proofs.Replaced.{LowerFront, lower_front, name_piece, name_starts, name_opens, run_of_piece, run_of_trivia}
+use Rattle.ml_lexer.proofs.Replaced.{lower_front, name_piece, name_starts, name_opens, run_of_piece, run_of_trivia}
 
 lexeme_sizes : (kind k : Class) (n m : ℕ) → ◌≡◌ {A = Piece} (piece.Lexeme kind n) (piece.Lexeme k m) → n ≡ m
 lexeme_sizes kind k n m e = cc
@@ -126,7 +125,7 @@ keep_trivia : (whole : List ℕ) (at now x : ℕ) (f rest rest' : List ℕ) (lex
 keep_trivia whole at now x f rest rest' lexemes p k = record {
   cut = lexed.trivia (x ∷ f) rest' refl (trivia_same x f rest rest' k.alike p) k.cut;
   alike = same_byte;
-  brace = λ before e b shut. opens_front (x ∷ f) rest rest' k.alike (run_of_trivia x f rest p) ∙ shut
+  brace = λ before e b shut. opens_front (x ∷ f) rest rest' k.alike (run_of_trivia x f rest p) ∙ shut;
 }
 
 -- a byte of the whole file
@@ -159,7 +158,7 @@ keep_lexeme : (whole : List ℕ) (kind : Class) (at now x : ℕ) (f rest rest' :
 keep_lexeme whole kind at now x f rest rest' lexemes w p k = record {
   cut = lexed.lexeme kind (x ∷ f) rest' refl (piece_same kind x f rest rest' k.alike (lone_brace whole kind at (now + suc (length f)) x f rest rest' lexemes w p k) p) k.cut;
   alike = same_byte;
-  brace = λ before e b shut. opens_front (x ∷ f) rest rest' k.alike (run_of_piece kind x f rest p) ∙ shut
+  brace = λ before e b shut. opens_front (x ∷ f) rest rest' k.alike (run_of_piece kind x f rest p) ∙ shut;
 }
 
 alike_words : (front word rest rest' : List ℕ) → 0 < length front → is_quoted_word_byte (get_or front 0 0) ≡ true → 0 < length word → is_quoted_word_byte (get_or word 0 0) ≡ true → Alike (front ++ rest) (word ++ rest')
@@ -187,7 +186,7 @@ keep_name whole at now x f rest rest' word lexemes w p name free k =
     record {
       cut = lexed.lexeme class.Lower word rest' refl (name_piece word rest' name stops) k.cut;
       alike = alike_words (x ∷ f) word rest rest' front.some front.word starts.0 starts.1;
-      brace = λ before e b shut. name_opens word rest' name stops (no_bar_behind whole at x f rest rest' w free k.alike before e b)
+      brace = λ before e b shut. name_opens word rest' name stops (no_bar_behind whole at x f rest rest' w free k.alike before e b);
     }
 
 keep_either : (whole : List ℕ) (kind : Class) (at now x : ℕ) (f rest rest' word : List ℕ) (lexemes : List Lexeme) → drop at whole ≡ (x ∷ f) ++ rest → piece_at ((x ∷ f) ++ rest) ≡ piece.Lexeme kind (suc (length f)) → MayBecome whole (record { class = kind; start = at; end = at + suc (length f); bytes = x ∷ f }) word → Kept whole (at + suc (length f)) (now + length word) rest rest' lexemes → Kept whole at now ((x ∷ f) ++ rest) (word ++ rest') (record { class = kind; start = now; end = now + length word; bytes = word } ∷ lexemes)
@@ -203,13 +202,13 @@ kept whole now words (lexed.trivia {at = at} {lexemes = olds} (x ∷ f) rest e p
     let more = kept whole (now + suc (length f)) words cut (rest_of_whole whole at (x ∷ f) rest (w ∙ e)) all in
     let from = from_cut cut in
     kept_as e (ap (λ l. respelled_from at l olds words) e ∙ skip_bytes at (x ∷ f) rest olds words from) (skip_lexemes at now (suc (length f)) olds words from)
-      (keep_trivia whole at now x f rest _ _ (ap piece_at (sym e) ∙ p) more)
+    (keep_trivia whole at now x f rest _ _ (ap piece_at (sym e) ∙ p) more)
 kept whole now [] (lexed.lexeme kind front rest e p cut) w all = absurd all
 kept whole now (word ∷ words) (lexed.lexeme kind [] rest e p cut) w all = absurd (no_still_lexeme cut kind (ap piece_at (sym e) ∙ p))
 kept whole now (word ∷ words) (lexed.lexeme {at = at} {lexemes = olds} kind (x ∷ f) rest e p cut) w all =
     let more = kept whole (now + length word) words cut (rest_of_whole whole at (x ∷ f) rest (w ∙ e)) all.1 in
     kept_as e (ap (λ l. respelled_from at l (record { class = kind; start = at; end = at + suc (length f); bytes = x ∷ f } ∷ olds) (word ∷ words)) e ∙ here_bytes at kind (x ∷ f) rest word olds words) (here_lexemes at now kind (x ∷ f) word olds words)
-      (keep_either whole kind at now x f rest _ word _ (w ∙ e) (ap piece_at (sym e) ∙ p) all.0 more)
+    (keep_either whole kind at now x f rest _ word _ (w ∙ e) (ap piece_at (sym e) ∙ p) all.0 more)
 
 pub respelled_keep_lexemes : RespelledKeepLexemes
 respelled_keep_lexemes bytes lexemes words cut all = (kept bytes 0 words cut refl all).cut

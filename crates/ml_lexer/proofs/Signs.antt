@@ -1,10 +1,9 @@
 -- A marked word, a label, an operator or a mark that ends with the front is the same whatever follows, where the first
 -- byte behind is alike.
-use Rattle.std.proofs.Common.{◌≡◌, ◌≢◌, ℕ, zero, suc, ◌+◌, ◌-◌, ◌<◌, ◌≤◌, ◌⊎◌, inl, inr, List, [], ◌∷◌, ◌++◌, Bool, true, false, not, cond, ◌==◌, ◌&&◌, ◌||◌, length, take, drop, get_or, nat_lt, refl, ap, sym, ◌∙◌, arith, length-append}
+use Rattle.std.proofs.Common.{◌≡◌, ℕ, suc, ◌+◌, ◌<◌, ◌≤◌, inl, inr, List, [], ◌∷◌, ◌++◌, Bool, true, false, not, cond, ◌==◌, length, take, drop, get_or, refl, ap, sym, ◌∙◌, arith}
 use Rattle.std.specs.List.{prefix_len, list_all, list_any}
 use Rattle.std.specs.Prelude.{codes}
 use Rattle.std.specs.Str.{byte}
-use Rattle.std.proofs.lemmas.Grind.{common_steps}
 use Rattle.std.proofs.lemmas.List.{take-append-le}
 use Rattle.std.proofs.lemmas.Bool.Decides.{nat_tests}
 use Rattle.rotor_base.specs.Name.{is_identifier_byte}
@@ -12,9 +11,9 @@ use Rattle.rotor_base.specs.declared.token.Class.{Class}
 use Rattle.rotor_base.specs.declared.token.Class.TheVariants as class
 use Rattle.ml_lexer.specs.declared.piece.Piece.{Piece}
 use Rattle.ml_lexer.specs.declared.piece.Piece.TheVariants as piece
-use Rattle.ml_lexer.specs.Bytes.{among, is_at, is_word_start, is_operator_byte, is_quoted_word_byte, word_length, operator_length}
-use Rattle.ml_lexer.specs.Pieces.{is_long, word_class, marked_word_at, is_keyword_class, label_at, operator_of, operator_at, mark_length, mark_of, begins_operator, begins_label, sign_at}
-use Rattle.ml_lexer.proofs.Local.{Alike, both_end, same_byte, both_words, which, alike_test, and_left, and_right, and_false, byte_inside, word_range, run_inside, run_stops, run_exact}
+use Rattle.ml_lexer.specs.Bytes.{is_at, is_word_start, is_operator_byte, is_quoted_word_byte, word_length, operator_length}
+use Rattle.ml_lexer.specs.Pieces.{is_long, word_class, marked_word_at, is_keyword_class, label_at, operator_of, operator_at}
+use Rattle.ml_lexer.proofs.Local.{Alike, which, alike_test, and_left, and_right, byte_inside, word_range, run_inside, run_stops, run_exact}
 use Rattle.ml_lexer.proofs.Words.{alike_stops, word_byte_is_identifier, take_front}
 
 -- a byte that passes a test is none of those that do not

@@ -1,15 +1,12 @@
 -- A word, a number or a mark that ends with the front is the same whatever follows, where the first byte behind is alike.
-use Rattle.std.proofs.Common.{◌≡◌, ◌≢◌, ℕ, zero, suc, ◌+◌, ◌-◌, ◌<◌, ◌≤◌, ◌⊎◌, inl, inr, List, [], ◌∷◌, ◌++◌, Bool, true, false, cond, ◌==◌, ◌&&◌, length, take, drop, get_or, nat_lt, Option, Some, None, refl, ap, sym, ◌∙◌, arith, length-append, length-drop}
+use Rattle.std.proofs.Common.{◌≡◌, ℕ, suc, ◌+◌, inl, inr, List, [], ◌∷◌, ◌++◌, Bool, true, false, cond, length, take, refl, ap, sym, ◌∙◌, arith}
 use Rattle.std.specs.List.{prefix_len}
-use Rattle.std.proofs.lemmas.Grind.{common_steps}
 use Rattle.std.proofs.lemmas.Bool.Decides.{nat_tests}
 use Rattle.rotor_base.specs.Name.{is_identifier_byte}
 use Rattle.rotor_base.specs.declared.token.Class.{Class}
-use Rattle.rotor_base.specs.declared.token.Class.TheVariants as class
-use Rattle.ml_lexer.specs.declared.piece.Piece.{Piece}
 use Rattle.ml_lexer.specs.declared.piece.Piece.TheVariants as piece
-use Rattle.ml_lexer.specs.Bytes.{among, is_at, is_word_start, is_operator_byte, is_quoted_word_byte, identifier_length, word_length, operator_length}
-use Rattle.ml_lexer.specs.Pieces.{is_long, word_class, word_at, marked_word_at}
+use Rattle.ml_lexer.specs.Bytes.{is_quoted_word_byte, word_length}
+use Rattle.ml_lexer.specs.Pieces.{is_long, word_class, word_at}
 use Rattle.ml_lexer.proofs.Local.{Alike, both_end, same_byte, both_words, which, word_range, run_stops, run_exact}
 
 -- a run that stops before what follows stops before what is alike
