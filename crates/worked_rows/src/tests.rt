@@ -1,6 +1,7 @@
 mod calls;
 mod faults;
 mod graph;
+mod lexemes;
 mod one_line;
 mod outside;
 mod plain;
