@@ -1,0 +1,8 @@
+pub mod Tok
+pub mod Tree
+pub mod Words
+pub mod Runs
+pub mod WellFormed
+pub mod View
+pub mod Places
+pub mod Sites

@@ -1,0 +1,10 @@
+-- The places that the program has found.
+use Rattle.std.specs.Prelude.{List, map}
+use Rattle.ml_syntax.specs.declared.sites.Site.{Site}
+use Rattle.ml_syntax.specs.Places as pure
+
+abbrev pub view_site : Site → pure.Site
+view_site x = record { binds = x.binds; at = x.mark.token; name = x.mark.name; pun = x.mark.pun; operator = x.mark.operator }
+
+abbrev pub view_sites : List Site → List pure.Site
+view_sites = map view_site

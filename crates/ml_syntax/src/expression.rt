@@ -1,0 +1,362 @@
+use crate::pattern::Pat;
+use crate::word::{Bracket, Path, Run, ValueName, Word};
+
+/// An expression (the manual's chapter on expressions). `at` is the token of its first word, where that word is
+/// fixed; other fixed words that have a place, as the `=` of a binding, stand under their own names.
+#[cycle(expression)]
+#[derive(Drop)]
+pub enum Expr {
+    /// Expressions between `;`, with or without a last `;`.
+    Seq {
+        first: Box<Expr>,
+        rest: Vec<Expr>,
+        last: bool,
+    },
+    /// `let` with bindings between `and`, then `in`.
+    Let {
+        at: u32,
+        recursive: bool,
+        first: Box<Binding>,
+        rest: Vec<Binding>,
+        body: Box<Expr>,
+    },
+    /// `let open`, with or without `!`.
+    LetOpen {
+        at: u32,
+        open: u32,
+        bang: Option<Word>,
+        path: Path,
+        body: Box<Expr>,
+    },
+    /// `let module`.
+    LetModule {
+        at: u32,
+        module: u32,
+        name: Word,
+        equals: u32,
+        value: LocalModule,
+        body: Box<Expr>,
+    },
+    Fun {
+        at: u32,
+        params: Vec<Param>,
+        body: Box<Expr>,
+    },
+    /// `function` with cases between `|`. `bar` says whether one stands before the first.
+    Function {
+        at: u32,
+        bar: bool,
+        first: Box<Case>,
+        rest: Vec<Case>,
+    },
+    Match {
+        at: u32,
+        subject: Box<Expr>,
+        bar: bool,
+        first: Box<Case>,
+        rest: Vec<Case>,
+    },
+    Try {
+        at: u32,
+        subject: Box<Expr>,
+        bar: bool,
+        first: Box<Case>,
+        rest: Vec<Case>,
+    },
+    /// `if`, each `else if`, and the last `else`.
+    If {
+        at: u32,
+        test: Box<Expr>,
+        then: Box<Expr>,
+        more: Vec<Branch>,
+        otherwise: Option<Box<Expr>>,
+    },
+    /// Operands between `:=` or `<-`.
+    Assign {
+        first: Box<Expr>,
+        rest: Vec<(Word, Expr)>,
+    },
+    /// Operands between `,`.
+    Tuple {
+        first: Box<Expr>,
+        rest: Vec<Expr>,
+    },
+    /// Operands between the operators of one level, from 5 to 12.
+    Chain {
+        level: u32,
+        first: Box<Expr>,
+        rest: Vec<(Word, Expr)>,
+    },
+    /// A prefix `-` or `-.`
+    Minus {
+        sign: Word,
+        operand: Box<Expr>,
+    },
+    Apply {
+        function: Box<Expr>,
+        arguments: Vec<Argument>,
+    },
+    /// A constructor with an argument.
+    ConstrApply {
+        path: Path,
+        argument: Box<Expr>,
+    },
+    /// A tag with an argument.
+    TagApply {
+        tag: Word,
+        argument: Box<Expr>,
+    },
+    Assert {
+        at: u32,
+        argument: Box<Expr>,
+    },
+    Lazy {
+        at: u32,
+        argument: Box<Expr>,
+    },
+    /// An expression and the parts after it, each with a `.`
+    Postfix {
+        base: Box<Expr>,
+        parts: Vec<Part>,
+    },
+    Prefixed {
+        operator: Word,
+        operand: Box<Expr>,
+    },
+    /// A number, character or text.
+    Literal(Word),
+    /// `true` or `false`
+    Bool {
+        at: u32,
+        value: bool,
+    },
+    /// A value, after the names of modules, each with a `.`
+    Value {
+        path: Vec<Word>,
+        name: ValueName,
+    },
+    Constr(Path),
+    Tag(Word),
+    /// `( )`
+    Unit {
+        at: u32,
+    },
+    /// An expression in parentheses.
+    Paren {
+        at: u32,
+        body: Box<Expr>,
+    },
+    /// An expression and its type in parentheses.
+    Typed {
+        at: u32,
+        body: Box<Expr>,
+        run: Run,
+    },
+    /// An expression, its type or none, `:>` and a type, in parentheses.
+    Coerced {
+        at: u32,
+        body: Box<Expr>,
+        from: Option<Run>,
+        to: Run,
+    },
+    /// `begin end`
+    EmptyBegin {
+        at: u32,
+    },
+    /// `begin`, an expression and `end`.
+    Begin {
+        at: u32,
+        body: Box<Expr>,
+    },
+    /// `[ ]` or `[| |]`
+    Empty {
+        at: u32,
+        bracket: Bracket,
+    },
+    /// A list or an array, with or without a last `;`.
+    List {
+        at: u32,
+        bracket: Bracket,
+        first: Box<Expr>,
+        rest: Vec<Expr>,
+        last: bool,
+    },
+    /// A record, with or without an expression before `with`, and with or without a last `;`.
+    Record {
+        at: u32,
+        base: Option<Box<Expr>>,
+        first: Box<Field>,
+        rest: Vec<Field>,
+        last: bool,
+    },
+    /// A module path, a `.` and a bracketed expression.
+    Opened {
+        path: Path,
+        body: Box<Expr>,
+    },
+    While {
+        at: u32,
+        test: Box<Expr>,
+        body: Box<Expr>,
+    },
+    /// `for` with its variable, `=`, the first bound, `to` or `downto`, and the last bound.
+    For {
+        at: u32,
+        variable: Variable,
+        equals: u32,
+        from: Box<Expr>,
+        down: bool,
+        to: Box<Expr>,
+        body: Box<Expr>,
+    },
+}
+
+/// The variable of a `for`: a name, or `_`.
+#[derive(Debug, Drop)]
+pub enum Variable {
+    Lower(Word),
+    Any { at: u32 },
+}
+
+/// A part of a `let`.
+#[cycle(expression)]
+#[derive(Drop)]
+pub enum Binding {
+    /// A pattern, its type or none, `=` and an expression.
+    Plain {
+        pat: Pat,
+        run: Option<Run>,
+        equals: u32,
+        value: Expr,
+    },
+    /// A function's name, parameters, type or none, `=` and body.
+    Applied {
+        name: ValueName,
+        params: Vec<Param>,
+        run: Option<Run>,
+        equals: u32,
+        value: Expr,
+    },
+}
+
+/// A case: a pattern, a guard or none, and a body.
+#[cycle(expression)]
+#[derive(Drop)]
+pub struct Case {
+    pub pat: Pat,
+    pub guard: Option<Box<Expr>>,
+    pub body: Expr,
+}
+
+/// An `else if`, whose `if` is `at`.
+#[cycle(expression)]
+#[derive(Drop)]
+pub struct Branch {
+    pub at: u32,
+    pub test: Expr,
+    pub then: Expr,
+}
+
+/// An argument.
+#[cycle(expression)]
+#[derive(Drop)]
+pub enum Argument {
+    Positional(Expr),
+    /// A label without a colon, which is a value of that name too.
+    LabelPun(Word),
+    /// A label with a colon, and its value.
+    Labelled { label: Word, value: Expr },
+}
+
+/// A parameter.
+#[cycle(expression)]
+#[derive(Drop)]
+pub enum Param {
+    Pattern(Pat),
+    /// A label without a colon, which binds a variable of that name.
+    Label(Word),
+    /// A label with a colon, and a pattern.
+    LabelPattern {
+        label: Word,
+        pat: Pat,
+    },
+    /// An optional label with a colon, and in parentheses a pattern, its type or none, `=` and a default value.
+    Default {
+        label: Word,
+        open: u32,
+        pat: Pat,
+        run: Option<Run>,
+        equals: u32,
+        value: Expr,
+    },
+    /// `~` or `?`, and in parentheses a label that binds a variable of its name, and its type or none.
+    Wrapped {
+        at: u32,
+        optional: bool,
+        open: u32,
+        name: Word,
+        run: Option<Run>,
+    },
+    /// `?`, and in parentheses such a label, its type or none, `=` and a default value.
+    WrappedDefault {
+        at: u32,
+        open: u32,
+        name: Word,
+        run: Option<Run>,
+        equals: u32,
+        value: Expr,
+    },
+    /// `( type` and names of types `)`.
+    Types {
+        open: u32,
+        names: Vec<Word>,
+    },
+}
+
+/// A part after a `.`
+#[cycle(expression)]
+#[derive(Drop)]
+pub enum Part {
+    /// A field's name, after the names of modules, each with a `.`
+    Select { path: Vec<Word>, label: Word },
+    /// An expression in parentheses.
+    Index { open: u32, index: Expr },
+    /// An expression in brackets.
+    CharIndex { open: u32, index: Expr },
+}
+
+/// A field of a record.
+#[cycle(expression)]
+#[derive(Drop)]
+pub enum Field {
+    /// A field whose value is the variable of its name.
+    FieldPun {
+        path: Vec<Word>,
+        label: Word,
+        run: Option<Run>,
+    },
+    /// A field with a value.
+    Assigned {
+        path: Vec<Word>,
+        label: Word,
+        run: Option<Run>,
+        equals: u32,
+        value: Expr,
+    },
+}
+
+/// The module of a `let module`: a path, and the arguments after it.
+#[cycle(local)]
+#[derive(Drop)]
+pub struct LocalModule {
+    pub path: Path,
+    pub arguments: Vec<LocalArgument>,
+}
+
+/// An argument of it, in parentheses, or none.
+#[cycle(local)]
+#[derive(Drop)]
+pub enum LocalArgument {
+    Module { open: u32, module: LocalModule },
+    Nothing { open: u32 },
+}

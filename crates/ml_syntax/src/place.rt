@@ -1,0 +1,75 @@
+//! The places of a file's values.
+
+ghost use Rattle.std.specs.Prelude.{◌≡◌, IfOk, map};
+ghost use Rattle.ml_syntax.specs.View.{view_file};
+ghost use Rattle.ml_syntax.specs.Places.{sites, binder_sites, use_sites, pun_sites, mark};
+ghost use Rattle.ml_syntax.specs.Sites.{view_sites};
+
+use crate::module::FileTree;
+use crate::module_places::{body, face};
+use crate::sites::Site;
+use rotor_base::{Memory, Name};
+use std::alloc::Global;
+
+/// A place of a value: its token, from 1, its name, whether its word is a label or a field too, and whether it is an
+/// operator.
+#[derive(Debug, Drop)]
+pub struct Mark {
+    pub token: u32,
+    pub name: Name,
+    pub pun: bool,
+    pub operator: bool,
+}
+
+/// The places that declare a value, in order of tokens (the manual's chapters on names and patterns). `Memory` is
+/// the only error.
+pub fn binders(alloc: Global, tree: &FileTree) -> Result<Vec<Mark>, Memory>
+    ensures { IfOk result (λ marks. marks.items ≡ map mark (binder_sites (view_file tree.now))) }
+{
+    let mut marks = Vec::new(alloc);
+    for site in all_sites(alloc, tree)? {
+        if site.binds {
+            marks.push(site.mark)?;
+        }
+    }
+    Ok(marks)
+}
+
+/// The places that use a value, in order of tokens (the manual's chapters on names and expressions). The name of a
+/// prefix `-` is `~-`, that of a prefix `-.` is `~-.`. `Memory` is the only error.
+pub fn value_refs(alloc: Global, tree: &FileTree) -> Result<Vec<Mark>, Memory>
+    ensures { IfOk result (λ marks. marks.items ≡ map mark (use_sites (view_file tree.now))) }
+{
+    let mut marks = Vec::new(alloc);
+    for site in all_sites(alloc, tree)? {
+        if !site.binds {
+            marks.push(site.mark)?;
+        }
+    }
+    Ok(marks)
+}
+
+/// The tokens of the places whose word is a label or a field too, in order. `Memory` is the only error.
+pub fn puns(alloc: Global, tree: &FileTree) -> Result<Vec<u32>, Memory>
+    ensures { IfOk result (λ tokens. tokens.items ≡ map (λ x. x.at) (pun_sites (view_file tree.now))) }
+{
+    let mut tokens = Vec::new(alloc);
+    for site in all_sites(alloc, tree)? {
+        if site.mark.pun {
+            tokens.push(site.mark.token)?;
+        }
+    }
+    Ok(tokens)
+}
+
+/// All places of a file.
+fn all_sites(alloc: Global, tree: &FileTree) -> Result<Vec<Site>, Memory>
+    ensures { IfOk result (λ found. view_sites found.items ≡ sites (view_file tree.now)) }
+{
+    let mut found = Vec::new(alloc);
+    match tree {
+        FileTree::Body(_, items) => body(alloc, &mut found, items)?,
+        FileTree::Face(_, items) => face(alloc, &mut found, items)?,
+    }
+    Ok(found)
+}

@@ -1,0 +1,179 @@
+//! The places that have been found in a tree.
+
+ghost use Rattle.std.specs.Prelude.{◌≡◌, ◌++◌, ◌∷◌, [], OnOk};
+ghost use Rattle.ml_syntax.specs.View.{view_word, view_tok, view_name};
+ghost use Rattle.ml_syntax.specs.Places.{plain, punned, operated, operator_sites, name_sites, label_name, without_colon, label_site, variable_sites};
+ghost use Rattle.ml_syntax.specs.View.{view_variable};
+ghost use Rattle.ml_syntax.specs.Sites.{view_sites};
+ghost use Rattle.ml_syntax.specs.Tok.{tok_or, fixed_of, word as word_tok};
+
+use crate::expression::Variable;
+use crate::fixed::{Fixed, fixed_word};
+use crate::place::Mark;
+use crate::word::{ValueName, Word};
+use rotor_base::{Class, Memory, Name};
+use std::alloc::Global;
+
+/// A place, and whether it is a binder.
+#[derive(Drop)]
+pub struct Site {
+    pub binds: bool,
+    pub mark: Mark,
+}
+
+/// Adds the place of a lower-case name.
+pub fn add_plain(
+    alloc: Global,
+    found: &mut Vec<Site>,
+    binds: bool,
+    word: &Word,
+) -> Result<(), Memory>
+    ensures { OnOk result (view_sites found.new.items ≡ view_sites found.old.items ++ plain binds (view_word word.now) ∷ []) }
+{
+    let name = Name::new(alloc, word.name.as_bytes())?;
+    let mark = Mark {
+        token: word.token,
+        name,
+        pun: false,
+        operator: false,
+    };
+    found.push(Site { binds, mark })?;
+    Ok(())
+}
+
+/// Adds the place of a name that is a label or a field too.
+pub fn add_pun(
+    alloc: Global,
+    found: &mut Vec<Site>,
+    binds: bool,
+    token: u32,
+    name: &[u8],
+) -> Result<(), Memory>
+    ensures { OnOk result (view_sites found.new.items ≡ view_sites found.old.items ++ punned binds token name.now ∷ []) }
+{
+    let name = Name::new(alloc, name)?;
+    let mark = Mark {
+        token,
+        name,
+        pun: true,
+        operator: false,
+    };
+    found.push(Site { binds, mark })?;
+    Ok(())
+}
+
+/// Adds the place of an operator.
+pub fn add_operator(
+    alloc: Global,
+    found: &mut Vec<Site>,
+    binds: bool,
+    token: u32,
+    name: &[u8],
+) -> Result<(), Memory>
+    ensures { OnOk result (view_sites found.new.items ≡ view_sites found.old.items ++ operated binds token name.now ∷ []) }
+{
+    let name = Name::new(alloc, name)?;
+    let mark = Mark {
+        token,
+        name,
+        pun: false,
+        operator: true,
+    };
+    found.push(Site { binds, mark })?;
+    Ok(())
+}
+
+/// The word of a label: what stands between the `~` or `?` and the colon.
+fn word_of_label(label: &[u8]) -> &[u8]
+    ensures { result.now ≡ label_name label.now }
+{
+    match label {
+        [] => label,
+        [_, rest @ ..] => before_colon(rest),
+    }
+}
+
+/// A text without the colon at its end.
+fn before_colon(text: &[u8]) -> &[u8]
+    ensures { result.now ≡ without_colon text.now }
+{
+    match text.split_last() {
+        None => text,
+        Some((last, front)) => { if *last == b':' { front } else { text } }
+    }
+}
+
+/// Adds the place of a label without a colon.
+pub fn add_label(
+    alloc: Global,
+    found: &mut Vec<Site>,
+    binds: bool,
+    word: &Word,
+) -> Result<(), Memory>
+    ensures { OnOk result (view_sites found.new.items ≡ view_sites found.old.items ++ label_site binds (view_word word.now) ∷ []) }
+{
+    add_pun(
+        alloc,
+        found,
+        binds,
+        word.token,
+        word_of_label(word.name.as_bytes()),
+    )
+}
+
+/// Adds the place of the operator that a word is, if it is one: `::`, `<-` and `,` are no references.
+pub fn add_operator_word(
+    alloc: Global,
+    found: &mut Vec<Site>,
+    binds: bool,
+    word: &Word,
+) -> Result<(), Memory>
+    ensures { OnOk result (view_sites found.new.items ≡ operator_sites (view_sites found.old.items) binds (view_tok word.now)) }
+{
+    match word.class {
+        Class::Keyword => add_unless_fixed(alloc, found, binds, word),
+        Class::Mark => add_unless_fixed(alloc, found, binds, word),
+        _ => add_operator(alloc, found, binds, word.token, word.name.as_bytes()),
+    }
+}
+
+/// Adds the place of a keyword or mark that is an operator.
+fn add_unless_fixed(
+    alloc: Global,
+    found: &mut Vec<Site>,
+    binds: bool,
+    word: &Word,
+) -> Result<(), Memory>
+    ensures { OnOk result (view_sites found.new.items ≡ operator_sites (view_sites found.old.items) binds (tok_or (word_tok word.now.class (view_word word.now)) word.now.token (fixed_of word.now.name))) }
+{
+    match fixed_word(word.name.as_bytes()) {
+        None => add_operator(alloc, found, binds, word.token, word.name.as_bytes()),
+        Some(Fixed::Equals) => add_operator(alloc, found, binds, word.token, b"="),
+        Some(_) => Ok(()),
+    }
+}
+
+/// Adds the place of a value's name.
+pub fn add_name(
+    alloc: Global,
+    found: &mut Vec<Site>,
+    binds: bool,
+    name: &ValueName,
+) -> Result<(), Memory>
+    ensures { OnOk result (view_sites found.new.items ≡ name_sites (view_sites found.old.items) binds (view_name name.now)) }
+{
+    match name {
+        ValueName::Lower(word) => add_plain(alloc, found, binds, word),
+        ValueName::Operator { word, .. } => add_operator_word(alloc, found, binds, word),
+    }
+}
+
+/// Adds the place of the variable of a `for`.
+pub fn add_variable(alloc: Global, found: &mut Vec<Site>, variable: &Variable) -> Result<(), Memory>
+    ensures { OnOk result (view_sites found.new.items ≡ variable_sites (view_sites found.old.items) (view_variable variable.now)) }
+{
+    match variable {
+        Variable::Lower(word) => add_plain(alloc, found, true, word),
+        Variable::Any { .. } => Ok(()),
+    }
+}
