@@ -1,3 +1,4 @@
 pub mod Views
 pub mod Variants
 pub mod Branches
+pub mod Spelling

@@ -6,3 +6,5 @@ pub mod WellFormed
 pub mod View
 pub mod Places
 pub mod Sites
+pub mod Respelled
+pub mod Sound

@@ -4,6 +4,7 @@
 mod expression;
 mod expression_places;
 mod fixed;
+mod laws;
 mod module;
 mod module_places;
 mod pattern;
@@ -16,6 +17,7 @@ pub use expression::{
     Argument, Binding, Branch, Case, Expr, Field, LocalArgument, LocalModule, Param, Part, Variable,
 };
 pub use fixed::{Fixed, fixed_word};
+pub use laws::respelling_keeps_the_tree;
 pub use module::{
     Constraint, External, FileTree, FunctorParam, Item, ModArgument, ModExpr, ModType, ModuleName,
     Open, Project, SigItem, UnitTree, WithClause,

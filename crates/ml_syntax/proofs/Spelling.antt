@@ -1,0 +1,887 @@
+-- A respelled tree has the respelled words, and is well formed.
+use Rattle.std.proofs.Common.{◌≡◌, ◌≢◌, ℕ, ◌⊎◌, inl, inr, List, [], ◌∷◌, ◌++◌, map, Bool, true, false, ◌||◌, Option, Some, None, refl, sym, ap, subst, ◌∙◌, arith}
+use Rattle.rotor_base.specs.declared.token.Class.TheVariants as class
+use Rattle.ml_syntax.specs.declared.fixed.Fixed.{Fixed}
+use Rattle.ml_syntax.specs.declared.fixed.Fixed.TheVariants as key
+use Rattle.ml_syntax.specs.Tok.{Name, Tok, fixed, placed, word}
+use Rattle.ml_syntax.specs.Runs.{Bracketing, bracketing, after_bracket, is_matched, in_type, beside_type, begins_type, is_type_run, in_declaration, is_declaration_run, opens, closes, neither}
+use Rattle.ml_syntax.specs.Tree.{ValueName, Pat, Pats, PatField, PatFields, Variable, LocalModule, LocalArguments, Expr, Links, MaybeExpr, Tail, Binding, Bindings, Case, Cases, Argument, Arguments, Param, Params, Part, Parts, Field, Fields, ModuleName, Constraint, WithClause, ModExpr, ModArgument, ModArguments, FunctorParam, FunctorParams, ModType, MaybeType, Item, Items, SigItem, SigItems, PlainName, OperatorName, AsPat, OrPat, TuplePat, ConsPat, ConstrApplyPat, TagApplyPat, LazyPat, ExceptionPat, AnyPat, ValuePat, LiteralPat, NegativePat, RangePat, ConstrPat, TagPat, BoolPat, UnitPat, ParenPat, TypedPat, EmptyPat, ListPat, RecordPat, OpenedPat, no_pat, more_pat, PunnedField, MatchedField, no_pat_field, more_pat_field, PlainVariable, AnyVariable, LocalPath, no_local, more_local, no_module, Seq, Let, LetOpen, LetModule, Fun, Function, Match, Try, If, Chain, Minus, Apply, ConstrApply, TagApply, Assert, Lazy, Postfix, Prefixed, Literal, BoolExpr, Value, Constr, Tag, UnitExpr, Paren, Typed, Coerced, EmptyBegin, Begin, EmptyList, ListExpr, Record, Opened, While, For, no_link, more_link, no_expr, some_expr, no_else, or_else, or_if, PlainBinding, AppliedBinding, no_binding, more_binding, CaseOf, no_case, more_case, Positional, LabelPun, Labelled, no_argument, more_argument, PatternParam, LabelParam, LabelPattern, DefaultParam, WrappedParam, WrappedDefault, TypesParam, no_param, more_param, LabelPart, IndexPart, CharPart, no_part, more_part, FieldPun, AssignedField, no_field, more_field, UpperName, AnyName, ConstraintOf, WithOf, ModPath, Struct, Functor, ModApply, ModParen, Sealed, ModuleArgument, SealedArgument, NoArgument, no_mod_argument, more_mod_argument, NamedParam, NoParam, no_functor_param, more_functor_param, TypePath, Sig, TypeOf, TypeParen, With, FunctorType, ParamArrow, Arrow, no_type, some_type, ExprItem, SeparatorItem, ValueItem, ExternalItem, TypeItem, ExceptionItem, ModuleItem, ModuleTypeItem, OpenItem, IncludeItem, no_item, more_item, SeparatorSig, ValSig, ExternalSig, TypeSig, ExceptionSig, ModuleSig, AliasSig, ModuleTypeSig, OpenSig, IncludeSig, no_sig_item, more_sig_item, Body, Face}
+use Rattle.ml_syntax.specs.Words.{dotted_then, path_then, qualified_then, name_then, names_then, type_then, optional_then, bang_then, truth, opening, closing, open_then, pat_then, pats_then, pat_field_then, pat_fields_then, variable_then, local_then, locals_then, lowers_then, wrap, direction, expr_then, links_then, base_then, guard_then, tail_then, binding_then, bindings_then, case_then, cases_then, argument_then, arguments_then, param_then, params_then, part_then, parts_then, field_then, fields_then, module_name_then, constraint_then, constraints_then, withs_then, texts_then, external_then, open_item_then, mod_then, mod_argument_then, mod_arguments_then, functor_param_then, functor_params_then, mod_type_then, signature_then, item_then, items_then, sig_item_then, sig_items_then}
+use Rattle.ml_syntax.specs.WellFormed.{is_operator, WfName, WfNames, WfType, pat_level, is_exception, WfPat, WfPats, WfPatField, WfPatFields, level, op_level, is_form, is_if, has_else, is_open_if, has_cases, on_edge, on_links, on_body, on_cases, on_tail, NoForm, Calm, NoOpenIf, NoCases, IsOperand, is_postfix, CanBeAssigned, is_bare, is_constr, is_bracketed, EndsField, Wf, WfSeq, WfChain, WfBase, WfGuard, WfTail, WfBinding, WfBindings, WfCase, WfCases, WfArgument, WfArguments, WfParam, WfParams, WfPart, WfParts, WfField, WfFields, is_constraint_sign, WfConstraint, WfConstraints, WfWiths, is_functor, is_simple_mod, is_simple_type, is_separator, WfExternal, WfMod, WfModArgument, WfModArguments, WfFunctorParam, WfFunctorParams, WfModType, WfSignature, WfItem, WfItems, WfSigItem, WfSigItems}
+use Rattle.ml_syntax.specs.Respelled.{Spelling, spell, spell_tok, spell_run, spell_type, spell_value_name, spell_pat, spell_pats, spell_pat_field, spell_pat_fields, spell_variable, spell_expr, spell_links, spell_maybe_expr, spell_tail, spell_binding, spell_bindings, spell_case, spell_cases, spell_argument, spell_arguments, spell_param, spell_params, spell_part, spell_parts, spell_field, spell_fields, spell_constraint, spell_with_clause, spell_mod_expr, spell_mod_argument, spell_mod_arguments, spell_functor_param, spell_functor_params, spell_mod_type, spell_maybe_type, spell_item, spell_items, spell_sig_item, spell_sig_items, RespellingKeepsTheTree}
+
+both : {a b c d : Bool} → a ≡ c → b ≡ d → a || b ≡ c || d
+both p q = rw (p, q) refl
+
+map_too : {A B : Type 0} (f : A → B) (xs : List A) → xs ≢ [] → map f xs ≢ []
+map_too f [] h g = h refl
+map_too f (x ∷ xs) h g = cc
+
+-- A record, so that antt finds w, j and k.
+record Spelled (w : Spelling) (j k : List Tok) : Type 0 where
+  eq : j ≡ map (spell_tok w) k
+
+module _ (w : Spelling) where
+  -- ---- words
+
+  one : {j k : List Tok} (t : Tok) → Spelled w j k → Spelled w (spell_tok w t ∷ j) (t ∷ k)
+  one t h = record { eq = ap (λ (ts : List Tok). spell_tok w t ∷ ts) h.eq }
+
+  run_same : {j k : List Tok} (run : List Tok) → Spelled w j k → Spelled w (spell_run w run ++ j) (run ++ k)
+  run_same [] h = h
+  run_same (t ∷ ts) h = one t (run_same ts h)
+
+  dotted_same : (a : List Name) {j k : List Tok} → Spelled w j k → Spelled w (dotted_then a j) (dotted_then a k)
+  dotted_same [] h = h
+  dotted_same (x ∷ xs) h = one (fixed key.Dot) (one (word class.Upper x) (dotted_same xs h))
+
+  path_same : (a : List Name) {j k : List Tok} → Spelled w j k → Spelled w (path_then a j) (path_then a k)
+  path_same [] h = h
+  path_same (x ∷ xs) h = one (word class.Upper x) (dotted_same xs h)
+
+  qualified_same : (a : List Name) {j k : List Tok} → Spelled w j k → Spelled w (qualified_then a j) (qualified_then a k)
+  qualified_same [] h = h
+  qualified_same (x ∷ xs) h = one (word class.Upper x) (one (fixed key.Dot) (qualified_same xs h))
+
+  name_same : (a : ValueName) {j k : List Tok} → Spelled w j k → Spelled w (name_then (spell_value_name w a) j) (name_then a k)
+  name_same (PlainName x) h = one (word class.Lower x) h
+  name_same (OperatorName at t) h = one (placed key.LeftParen at) (one t (one (fixed key.RightParen) h))
+
+  names_same : (a : List ValueName) {j k : List Tok} → Spelled w j k → Spelled w (names_then (map (spell_value_name w) a) j) (names_then a k)
+  names_same [] h = h
+  names_same (x ∷ xs) h = one (fixed key.As) (name_same x (names_same xs h))
+
+  type_same : (a : Option (List Tok)) {j k : List Tok} → Spelled w j k → Spelled w (type_then (spell_type w a) j) (type_then a k)
+  type_same None h = h
+  type_same (Some run) h = one (fixed key.Colon) (run_same run h)
+
+  optional_same : (a : Fixed) (b : Bool) {j k : List Tok} → Spelled w j k → Spelled w (optional_then a b j) (optional_then a b k)
+  optional_same x true h = one (fixed x) h
+  optional_same x false h = h
+
+  bang_same : (a : Option Name) {j k : List Tok} → Spelled w j k → Spelled w (bang_then a j) (bang_then a k)
+  bang_same None h = h
+  bang_same (Some x) h = one (word class.Prefix x) h
+
+  open_same : (a : Option ℕ) {j k : List Tok} → Spelled w j k → Spelled w (open_then a j) (open_then a k)
+  open_same None h = h
+  open_same (Some at) h = one (fixed key.Semicolon) (one (placed key.Underscore at) h)
+
+  mutual
+    pat_same : (a : Pat) {j k : List Tok} → Spelled w j k → Spelled w (pat_then (spell_pat w a) j) (pat_then a k)
+    pat_same (AsPat p xs) h = pat_same p (names_same xs h)
+    pat_same (OrPat p ps) h = pat_same p (pats_same key.Bar ps h)
+    pat_same (TuplePat p ps) h = pat_same p (pats_same key.Comma ps h)
+    pat_same (ConsPat p ps) h = pat_same p (pats_same key.ColonColon ps h)
+    pat_same (ConstrApplyPat path p) h = path_same path (pat_same p h)
+    pat_same (TagApplyPat x p) h = one (word class.Tag x) (pat_same p h)
+    pat_same (LazyPat at p) h = one (placed key.Lazy at) (pat_same p h)
+    pat_same (ExceptionPat at p) h = one (placed key.Exception at) (pat_same p h)
+    pat_same (AnyPat at) h = one (placed key.Underscore at) h
+    pat_same (ValuePat x) h = name_same x h
+    pat_same (LiteralPat c x) h = one (word c x) h
+    pat_same (NegativePat x c y) h = one (word class.Infix x) (one (word c y) h)
+    pat_same (RangePat x y) h = one (word class.Char x) (one (fixed key.DotDot) (one (word class.Char y) h))
+    pat_same (ConstrPat path) h = path_same path h
+    pat_same (TagPat x) h = one (word class.Tag x) h
+    pat_same (BoolPat at b) h = one (placed (truth b) at) h
+    pat_same (UnitPat at) h = one (placed key.LeftParen at) (one (fixed key.RightParen) h)
+    pat_same (ParenPat at p) h = one (placed key.LeftParen at) (pat_same p (one (fixed key.RightParen) h))
+    pat_same (TypedPat at p run) h = one (placed key.LeftParen at) (pat_same p (one (fixed key.Colon) (run_same run (one (fixed key.RightParen) h))))
+    pat_same (EmptyPat at b) h = one (placed (opening b) at) (one (fixed (closing b)) h)
+    pat_same (ListPat at b p ps last) h = one (placed (opening b) at) (pat_same p (pats_same key.Semicolon ps (optional_same key.Semicolon last (one (fixed (closing b)) h))))
+    pat_same (RecordPat at f fs rest last) h = one (placed key.LeftBrace at) (pat_field_same f (pat_fields_same fs (open_same rest (optional_same key.Semicolon last (one (fixed key.RightBrace) h)))))
+    pat_same (OpenedPat path at p) h = path_same path (one (fixed key.Dot) (one (placed key.LeftParen at) (pat_same p (one (fixed key.RightParen) h))))
+
+    pats_same : (a : Fixed) (b : Pats) {j k : List Tok} → Spelled w j k → Spelled w (pats_then a (spell_pats w b) j) (pats_then a b k)
+    pats_same sep no_pat h = h
+    pats_same sep (more_pat p ps) h = one (fixed sep) (pat_same p (pats_same sep ps h))
+
+    pat_field_same : (a : PatField) {j k : List Tok} → Spelled w j k → Spelled w (pat_field_then (spell_pat_field w a) j) (pat_field_then a k)
+    pat_field_same (PunnedField path x run) h = qualified_same path (one (word class.Lower x) (type_same run h))
+    pat_field_same (MatchedField path x run at p) h = qualified_same path (one (word class.Lower x) (type_same run (one (placed key.Equals at) (pat_same p h))))
+
+    pat_fields_same : (a : PatFields) {j k : List Tok} → Spelled w j k → Spelled w (pat_fields_then (spell_pat_fields w a) j) (pat_fields_then a k)
+    pat_fields_same no_pat_field h = h
+    pat_fields_same (more_pat_field f fs) h = one (fixed key.Semicolon) (pat_field_same f (pat_fields_same fs h))
+
+  variable_same : (a : Variable) {j k : List Tok} → Spelled w j k → Spelled w (variable_then (spell_variable w a) j) (variable_then a k)
+  variable_same (PlainVariable x) h = one (word class.Lower x) h
+  variable_same (AnyVariable at) h = one (placed key.Underscore at) h
+
+  mutual
+    local_same : (a : LocalModule) {j k : List Tok} → Spelled w j k → Spelled w (local_then a j) (local_then a k)
+    local_same (LocalPath path ms) h = path_same path (locals_same ms h)
+
+    locals_same : (a : LocalArguments) {j k : List Tok} → Spelled w j k → Spelled w (locals_then a j) (locals_then a k)
+    locals_same no_local h = h
+    locals_same (more_local at m ms) h = one (placed key.LeftParen at) (local_same m (one (fixed key.RightParen) (locals_same ms h)))
+    locals_same (no_module at ms) h = one (placed key.LeftParen at) (one (fixed key.RightParen) (locals_same ms h))
+
+  lowers_same : (a : List Name) {j k : List Tok} → Spelled w j k → Spelled w (lowers_then (map (spell w) a) j) (lowers_then a k)
+  lowers_same [] h = h
+  lowers_same (x ∷ xs) h = one (word class.Lower x) (lowers_same xs h)
+
+  mutual
+    expr_same : (a : Expr) {j k : List Tok} → Spelled w j k → Spelled w (expr_then (spell_expr w a) j) (expr_then a k)
+    expr_same (Seq e es last) h = expr_same e (links_same es (optional_same key.Semicolon last h))
+    expr_same (Let at rec b bs e) h = one (placed key.Let at) (optional_same key.Rec rec (binding_same b (bindings_same bs (one (fixed key.In) (expr_same e h)))))
+    expr_same (LetOpen at at' bang path e) h = one (placed key.Let at) (one (placed key.Open at') (bang_same bang (path_same path (one (fixed key.In) (expr_same e h)))))
+    expr_same (LetModule at at' x eq m e) h = one (placed key.Let at) (one (placed key.Module at') (one (word class.Upper x) (one (placed key.Equals eq) (local_same m (one (fixed key.In) (expr_same e h))))))
+    expr_same (Fun at ps e) h = one (placed key.Fun at) (params_same ps (one (fixed key.Arrow) (expr_same e h)))
+    expr_same (Function at bar c cs) h = one (placed key.Function at) (optional_same key.Bar bar (case_same c (cases_same cs h)))
+    expr_same (Match at e bar c cs) h = one (placed key.Match at) (expr_same e (one (fixed key.With) (optional_same key.Bar bar (case_same c (cases_same cs h)))))
+    expr_same (Try at e bar c cs) h = one (placed key.Try at) (expr_same e (one (fixed key.With) (optional_same key.Bar bar (case_same c (cases_same cs h)))))
+    expr_same (If at c a tail) h = one (placed key.If at) (expr_same c (one (fixed key.Then) (expr_same a (tail_same tail h))))
+    expr_same (Chain n e es) h = expr_same e (links_same es h)
+    expr_same (Minus x e) h = one (word class.Infix x) (expr_same e h)
+    expr_same (Apply f es) h = expr_same f (arguments_same es h)
+    expr_same (ConstrApply path e) h = path_same path (expr_same e h)
+    expr_same (TagApply x e) h = one (word class.Tag x) (expr_same e h)
+    expr_same (Assert at e) h = one (placed key.Assert at) (expr_same e h)
+    expr_same (Lazy at e) h = one (placed key.Lazy at) (expr_same e h)
+    expr_same (Postfix e ps) h = expr_same e (parts_same ps h)
+    expr_same (Prefixed x e) h = one (word class.Prefix x) (expr_same e h)
+    expr_same (Literal c x) h = one (word c x) h
+    expr_same (BoolExpr at b) h = one (placed (truth b) at) h
+    expr_same (Value path x) h = qualified_same path (name_same x h)
+    expr_same (Constr path) h = path_same path h
+    expr_same (Tag x) h = one (word class.Tag x) h
+    expr_same (UnitExpr at) h = one (placed key.LeftParen at) (one (fixed key.RightParen) h)
+    expr_same (Paren at e) h = one (placed key.LeftParen at) (expr_same e (one (fixed key.RightParen) h))
+    expr_same (Typed at e run) h = one (placed key.LeftParen at) (expr_same e (one (fixed key.Colon) (run_same run (one (fixed key.RightParen) h))))
+    expr_same (Coerced at e from to) h = one (placed key.LeftParen at) (expr_same e (type_same from (one (fixed key.ColonGreater) (run_same to (one (fixed key.RightParen) h)))))
+    expr_same (EmptyBegin at) h = one (placed key.Begin at) (one (fixed key.End) h)
+    expr_same (Begin at e) h = one (placed key.Begin at) (expr_same e (one (fixed key.End) h))
+    expr_same (EmptyList at b) h = one (placed (opening b) at) (one (fixed (closing b)) h)
+    expr_same (ListExpr at b e es last) h = one (placed (opening b) at) (expr_same e (links_same es (optional_same key.Semicolon last (one (fixed (closing b)) h))))
+    expr_same (Record at base f fs last) h = one (placed key.LeftBrace at) (base_same base (field_same f (fields_same fs (optional_same key.Semicolon last (one (fixed key.RightBrace) h)))))
+    expr_same (Opened path e) h = path_same path (one (fixed key.Dot) (expr_same e h))
+    expr_same (While at c e) h = one (placed key.While at) (expr_same c (one (fixed key.Do) (expr_same e (one (fixed key.Done) h))))
+    expr_same (For at x eq a down b e) h = one (placed key.For at) (variable_same x (one (placed key.Equals eq) (expr_same a (one (fixed (direction down)) (expr_same b (one (fixed key.Do) (expr_same e (one (fixed key.Done) h))))))))
+
+    links_same : (a : Links) {j k : List Tok} → Spelled w j k → Spelled w (links_then (spell_links w a) j) (links_then a k)
+    links_same no_link h = h
+    links_same (more_link t e es) h = one t (expr_same e (links_same es h))
+
+    base_same : (a : MaybeExpr) {j k : List Tok} → Spelled w j k → Spelled w (base_then (spell_maybe_expr w a) j) (base_then a k)
+    base_same no_expr h = h
+    base_same (some_expr e) h = expr_same e (one (fixed key.With) h)
+
+    guard_same : (a : MaybeExpr) {j k : List Tok} → Spelled w j k → Spelled w (guard_then (spell_maybe_expr w a) j) (guard_then a k)
+    guard_same no_expr h = h
+    guard_same (some_expr e) h = one (fixed key.When) (expr_same e h)
+
+    tail_same : (a : Tail) {j k : List Tok} → Spelled w j k → Spelled w (tail_then (spell_tail w a) j) (tail_then a k)
+    tail_same no_else h = h
+    tail_same (or_else e) h = one (fixed key.Else) (expr_same e h)
+    tail_same (or_if at c a tail) h = one (fixed key.Else) (one (placed key.If at) (expr_same c (one (fixed key.Then) (expr_same a (tail_same tail h)))))
+
+    binding_same : (a : Binding) {j k : List Tok} → Spelled w j k → Spelled w (binding_then (spell_binding w a) j) (binding_then a k)
+    binding_same (PlainBinding p run at e) h = pat_same p (type_same run (one (placed key.Equals at) (expr_same e h)))
+    binding_same (AppliedBinding x ps run at e) h = name_same x (params_same ps (type_same run (one (placed key.Equals at) (expr_same e h))))
+
+    bindings_same : (a : Bindings) {j k : List Tok} → Spelled w j k → Spelled w (bindings_then (spell_bindings w a) j) (bindings_then a k)
+    bindings_same no_binding h = h
+    bindings_same (more_binding b bs) h = one (fixed key.And) (binding_same b (bindings_same bs h))
+
+    case_same : (a : Case) {j k : List Tok} → Spelled w j k → Spelled w (case_then (spell_case w a) j) (case_then a k)
+    case_same (CaseOf p guard e) h = pat_same p (guard_same guard (one (fixed key.Arrow) (expr_same e h)))
+
+    cases_same : (a : Cases) {j k : List Tok} → Spelled w j k → Spelled w (cases_then (spell_cases w a) j) (cases_then a k)
+    cases_same no_case h = h
+    cases_same (more_case c cs) h = one (fixed key.Bar) (case_same c (cases_same cs h))
+
+    argument_same : (a : Argument) {j k : List Tok} → Spelled w j k → Spelled w (argument_then (spell_argument w a) j) (argument_then a k)
+    argument_same (Positional e) h = expr_same e h
+    argument_same (LabelPun x) h = one (word class.Label x) h
+    argument_same (Labelled x e) h = one (word class.Label x) (expr_same e h)
+
+    arguments_same : (a : Arguments) {j k : List Tok} → Spelled w j k → Spelled w (arguments_then (spell_arguments w a) j) (arguments_then a k)
+    arguments_same no_argument h = h
+    arguments_same (more_argument a es) h = argument_same a (arguments_same es h)
+
+    param_same : (a : Param) {j k : List Tok} → Spelled w j k → Spelled w (param_then (spell_param w a) j) (param_then a k)
+    param_same (PatternParam p) h = pat_same p h
+    param_same (LabelParam x) h = one (word class.Label x) h
+    param_same (LabelPattern x p) h = one (word class.Label x) (pat_same p h)
+    param_same (DefaultParam x at p run eq e) h = one (word class.Label x) (one (placed key.LeftParen at) (pat_same p (type_same run (one (placed key.Equals eq) (expr_same e (one (fixed key.RightParen) h))))))
+    param_same (WrappedParam at optional at' x run) h = one (placed (wrap optional) at) (one (placed key.LeftParen at') (one (word class.Lower x) (type_same run (one (fixed key.RightParen) h))))
+    param_same (WrappedDefault at at' x run eq e) h = one (placed key.Question at) (one (placed key.LeftParen at') (one (word class.Lower x) (type_same run (one (placed key.Equals eq) (expr_same e (one (fixed key.RightParen) h))))))
+    param_same (TypesParam at xs) h = one (placed key.LeftParen at) (one (fixed key.Type) (lowers_same xs (one (fixed key.RightParen) h)))
+
+    params_same : (a : Params) {j k : List Tok} → Spelled w j k → Spelled w (params_then (spell_params w a) j) (params_then a k)
+    params_same no_param h = h
+    params_same (more_param p ps) h = param_same p (params_same ps h)
+
+    part_same : (a : Part) {j k : List Tok} → Spelled w j k → Spelled w (part_then (spell_part w a) j) (part_then a k)
+    part_same (LabelPart path x) h = one (fixed key.Dot) (qualified_same path (one (word class.Lower x) h))
+    part_same (IndexPart at e) h = one (fixed key.Dot) (one (placed key.LeftParen at) (expr_same e (one (fixed key.RightParen) h)))
+    part_same (CharPart at e) h = one (fixed key.Dot) (one (placed key.LeftBracket at) (expr_same e (one (fixed key.RightBracket) h)))
+
+    parts_same : (a : Parts) {j k : List Tok} → Spelled w j k → Spelled w (parts_then (spell_parts w a) j) (parts_then a k)
+    parts_same no_part h = h
+    parts_same (more_part p ps) h = part_same p (parts_same ps h)
+
+    field_same : (a : Field) {j k : List Tok} → Spelled w j k → Spelled w (field_then (spell_field w a) j) (field_then a k)
+    field_same (FieldPun path x run) h = qualified_same path (one (word class.Lower x) (type_same run h))
+    field_same (AssignedField path x run at e) h = qualified_same path (one (word class.Lower x) (type_same run (one (placed key.Equals at) (expr_same e h))))
+
+    fields_same : (a : Fields) {j k : List Tok} → Spelled w j k → Spelled w (fields_then (spell_fields w a) j) (fields_then a k)
+    fields_same no_field h = h
+    fields_same (more_field f fs) h = one (fixed key.Semicolon) (field_same f (fields_same fs h))
+
+  module_name_same : (a : ModuleName) {j k : List Tok} → Spelled w j k → Spelled w (module_name_then a j) (module_name_then a k)
+  module_name_same (UpperName x) h = one (word class.Upper x) h
+  module_name_same (AnyName at) h = one (placed key.Underscore at) h
+
+  constraint_same : (a : Constraint) {j k : List Tok} → Spelled w j k → Spelled w (constraint_then (spell_constraint w a) j) (constraint_then a k)
+  constraint_same (ConstraintOf a t private b) h = one (fixed key.Type) (run_same a (one t (optional_same key.Private private (run_same b h))))
+
+  constraints_same : (a : List Constraint) {j k : List Tok} → Spelled w j k → Spelled w (constraints_then (map (spell_constraint w) a) j) (constraints_then a k)
+  constraints_same [] h = h
+  constraints_same (c ∷ cs) h = one (fixed key.And) (constraint_same c (constraints_same cs h))
+
+  withs_same : (a : List WithClause) {j k : List Tok} → Spelled w j k → Spelled w (withs_then (map (spell_with_clause w) a) j) (withs_then a k)
+  withs_same [] h = h
+  withs_same (WithOf c cs ∷ ws) h = one (fixed key.With) (constraint_same c (constraints_same cs (withs_same ws h)))
+
+  texts_same : (a : List Name) {j k : List Tok} → Spelled w j k → Spelled w (texts_then a j) (texts_then a k)
+  texts_same [] h = h
+  texts_same (x ∷ xs) h = one (word class.Text x) (texts_same xs h)
+
+  external_same : (a : ValueName) (b : List Tok) (c : ℕ) (d : List Name) {j k : List Tok} → Spelled w j k → Spelled w (external_then (spell_value_name w a) (spell_run w b) c d j) (external_then a b c d k)
+  external_same x run at texts h = one (fixed key.External) (name_same x (one (fixed key.Colon) (run_same run (one (placed key.Equals at) (texts_same texts h)))))
+
+  open_item_same : (a : ℕ) (b : Option Name) (c : List Name) {j k : List Tok} → Spelled w j k → Spelled w (open_item_then a b c j) (open_item_then a b c k)
+  open_item_same at bang path h = one (placed key.Open at) (bang_same bang (path_same path h))
+
+  mutual
+    mod_same : (a : ModExpr) {j k : List Tok} → Spelled w j k → Spelled w (mod_then (spell_mod_expr w a) j) (mod_then a k)
+    mod_same (ModPath path) h = path_same path h
+    mod_same (Struct at is) h = one (placed key.Struct at) (items_same is (one (fixed key.End) h))
+    mod_same (Functor at ps m) h = one (placed key.Functor at) (functor_params_same ps (one (fixed key.Arrow) (mod_same m h)))
+    mod_same (ModApply m ms) h = mod_same m (mod_arguments_same ms h)
+    mod_same (ModParen at m) h = one (placed key.LeftParen at) (mod_same m (one (fixed key.RightParen) h))
+    mod_same (Sealed at m s) h = one (placed key.LeftParen at) (mod_same m (one (fixed key.Colon) (mod_type_same s (one (fixed key.RightParen) h))))
+
+    mod_argument_same : (a : ModArgument) {j k : List Tok} → Spelled w j k → Spelled w (mod_argument_then (spell_mod_argument w a) j) (mod_argument_then a k)
+    mod_argument_same (ModuleArgument at m) h = one (placed key.LeftParen at) (mod_same m (one (fixed key.RightParen) h))
+    mod_argument_same (SealedArgument at m s) h = one (placed key.LeftParen at) (mod_same m (one (fixed key.Colon) (mod_type_same s (one (fixed key.RightParen) h))))
+    mod_argument_same (NoArgument at) h = one (placed key.LeftParen at) (one (fixed key.RightParen) h)
+
+    mod_arguments_same : (a : ModArguments) {j k : List Tok} → Spelled w j k → Spelled w (mod_arguments_then (spell_mod_arguments w a) j) (mod_arguments_then a k)
+    mod_arguments_same no_mod_argument h = h
+    mod_arguments_same (more_mod_argument m ms) h = mod_argument_same m (mod_arguments_same ms h)
+
+    functor_param_same : (a : FunctorParam) {j k : List Tok} → Spelled w j k → Spelled w (functor_param_then (spell_functor_param w a) j) (functor_param_then a k)
+    functor_param_same (NamedParam at x s) h = one (placed key.LeftParen at) (module_name_same x (one (fixed key.Colon) (mod_type_same s (one (fixed key.RightParen) h))))
+    functor_param_same (NoParam at) h = one (placed key.LeftParen at) (one (fixed key.RightParen) h)
+
+    functor_params_same : (a : FunctorParams) {j k : List Tok} → Spelled w j k → Spelled w (functor_params_then (spell_functor_params w a) j) (functor_params_then a k)
+    functor_params_same no_functor_param h = h
+    functor_params_same (more_functor_param p ps) h = functor_param_same p (functor_params_same ps h)
+
+    mod_type_same : (a : ModType) {j k : List Tok} → Spelled w j k → Spelled w (mod_type_then (spell_mod_type w a) j) (mod_type_then a k)
+    mod_type_same (TypePath path) h = path_same path h
+    mod_type_same (Sig at is) h = one (placed key.Sig at) (sig_items_same is (one (fixed key.End) h))
+    mod_type_same (TypeOf at m) h = one (placed key.Module at) (one (fixed key.Type) (one (fixed key.Of) (mod_same m h)))
+    mod_type_same (TypeParen at s) h = one (placed key.LeftParen at) (mod_type_same s (one (fixed key.RightParen) h))
+    mod_type_same (With s ws) h = mod_type_same s (withs_same ws h)
+    mod_type_same (FunctorType at ps s) h = one (placed key.Functor at) (functor_params_same ps (one (fixed key.Arrow) (mod_type_same s h)))
+    mod_type_same (ParamArrow p s) h = functor_param_same p (one (fixed key.Arrow) (mod_type_same s h))
+    mod_type_same (Arrow s s') h = mod_type_same s (one (fixed key.Arrow) (mod_type_same s' h))
+
+    signature_same : (a : MaybeType) {j k : List Tok} → Spelled w j k → Spelled w (signature_then (spell_maybe_type w a) j) (signature_then a k)
+    signature_same no_type h = h
+    signature_same (some_type s) h = one (fixed key.Colon) (mod_type_same s h)
+
+    item_same : (a : Item) {j k : List Tok} → Spelled w j k → Spelled w (item_then (spell_item w a) j) (item_then a k)
+    item_same (ExprItem e) h = expr_same e h
+    item_same SeparatorItem h = one (fixed key.DoubleSemicolon) h
+    item_same (ValueItem at rec b bs) h = one (placed key.Let at) (optional_same key.Rec rec (binding_same b (bindings_same bs h)))
+    item_same (ExternalItem x run at texts) h = external_same x run at texts h
+    item_same (TypeItem run) h = one (fixed key.Type) (run_same run h)
+    item_same (ExceptionItem at run) h = one (placed key.Exception at) (run_same run h)
+    item_same (ModuleItem at x ps s eq m) h = one (placed key.Module at) (module_name_same x (functor_params_same ps (signature_same s (one (placed key.Equals eq) (mod_same m h)))))
+    item_same (ModuleTypeItem at x eq s) h = one (placed key.Module at) (one (fixed key.Type) (one (word class.Upper x) (one (placed key.Equals eq) (mod_type_same s h))))
+    item_same (OpenItem at bang path) h = open_item_same at bang path h
+    item_same (IncludeItem at m) h = one (placed key.Include at) (mod_same m h)
+
+    items_same : (a : Items) {j k : List Tok} → Spelled w j k → Spelled w (items_then (spell_items w a) j) (items_then a k)
+    items_same no_item h = h
+    items_same (more_item i is) h = item_same i (items_same is h)
+
+    sig_item_same : (a : SigItem) {j k : List Tok} → Spelled w j k → Spelled w (sig_item_then (spell_sig_item w a) j) (sig_item_then a k)
+    sig_item_same SeparatorSig h = one (fixed key.DoubleSemicolon) h
+    sig_item_same (ValSig x run) h = one (fixed key.Val) (name_same x (one (fixed key.Colon) (run_same run h)))
+    sig_item_same (ExternalSig x run at texts) h = external_same x run at texts h
+    sig_item_same (TypeSig run) h = one (fixed key.Type) (run_same run h)
+    sig_item_same (ExceptionSig at run) h = one (placed key.Exception at) (run_same run h)
+    sig_item_same (ModuleSig at x ps s) h = one (placed key.Module at) (module_name_same x (functor_params_same ps (one (fixed key.Colon) (mod_type_same s h))))
+    sig_item_same (AliasSig at x eq path) h = one (placed key.Module at) (one (word class.Upper x) (one (placed key.Equals eq) (path_same path h)))
+    sig_item_same (ModuleTypeSig at x eq s) h = one (placed key.Module at) (one (fixed key.Type) (one (word class.Upper x) (one (placed key.Equals eq) (mod_type_same s h))))
+    sig_item_same (OpenSig at bang path) h = open_item_same at bang path h
+    sig_item_same (IncludeSig at s) h = one (placed key.Include at) (mod_type_same s h)
+
+    sig_items_same : (a : SigItems) {j k : List Tok} → Spelled w j k → Spelled w (sig_items_then (spell_sig_items w a) j) (sig_items_then a k)
+    sig_items_same no_sig_item h = h
+    sig_items_same (more_sig_item i is) h = sig_item_same i (sig_items_same is h)
+
+  -- ---- tokens and runs
+
+  bracketing_too : (t : Tok) → bracketing (spell_tok w t) ≡ bracketing t
+  bracketing_too (fixed x) = refl
+  bracketing_too (placed x at) = refl
+  bracketing_too (word c x) = refl
+
+  in_type_too : (t : Tok) → in_type (spell_tok w t) ≡ in_type t
+  in_type_too (fixed x) = refl
+  in_type_too (placed x at) = refl
+  in_type_too (word class.Lower x) = refl
+  in_type_too (word class.Keyword x) = refl
+  in_type_too (word _ x) = refl
+
+  beside_type_too : (t : Tok) → beside_type (spell_tok w t) ≡ beside_type t
+  beside_type_too (fixed x) = refl
+  beside_type_too (placed x at) = refl
+  beside_type_too (word class.Lower x) = refl
+  beside_type_too (word class.Infix x) = refl
+  beside_type_too (word class.Label x) = refl
+  beside_type_too (word _ x) = refl
+
+  begins_type_too : (t : Tok) → begins_type (spell_tok w t) ≡ begins_type t
+  begins_type_too (fixed x) = refl
+  begins_type_too (placed x at) = refl
+  begins_type_too (word class.Lower x) = refl
+  begins_type_too (word _ x) = refl
+
+  in_declaration_too : (t : Tok) → in_declaration (spell_tok w t) ≡ in_declaration t
+  in_declaration_too (fixed x) = refl
+  in_declaration_too (placed x at) = refl
+  in_declaration_too (word class.Lower x) = refl
+  in_declaration_too (word class.Keyword x) = refl
+  in_declaration_too (word _ x) = refl
+
+  module _ (outside inside : Tok → Bool) (o : (t : Tok) → outside (spell_tok w t) ≡ outside t) (i : (t : Tok) → inside (spell_tok w t) ≡ inside t) where
+    after_same : (t : Tok) (b : Bracketing) (xs : List Fixed) → after_bracket outside inside (spell_tok w t) b xs ≡ after_bracket outside inside t b xs
+    after_same t (opens close) xs = refl
+    after_same t (closes close) [] = refl
+    after_same t (closes close) (x ∷ xs) = refl
+    after_same t neither [] = rw (o t) refl
+    after_same t neither (x ∷ xs) = rw (i t) refl
+
+    after_too : (t : Tok) (xs : List Fixed) → after_bracket outside inside (spell_tok w t) (bracketing (spell_tok w t)) xs ≡ after_bracket outside inside t (bracketing t) xs
+    after_too t xs = ap (λ b. after_bracket outside inside (spell_tok w t) b xs) (bracketing_too t) ∙ after_same t (bracketing t) xs
+
+  matched_too : (outside inside : Tok → Bool) (o : (t : Tok) → outside (spell_tok w t) ≡ outside t) (i : (t : Tok) → inside (spell_tok w t) ≡ inside t) (st : Option (List Fixed)) (ts : List Tok) → is_matched outside inside st (spell_run w ts) ≡ is_matched outside inside st ts
+  matched_too outside inside o i None [] = refl
+  matched_too outside inside o i (Some []) [] = refl
+  matched_too outside inside o i (Some (x ∷ xs)) [] = refl
+  matched_too outside inside o i None (t ∷ ts) = refl
+  matched_too outside inside o i (Some xs) (t ∷ ts) = ap (λ st. is_matched outside inside st (spell_run w ts)) (after_too outside inside o i t xs) ∙ matched_too outside inside o i (after_bracket outside inside t (bracketing t) xs) ts
+
+  type_run_too : (run : List Tok) → is_type_run (spell_run w run) ≡ is_type_run run
+  type_run_too [] = refl
+  type_run_too (t ∷ ts) = ap (λ st. is_matched beside_type in_type st (spell_run w ts)) (after_too begins_type in_type begins_type_too in_type_too t []) ∙ matched_too beside_type in_type beside_type_too in_type_too (after_bracket begins_type in_type t (bracketing t) []) ts
+
+  declaration_run_too : (run : List Tok) → is_declaration_run (spell_run w run) ≡ is_declaration_run run
+  declaration_run_too [] = refl
+  declaration_run_too (t ∷ ts) = matched_too in_declaration in_declaration in_declaration_too in_declaration_too (Some []) (t ∷ ts)
+
+  operator_too : (t : Tok) → is_operator (spell_tok w t) ≡ is_operator t
+  operator_too (fixed x) = refl
+  operator_too (placed x at) = refl
+  operator_too (word class.Lower x) = refl
+  operator_too (word _ x) = refl
+
+  op_level_too : (t : Tok) → op_level (spell_tok w t) ≡ op_level t
+  op_level_too (fixed x) = refl
+  op_level_too (placed x at) = refl
+  op_level_too (word class.Lower x) = refl
+  op_level_too (word _ x) = refl
+
+  constraint_sign_too : (t : Tok) → is_constraint_sign (spell_tok w t) ≡ is_constraint_sign t
+  constraint_sign_too (fixed x) = refl
+  constraint_sign_too (placed x at) = refl
+  constraint_sign_too (word class.Lower x) = refl
+  constraint_sign_too (word _ x) = refl
+
+  -- ---- tests of a tree
+
+  exception_too : (e : Pat) → is_exception (spell_pat w e) ≡ is_exception e
+  exception_too (ExceptionPat at p) = refl
+  exception_too _ = refl
+
+  form_too : (e : Expr) → is_form (spell_expr w e) ≡ is_form e
+  form_too (Let at rec b bs e) = refl
+  form_too (LetOpen at at' bang path e) = refl
+  form_too (LetModule at at' x eq m e) = refl
+  form_too (Fun at ps e) = refl
+  form_too (Function at bar c cs) = refl
+  form_too (Match at e bar c cs) = refl
+  form_too (Try at e bar c cs) = refl
+  form_too _ = refl
+
+  if_too : (e : Expr) → is_if (spell_expr w e) ≡ is_if e
+  if_too (If at c a tail) = refl
+  if_too _ = refl
+
+  has_cases_too : (e : Expr) → has_cases (spell_expr w e) ≡ has_cases e
+  has_cases_too (Function at bar c cs) = refl
+  has_cases_too (Match at e bar c cs) = refl
+  has_cases_too (Try at e bar c cs) = refl
+  has_cases_too _ = refl
+
+  postfix_too : (e : Expr) → is_postfix (spell_expr w e) ≡ is_postfix e
+  postfix_too (Postfix e ps) = refl
+  postfix_too _ = refl
+
+  bare_too : (e : Expr) → is_bare (spell_expr w e) ≡ is_bare e
+  bare_too (Constr path) = refl
+  bare_too (Tag x) = refl
+  bare_too _ = refl
+
+  bracketed_too : (e : Expr) → is_bracketed (spell_expr w e) ≡ is_bracketed e
+  bracketed_too (UnitExpr at) = refl
+  bracketed_too (Paren at e) = refl
+  bracketed_too (EmptyList at b) = refl
+  bracketed_too (ListExpr at b e es last) = refl
+  bracketed_too (Record at base f fs last) = refl
+  bracketed_too _ = refl
+
+  functor_too : (e : ModExpr) → is_functor (spell_mod_expr w e) ≡ is_functor e
+  functor_too (Functor at ps m) = refl
+  functor_too _ = refl
+
+  simple_mod_too : (e : ModExpr) → is_simple_mod (spell_mod_expr w e) ≡ is_simple_mod e
+  simple_mod_too (Functor at ps m) = refl
+  simple_mod_too (ModApply m ms) = refl
+  simple_mod_too _ = refl
+
+  simple_type_too : (e : ModType) → is_simple_type (spell_mod_type w e) ≡ is_simple_type e
+  simple_type_too (TypePath path) = refl
+  simple_type_too (Sig at is) = refl
+  simple_type_too (TypeOf at m) = refl
+  simple_type_too (TypeParen at s) = refl
+  simple_type_too _ = refl
+
+  separator_too : (e : Item) → is_separator (spell_item w e) ≡ is_separator e
+  separator_too SeparatorItem = refl
+  separator_too _ = refl
+
+  has_else_too : (tail : Tail) → has_else (spell_tail w tail) ≡ has_else tail
+  has_else_too no_else = refl
+  has_else_too (or_else e) = refl
+  has_else_too (or_if at c a tail) = has_else_too tail
+
+  open_if_too : (e : Expr) → is_open_if (spell_expr w e) ≡ is_open_if e
+  open_if_too (If at c a tail) = rw (has_else_too tail) refl
+  open_if_too _ = refl
+
+  pats_too : (l : Pats) → l ≢ no_pat → spell_pats w l ≢ no_pat
+  pats_too no_pat h g = h refl
+  pats_too (more_pat p ps) h g = cc
+
+  links_too : (l : Links) → l ≢ no_link → spell_links w l ≢ no_link
+  links_too no_link h g = h refl
+  links_too (more_link t e es) h g = cc
+
+  params_too : (l : Params) → l ≢ no_param → spell_params w l ≢ no_param
+  params_too no_param h g = h refl
+  params_too (more_param p ps) h g = cc
+
+  arguments_too : (l : Arguments) → l ≢ no_argument → spell_arguments w l ≢ no_argument
+  arguments_too no_argument h g = h refl
+  arguments_too (more_argument a es) h g = cc
+
+  parts_too : (l : Parts) → l ≢ no_part → spell_parts w l ≢ no_part
+  parts_too no_part h g = h refl
+  parts_too (more_part p ps) h g = cc
+
+  functor_params_too : (l : FunctorParams) → l ≢ no_functor_param → spell_functor_params w l ≢ no_functor_param
+  functor_params_too no_functor_param h g = h refl
+  functor_params_too (more_functor_param p ps) h g = cc
+
+  mod_arguments_too : (l : ModArguments) → l ≢ no_mod_argument → spell_mod_arguments w l ≢ no_mod_argument
+  mod_arguments_too no_mod_argument h g = h refl
+  mod_arguments_too (more_mod_argument m ms) h g = cc
+
+  name_wf : (x : ValueName) → WfName x → WfName (spell_value_name w x)
+  name_wf (PlainName x) h = tt
+  name_wf (OperatorName at t) h = operator_too t ∙ h
+
+  names_wf : (xs : List ValueName) → WfNames xs → WfNames (map (spell_value_name w) xs)
+  names_wf [] h = tt
+  names_wf (x ∷ xs) h = (name_wf x h.0, names_wf xs h.1)
+
+  type_wf : (run : Option (List Tok)) → WfType run → WfType (spell_type w run)
+  type_wf None h = tt
+  type_wf (Some run) h = type_run_too run ∙ h
+
+  pat_level_too : (p : Pat) → pat_level (spell_pat w p) ≡ pat_level p
+  pat_level_too (AsPat p xs) = refl
+  pat_level_too (OrPat p ps) = refl
+  pat_level_too (TuplePat p ps) = refl
+  pat_level_too (ConsPat p ps) = refl
+  pat_level_too (ConstrApplyPat path p) = refl
+  pat_level_too (TagApplyPat x p) = refl
+  pat_level_too (LazyPat at p) = refl
+  pat_level_too (ExceptionPat at p) = refl
+  pat_level_too _ = refl
+
+  level_too : (e : Expr) → level (spell_expr w e) ≡ level e
+  level_too (Seq e es last) = refl
+  level_too (Let at rec b bs e) = refl
+  level_too (LetOpen at at' bang path e) = refl
+  level_too (LetModule at at' x eq m e) = refl
+  level_too (Fun at ps e) = refl
+  level_too (Function at bar c cs) = refl
+  level_too (Match at e bar c cs) = refl
+  level_too (Try at e bar c cs) = refl
+  level_too (If at c a tail) = refl
+  level_too (Chain n e es) = refl
+  level_too (Minus x e) = refl
+  level_too (Apply f es) = refl
+  level_too (ConstrApply path e) = refl
+  level_too (TagApply x e) = refl
+  level_too (Assert at e) = refl
+  level_too (Lazy at e) = refl
+  level_too (Postfix e ps) = refl
+  level_too _ = refl
+
+  -- ---- the right edge, by a test of one node that names don't change
+
+  module _ (q : Expr → Bool) (keeps : (e : Expr) → q (spell_expr w e) ≡ q e) where
+    mutual
+      edge_too : (e : Expr) → on_edge q (spell_expr w e) ≡ on_edge q e
+      edge_too (Seq e es true) = both (keeps (Seq e es true)) refl
+      edge_too (Seq e es false) = both (keeps (Seq e es false)) (links_edge _ _ es (edge_too e))
+      edge_too (Let at rec b bs e) = both (keeps (Let at rec b bs e)) (edge_too e)
+      edge_too (LetOpen at at' bang path e) = both (keeps (LetOpen at at' bang path e)) (edge_too e)
+      edge_too (LetModule at at' x eq m e) = both (keeps (LetModule at at' x eq m e)) (edge_too e)
+      edge_too (Fun at ps e) = both (keeps (Fun at ps e)) (edge_too e)
+      edge_too (Function at bar c cs) = both (keeps (Function at bar c cs)) (cases_edge _ _ cs (body_edge c))
+      edge_too (Match at e bar c cs) = both (keeps (Match at e bar c cs)) (cases_edge _ _ cs (body_edge c))
+      edge_too (Try at e bar c cs) = both (keeps (Try at e bar c cs)) (cases_edge _ _ cs (body_edge c))
+      edge_too (If at c a tail) = both (keeps (If at c a tail)) (tail_edge _ _ tail (edge_too a))
+      edge_too (Chain n e es) = both (keeps (Chain n e es)) (links_edge _ _ es (edge_too e))
+      edge_too (Minus x e) = both (keeps (Minus x e)) (edge_too e)
+      edge_too (Apply f es) = keeps (Apply f es)
+      edge_too (ConstrApply path e) = keeps (ConstrApply path e)
+      edge_too (TagApply x e) = keeps (TagApply x e)
+      edge_too (Assert at e) = keeps (Assert at e)
+      edge_too (Lazy at e) = keeps (Lazy at e)
+      edge_too (Postfix e ps) = keeps (Postfix e ps)
+      edge_too (Prefixed x e) = keeps (Prefixed x e)
+      edge_too (Literal c x) = keeps (Literal c x)
+      edge_too (BoolExpr at b) = keeps (BoolExpr at b)
+      edge_too (Value path x) = keeps (Value path x)
+      edge_too (Constr path) = keeps (Constr path)
+      edge_too (Tag x) = keeps (Tag x)
+      edge_too (UnitExpr at) = keeps (UnitExpr at)
+      edge_too (Paren at e) = keeps (Paren at e)
+      edge_too (Typed at e run) = keeps (Typed at e run)
+      edge_too (Coerced at e from to) = keeps (Coerced at e from to)
+      edge_too (EmptyBegin at) = keeps (EmptyBegin at)
+      edge_too (Begin at e) = keeps (Begin at e)
+      edge_too (EmptyList at b) = keeps (EmptyList at b)
+      edge_too (ListExpr at b e es last) = keeps (ListExpr at b e es last)
+      edge_too (Record at base f fs last) = keeps (Record at base f fs last)
+      edge_too (Opened path e) = keeps (Opened path e)
+      edge_too (While at c e) = keeps (While at c e)
+      edge_too (For at x eq a down b e) = keeps (For at x eq a down b e)
+
+      links_edge : (x y : Bool) (es : Links) → x ≡ y → on_links q x (spell_links w es) ≡ on_links q y es
+      links_edge x y no_link h = h
+      links_edge x y (more_link t e es) h = links_edge _ _ es (edge_too e)
+
+      body_edge : (c : Case) → on_body q (spell_case w c) ≡ on_body q c
+      body_edge (CaseOf p guard e) = edge_too e
+
+      cases_edge : (x y : Bool) (cs : Cases) → x ≡ y → on_cases q x (spell_cases w cs) ≡ on_cases q y cs
+      cases_edge x y no_case h = h
+      cases_edge x y (more_case c cs) h = cases_edge _ _ cs (body_edge c)
+
+      tail_edge : (x y : Bool) (es : Tail) → x ≡ y → on_tail q x (spell_tail w es) ≡ on_tail q y es
+      tail_edge x y no_else h = h
+      tail_edge x y (or_else e) h = edge_too e
+      tail_edge x y (or_if at c a tail) h = tail_edge _ _ tail (edge_too a)
+
+  no_form_too : (e : Expr) → NoForm e → NoForm (spell_expr w e)
+  no_form_too e h = edge_too is_form form_too e ∙ h
+
+  calm_too : (e : Expr) → Calm e → Calm (spell_expr w e)
+  calm_too e h = (no_form_too e h.0, edge_too is_if if_too e ∙ h.1)
+
+  no_open_if_too : (e : Expr) → NoOpenIf e → NoOpenIf (spell_expr w e)
+  no_open_if_too e h = edge_too is_open_if open_if_too e ∙ h
+
+  no_cases_too : (c : Case) → NoCases c → NoCases (spell_case w c)
+  no_cases_too (CaseOf p guard e) h = edge_too has_cases has_cases_too e ∙ h
+
+  ends_field_too : (f : Field) → EndsField f → EndsField (spell_field w f)
+  ends_field_too (FieldPun path x run) h = tt
+  ends_field_too (AssignedField path x run at e) h = no_form_too e h
+
+  operand_too : (n : ℕ) (e : Expr) → IsOperand n e → IsOperand n (spell_expr w e)
+  operand_too n e (inl h) = inl (omega (arith, level_too e))
+  operand_too n e (inr h) = inr (omega (arith, level_too e, h.0), omega (arith, level_too e, h.1))
+
+  assigned_too : (t : Tok) (e : Expr) → CanBeAssigned t e → CanBeAssigned (spell_tok w t) (spell_expr w e)
+  assigned_too (fixed key.LeftArrow) e h = postfix_too e ∙ h
+  assigned_too (fixed _) e h = tt
+  assigned_too (placed x at) e h = tt
+  assigned_too (word c x) e h = tt
+
+  constr_too : (e : Expr) → is_constr (spell_expr w e) ≡ is_constr e
+  constr_too (Constr path) = refl
+  constr_too (Prefixed x e) = constr_too e
+  constr_too _ = refl
+
+  some_row : (es : Links) (last : Bool) → (es ≢ no_link) ⊎ (last ≡ true) → (spell_links w es ≢ no_link) ⊎ (last ≡ true)
+  some_row es last (inl h) = inl (links_too es h)
+  some_row es last (inr h) = inr h
+
+  constraint_wf : (c : Constraint) → WfConstraint c → WfConstraint (spell_constraint w c)
+  constraint_wf (ConstraintOf a t private b) h = (type_run_too a ∙ h.0, constraint_sign_too t ∙ h.1, type_run_too b ∙ h.2)
+
+  constraints_wf : (cs : List Constraint) → WfConstraints cs → WfConstraints (map (spell_constraint w) cs)
+  constraints_wf [] h = tt
+  constraints_wf (c ∷ cs) h = (constraint_wf c h.0, constraints_wf cs h.1)
+
+  withs_wf : (ws : List WithClause) → WfWiths ws → WfWiths (map (spell_with_clause w) ws)
+  withs_wf [] h = tt
+  withs_wf (WithOf c cs ∷ ws) h = (constraint_wf c h.0, constraints_wf cs h.1, withs_wf ws h.2)
+
+  external_wf : (x : ValueName) (run : List Tok) (texts : List Name) → WfExternal x run texts → WfExternal (spell_value_name w x) (spell_run w run) texts
+  external_wf x run texts h = (name_wf x h.0, type_run_too run ∙ h.1, h.2)
+
+  -- ---- well formed
+
+  mutual
+    pat_wf : (p : Pat) → WfPat p → WfPat (spell_pat w p)
+    pat_wf (AsPat p xs) h = (omega (arith, pat_level_too p, h.0), map_too _ xs h.1, names_wf xs h.2, pat_wf p h.3)
+    pat_wf (OrPat p ps) h = (omega (arith, pat_level_too p, h.0), pats_too ps h.1, pat_wf p h.2, pats_wf 2 ps h.3)
+    pat_wf (TuplePat p ps) h = (omega (arith, pat_level_too p, h.0), pats_too ps h.1, pat_wf p h.2, pats_wf 3 ps h.3)
+    pat_wf (ConsPat p ps) h = (omega (arith, pat_level_too p, h.0), pats_too ps h.1, pat_wf p h.2, pats_wf 4 ps h.3)
+    pat_wf (ConstrApplyPat path p) h = (h.0, omega (arith, pat_level_too p, h.1), pat_wf p h.2)
+    pat_wf (TagApplyPat x p) h = (omega (arith, pat_level_too p, h.0), pat_wf p h.1)
+    pat_wf (LazyPat at p) h = (omega (arith, pat_level_too p, h.0), pat_wf p h.1)
+    pat_wf (ExceptionPat at p) h = (omega (arith, pat_level_too p, h.0), exception_too p ∙ h.1, pat_wf p h.2)
+    pat_wf (AnyPat at) h = tt
+    pat_wf (ValuePat x) h = name_wf x h
+    pat_wf (LiteralPat c x) h = h
+    pat_wf (NegativePat x c y) h = (h.0, h.1)
+    pat_wf (RangePat x y) h = tt
+    pat_wf (ConstrPat path) h = h
+    pat_wf (TagPat x) h = tt
+    pat_wf (BoolPat at b) h = tt
+    pat_wf (UnitPat at) h = tt
+    pat_wf (ParenPat at p) h = pat_wf p h
+    pat_wf (TypedPat at p run) h = (pat_wf p h.0, type_run_too run ∙ h.1)
+    pat_wf (EmptyPat at b) h = tt
+    pat_wf (ListPat at b p ps last) h = (pat_wf p h.0, pats_wf 0 ps h.1)
+    pat_wf (RecordPat at f fs rest last) h = (pat_field_wf f h.0, pat_fields_wf fs h.1)
+    pat_wf (OpenedPat path at p) h = (h.0, pat_wf p h.1)
+
+    pats_wf : (n : ℕ) (p : Pats) → WfPats n p → WfPats n (spell_pats w p)
+    pats_wf n no_pat h = tt
+    pats_wf n (more_pat p ps) h = (omega (arith, pat_level_too p, h.0), pat_wf p h.1, pats_wf n ps h.2)
+
+    pat_field_wf : (p : PatField) → WfPatField p → WfPatField (spell_pat_field w p)
+    pat_field_wf (PunnedField path x run) h = type_wf run h
+    pat_field_wf (MatchedField path x run at p) h = (type_wf run h.0, pat_wf p h.1)
+
+    pat_fields_wf : (p : PatFields) → WfPatFields p → WfPatFields (spell_pat_fields w p)
+    pat_fields_wf no_pat_field h = tt
+    pat_fields_wf (more_pat_field f fs) h = (pat_field_wf f h.0, pat_fields_wf fs h.1)
+
+  mutual
+    wf : (e : Expr) → Wf e → Wf (spell_expr w e)
+    wf (Seq e es last) h = (omega (arith, level_too e, h.0), wf e h.1, seq_wf e es last h.2, some_row es last h.3)
+    wf (Let at rec b bs e) h = (binding_wf b h.0, bindings_wf bs h.1, wf e h.2)
+    wf (LetOpen at at' bang path e) h = (h.0, h.1, wf e h.2)
+    wf (LetModule at at' x eq m e) h = (h.0, wf e h.1)
+    wf (Fun at ps e) h = (params_too ps h.0, params_wf ps h.1, wf e h.2)
+    wf (Function at bar c cs) h = (case_wf c h.0, cases_wf c cs h.1)
+    wf (Match at e bar c cs) h = (wf e h.0, case_wf c h.1, cases_wf c cs h.2)
+    wf (Try at e bar c cs) h = (wf e h.0, case_wf c h.1, cases_wf c cs h.2)
+    wf (If at c a tail) h = (wf c h.0, omega (arith, level_too a, h.1), wf a h.2, tail_wf a tail h.3)
+    wf (Chain n e es) h = (h.0, h.1, links_too es h.2, omega (arith, level_too e, h.3), wf e h.4, chain_wf n e es h.5)
+    wf (Minus x e) h = (h.0, operand_too 12 e h.1, wf e h.2)
+    wf (Apply f es) h = (omega (arith, level_too f, h.0), bare_too f ∙ h.1, wf f h.2, arguments_too es h.3, arguments_wf es h.4)
+    wf (ConstrApply path e) h = (h.0, omega (arith, level_too e, h.1), wf e h.2)
+    wf (TagApply x e) h = (omega (arith, level_too e, h.0), wf e h.1)
+    wf (Assert at e) h = (omega (arith, level_too e, h.0), wf e h.1)
+    wf (Lazy at e) h = (omega (arith, level_too e, h.0), wf e h.1)
+    wf (Postfix e ps) h = (omega (arith, level_too e, h.0), constr_too e ∙ h.1, wf e h.2, parts_too ps h.3, parts_wf ps h.4)
+    wf (Prefixed x e) h = (omega (arith, level_too e, h.0), wf e h.1)
+    wf (Literal c x) h = h
+    wf (BoolExpr at b) h = tt
+    wf (Value path x) h = name_wf x h
+    wf (Constr path) h = h
+    wf (Tag x) h = tt
+    wf (UnitExpr at) h = tt
+    wf (Paren at e) h = wf e h
+    wf (Typed at e run) h = (wf e h.0, type_run_too run ∙ h.1)
+    wf (Coerced at e from to) h = (wf e h.0, type_wf from h.1, type_run_too to ∙ h.2)
+    wf (EmptyBegin at) h = tt
+    wf (Begin at e) h = wf e h
+    wf (EmptyList at b) h = tt
+    wf (ListExpr at b e es last) h = (omega (arith, level_too e, h.0), wf e h.1, seq_wf e es last h.2)
+    wf (Record at base f fs last) h = (base_wf base h.0, field_wf f h.1, fields_wf f fs last h.2)
+    wf (Opened path e) h = (h.0, bracketed_too e ∙ h.1, wf e h.2)
+    wf (While at c e) h = (wf c h.0, wf e h.1)
+    wf (For at x eq a down b e) h = (wf a h.0, wf b h.1, wf e h.2)
+
+    seq_wf : (e : Expr) (l : Links) (b : Bool) → WfSeq e l b → WfSeq (spell_expr w e) (spell_links w l) b
+    seq_wf e no_link last h = (λ g. no_form_too e (h g))
+    seq_wf e (more_link t e' es) last h = (no_form_too e h.0, ap (spell_tok w) h.1, omega (arith, level_too e', h.2), wf e' h.3, seq_wf e' es last h.4)
+
+    chain_wf : (n : ℕ) (e : Expr) (l : Links) → WfChain n e l → WfChain n (spell_expr w e) (spell_links w l)
+    chain_wf n e no_link h = tt
+    chain_wf n e (more_link t e' es) h = (calm_too e h.0, assigned_too t e h.1, op_level_too t ∙ h.2, operand_too n e' h.3, wf e' h.4, chain_wf n e' es h.5)
+
+    base_wf : (m : MaybeExpr) → WfBase m → WfBase (spell_maybe_expr w m)
+    base_wf no_expr h = tt
+    base_wf (some_expr e) h = (omega (arith, level_too e, h.0), wf e h.1)
+
+    guard_wf : (m : MaybeExpr) → WfGuard m → WfGuard (spell_maybe_expr w m)
+    guard_wf no_expr h = tt
+    guard_wf (some_expr e) h = wf e h
+
+    tail_wf : (e : Expr) (t : Tail) → WfTail e t → WfTail (spell_expr w e) (spell_tail w t)
+    tail_wf a no_else h = tt
+    tail_wf a (or_else e) h = (no_open_if_too a h.0, omega (arith, level_too e, h.1), (λ g. h.2 (sym (level_too e) ∙ g)), wf e h.3)
+    tail_wf a (or_if at c b tail) h = (no_open_if_too a h.0, wf c h.1, omega (arith, level_too b, h.2), wf b h.3, tail_wf b tail h.4)
+
+    binding_wf : (b : Binding) → WfBinding b → WfBinding (spell_binding w b)
+    binding_wf (PlainBinding p run at e) h = (pat_wf p h.0, type_wf run h.1, wf e h.2)
+    binding_wf (AppliedBinding x ps run at e) h = (name_wf x h.0, params_too ps h.1, params_wf ps h.2, type_wf run h.3, wf e h.4)
+
+    bindings_wf : (b : Bindings) → WfBindings b → WfBindings (spell_bindings w b)
+    bindings_wf no_binding h = tt
+    bindings_wf (more_binding b bs) h = (binding_wf b h.0, bindings_wf bs h.1)
+
+    case_wf : (c : Case) → WfCase c → WfCase (spell_case w c)
+    case_wf (CaseOf p guard e) h = (pat_wf p h.0, guard_wf guard h.1, wf e h.2)
+
+    cases_wf : (c : Case) (c1 : Cases) → WfCases c c1 → WfCases (spell_case w c) (spell_cases w c1)
+    cases_wf c no_case h = tt
+    cases_wf c (more_case c' cs) h = (no_cases_too c h.0, case_wf c' h.1, cases_wf c' cs h.2)
+
+    argument_wf : (a : Argument) → WfArgument a → WfArgument (spell_argument w a)
+    argument_wf (Positional e) h = (omega (arith, level_too e, h.0), wf e h.1)
+    argument_wf (LabelPun x) h = h
+    argument_wf (Labelled x e) h = (h.0, omega (arith, level_too e, h.1), wf e h.2)
+
+    arguments_wf : (a : Arguments) → WfArguments a → WfArguments (spell_arguments w a)
+    arguments_wf no_argument h = tt
+    arguments_wf (more_argument a es) h = (argument_wf a h.0, arguments_wf es h.1)
+
+    param_wf : (p : Param) → WfParam p → WfParam (spell_param w p)
+    param_wf (PatternParam p) h = (omega (arith, pat_level_too p, h.0), pat_wf p h.1)
+    param_wf (LabelParam x) h = h
+    param_wf (LabelPattern x p) h = (h.0, omega (arith, pat_level_too p, h.1), pat_wf p h.2)
+    param_wf (DefaultParam x at p run eq e) h = (h.0, h.1, pat_wf p h.2, type_wf run h.3, omega (arith, level_too e, h.4), wf e h.5)
+    param_wf (WrappedParam at optional at' x run) h = type_wf run h
+    param_wf (WrappedDefault at at' x run eq e) h = (type_wf run h.0, omega (arith, level_too e, h.1), wf e h.2)
+    param_wf (TypesParam at xs) h = map_too _ xs h
+
+    params_wf : (p : Params) → WfParams p → WfParams (spell_params w p)
+    params_wf no_param h = tt
+    params_wf (more_param p ps) h = (param_wf p h.0, params_wf ps h.1)
+
+    part_wf : (p : Part) → WfPart p → WfPart (spell_part w p)
+    part_wf (LabelPart path x) h = tt
+    part_wf (IndexPart at e) h = wf e h
+    part_wf (CharPart at e) h = wf e h
+
+    parts_wf : (p : Parts) → WfParts p → WfParts (spell_parts w p)
+    parts_wf no_part h = tt
+    parts_wf (more_part p ps) h = (part_wf p h.0, parts_wf ps h.1)
+
+    field_wf : (f : Field) → WfField f → WfField (spell_field w f)
+    field_wf (FieldPun path x run) h = type_wf run h
+    field_wf (AssignedField path x run at e) h = (type_wf run h.0, omega (arith, level_too e, h.1), wf e h.2)
+
+    fields_wf : (f : Field) (f1 : Fields) (b : Bool) → WfFields f f1 b → WfFields (spell_field w f) (spell_fields w f1) b
+    fields_wf f no_field last h = (λ g. ends_field_too f (h g))
+    fields_wf f (more_field f' fs) last h = (ends_field_too f h.0, field_wf f' h.1, fields_wf f' fs last h.2)
+
+  mutual
+    mod_wf : (m : ModExpr) → WfMod m → WfMod (spell_mod_expr w m)
+    mod_wf (ModPath path) h = h
+    mod_wf (Struct at is) h = items_wf true is h
+    mod_wf (Functor at ps m) h = (functor_params_too ps h.0, functor_params_wf ps h.1, mod_wf m h.2)
+    mod_wf (ModApply m ms) h = (simple_mod_too m ∙ h.0, mod_wf m h.1, mod_arguments_too ms h.2, mod_arguments_wf ms h.3)
+    mod_wf (ModParen at m) h = mod_wf m h
+    mod_wf (Sealed at m s) h = (mod_wf m h.0, mod_type_wf s h.1)
+
+    mod_argument_wf : (m : ModArgument) → WfModArgument m → WfModArgument (spell_mod_argument w m)
+    mod_argument_wf (ModuleArgument at m) h = mod_wf m h
+    mod_argument_wf (SealedArgument at m s) h = (mod_wf m h.0, mod_type_wf s h.1)
+    mod_argument_wf (NoArgument at) h = tt
+
+    mod_arguments_wf : (m : ModArguments) → WfModArguments m → WfModArguments (spell_mod_arguments w m)
+    mod_arguments_wf no_mod_argument h = tt
+    mod_arguments_wf (more_mod_argument m ms) h = (mod_argument_wf m h.0, mod_arguments_wf ms h.1)
+
+    functor_param_wf : (f : FunctorParam) → WfFunctorParam f → WfFunctorParam (spell_functor_param w f)
+    functor_param_wf (NamedParam at x s) h = mod_type_wf s h
+    functor_param_wf (NoParam at) h = tt
+
+    functor_params_wf : (f : FunctorParams) → WfFunctorParams f → WfFunctorParams (spell_functor_params w f)
+    functor_params_wf no_functor_param h = tt
+    functor_params_wf (more_functor_param p ps) h = (functor_param_wf p h.0, functor_params_wf ps h.1)
+
+    mod_type_wf : (m : ModType) → WfModType m → WfModType (spell_mod_type w m)
+    mod_type_wf (TypePath path) h = h
+    mod_type_wf (Sig at is) h = sig_items_wf is h
+    mod_type_wf (TypeOf at m) h = (functor_too m ∙ h.0, mod_wf m h.1)
+    mod_type_wf (TypeParen at s) h = mod_type_wf s h
+    mod_type_wf (With s ws) h = (simple_type_too s ∙ h.0, mod_type_wf s h.1, map_too _ ws h.2, withs_wf ws h.3)
+    mod_type_wf (FunctorType at ps s) h = (functor_params_too ps h.0, functor_params_wf ps h.1, mod_type_wf s h.2)
+    mod_type_wf (ParamArrow p s) h = (functor_param_wf p h.0, mod_type_wf s h.1)
+    mod_type_wf (Arrow s s') h = (simple_type_too s ∙ h.0, mod_type_wf s h.1, mod_type_wf s' h.2)
+
+    signature_wf : (m : MaybeType) → WfSignature m → WfSignature (spell_maybe_type w m)
+    signature_wf no_type h = tt
+    signature_wf (some_type s) h = mod_type_wf s h
+
+    item_wf : (b : Bool) (i : Item) → WfItem b i → WfItem b (spell_item w i)
+    item_wf fresh (ExprItem e) h = (h.0, wf e h.1)
+    item_wf fresh SeparatorItem h = tt
+    item_wf fresh (ValueItem at rec b bs) h = (binding_wf b h.0, bindings_wf bs h.1)
+    item_wf fresh (ExternalItem x run at texts) h = external_wf x run texts h
+    item_wf fresh (TypeItem run) h = declaration_run_too run ∙ h
+    item_wf fresh (ExceptionItem at run) h = declaration_run_too run ∙ h
+    item_wf fresh (ModuleItem at x ps s eq m) h = (functor_params_wf ps h.0, signature_wf s h.1, mod_wf m h.2)
+    item_wf fresh (ModuleTypeItem at x eq s) h = mod_type_wf s h
+    item_wf fresh (OpenItem at bang path) h = h
+    item_wf fresh (IncludeItem at m) h = mod_wf m h
+
+    items_wf : (b : Bool) (i : Items) → WfItems b i → WfItems b (spell_items w i)
+    items_wf fresh no_item h = tt
+    items_wf fresh (more_item i is) h = (item_wf fresh i h.0, subst (λ b. WfItems b (spell_items w is)) (sym (separator_too i)) (items_wf (is_separator i) is h.1))
+
+    sig_item_wf : (s : SigItem) → WfSigItem s → WfSigItem (spell_sig_item w s)
+    sig_item_wf SeparatorSig h = tt
+    sig_item_wf (ValSig x run) h = (name_wf x h.0, type_run_too run ∙ h.1)
+    sig_item_wf (ExternalSig x run at texts) h = external_wf x run texts h
+    sig_item_wf (TypeSig run) h = declaration_run_too run ∙ h
+    sig_item_wf (ExceptionSig at run) h = declaration_run_too run ∙ h
+    sig_item_wf (ModuleSig at x ps s) h = (functor_params_wf ps h.0, mod_type_wf s h.1)
+    sig_item_wf (AliasSig at x eq path) h = h
+    sig_item_wf (ModuleTypeSig at x eq s) h = mod_type_wf s h
+    sig_item_wf (OpenSig at bang path) h = h
+    sig_item_wf (IncludeSig at s) h = mod_type_wf s h
+
+    sig_items_wf : (s : SigItems) → WfSigItems s → WfSigItems (spell_sig_items w s)
+    sig_items_wf no_sig_item h = tt
+    sig_items_wf (more_sig_item i is) h = (sig_item_wf i h.0, sig_items_wf is h.1)
+
+pub respelling_keeps_the_tree : RespellingKeepsTheTree
+respelling_keeps_the_tree w (Body file is) h = (items_wf w true is h, (items_same w is (record { eq = refl })).eq)
+respelling_keeps_the_tree w (Face file is) h = (sig_items_wf w is h, (sig_items_same w is (record { eq = refl })).eq)
