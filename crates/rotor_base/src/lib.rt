@@ -5,6 +5,7 @@
 #![tactic(auto)]
 
 mod fault;
+mod files;
 mod limits;
 mod looks;
 mod name;
@@ -18,6 +19,7 @@ mod target;
 mod token;
 
 pub use fault::{Failed, Memory};
+pub use files::Files;
 pub use limits::{
     MAX_BATCH_LINES, MAX_FILE_BYTES, MAX_LEVELS, MAX_NAME_BYTES, MAX_NESTING, MAX_OPENED,
     MAX_PLAN_BYTES, MAX_SAMPLE, MAX_SOURCES, MAX_TOTAL_BYTES, MAX_WEIGHT, MAX_WEIGHT_SUM, MAX_WORK,
@@ -27,7 +29,7 @@ pub use looks::{LinkLook, Looks, RefLook, Watch};
 pub use name::{Name, is_name};
 pub use place::{Facts, Foot, Goal, Link, Place, Ref};
 pub use refusal::{LoadError, Refusal};
-pub use report::{Counts, FootReport, SampleReport};
+pub use report::{Counts, FootReport, Outcome, Renamed, SampleReport};
 pub use row::Row;
 pub use source::{SourceFile, Text};
 pub use stem::{is_body, is_face, is_source};
