@@ -1,5 +1,5 @@
 -- The sources of a folder with their manifest, and which of them are taken as a project's files.
-use Rattle.std.specs.Prelude.{◌≡◌, ℕ, suc, List, [], ◌∷◌, Bool, true, ◌&&◌, ◌||◌, not, if◌then◌else◌, Option, Some, None, option_map, length, map, filter, sum_by, nat_lt, codes}
+use Rattle.std.specs.Prelude.{◌≡◌, ◌⊎◌, ℕ, suc, List, [], ◌∷◌, Bool, true, ◌&&◌, ◌||◌, not, if◌then◌else◌, Option, Some, None, option_map, length, map, filter, sum_by, nat_lt, codes}
 use Rattle.std.specs.Option.{option_or}
 use Rattle.std.specs.List.{list_any, list_all, fold}
 use Rattle.std.specs.List.Sorted.{IsStrictlySortedBy}
@@ -11,8 +11,9 @@ use Rattle.std.specs.Str.Lines.{lines}
 use Rattle.rotor_base.specs.Stem.{is_source_name, is_body_name}
 use Rattle.rotor_base.specs.Unit.{unit_of}
 use Rattle.rotor_base.specs.declared.source.SourceFile.{SourceFile}
+use Rattle.rotor_base.specs.declared.unit.SourceUnit.{SourceUnit}
 use Rattle.rotor_base.specs.declared.refusal.LoadError.{LoadError}
-use Rattle.rotor_base.specs.declared.refusal.LoadError.TheVariants.{TooMany, TooLarge, DoubleUnit, BadManifest}
+use Rattle.rotor_base.specs.declared.refusal.LoadError.TheVariants.{TooMany, TooLarge, DoubleUnit, BadManifest, Memory}
 
 -- sources by their names, with their bytes, and the bytes of the manifest where there is one
 pub record FileSet : Type 0 where
@@ -42,43 +43,48 @@ long_manifest None = None
 long_manifest (Some bytes) = if nat_lt 1048576 (length bytes) then Some (TooLarge (codes "rotor.units")) else None
 
 -- two sources are of one kind and give one unit
-abbrev pub are_twins : List ℕ → List ℕ → Bool
-are_twins name other = beq (is_body_name name) (is_body_name other) && bytes_eq (unit_of name) (unit_of other)
+abbrev pub are_twins : SourceUnit → SourceUnit → Bool
+are_twins unit other = beq unit.is_body other.is_body && bytes_eq unit.name other.name
 
 -- the units that two of these sources give that are of one kind
-abbrev pub doubled_units : List (List ℕ) → List (List ℕ)
+abbrev pub doubled_units : List SourceUnit → List (List ℕ)
 doubled_units [] = []
-doubled_units (name ∷ names) = if list_any (are_twins name) names then unit_of name ∷ doubled_units names else doubled_units names
+doubled_units (unit ∷ units) = if list_any (are_twins unit) units then unit.name ∷ doubled_units units else doubled_units units
 
--- the least of some words in byte order
+-- the lesser of two words in byte order, where there are two
 abbrev pub lesser : Option (List ℕ) → List ℕ → Option (List ℕ)
 lesser None word = Some word
 lesser (Some least) word = if is_lt (slice_cmp nat_cmp word least) then Some word else Some least
 
+-- the least of some words in byte order
 abbrev pub least_word : List (List ℕ) → Option (List ℕ)
 least_word words = fold lesser None words
 
 -- the least unit that two sources of one kind give
-unfoldable pub double_unit : List (List ℕ) → Option LoadError
-double_unit names = option_map DoubleUnit (least_word (doubled_units names))
+unfoldable pub double_unit : List SourceUnit → Option LoadError
+double_unit units = option_map DoubleUnit (least_word (doubled_units units))
 
 -- The number of the first line that names none of the units that are left, where each line that is not empty takes the
 -- unit that it names; where a unit is left at the end, one more than the number of lines.
-abbrev pub bad_line : List (List ℕ) → List (List ℕ) → Option ℕ
+abbrev pub bad_line : List (List ℕ) → List SourceUnit → Option ℕ
 bad_line [] [] = None
-bad_line (unit ∷ units) [] = Some 1
-bad_line units ([] ∷ lines) = option_map suc (bad_line units lines)
-bad_line units ((b ∷ bs) ∷ lines) =
-    if list_any (bytes_eq (b ∷ bs)) units then option_map suc (bad_line (filter (λ unit. not (bytes_eq (b ∷ bs) unit)) units) lines) else Some 1
+bad_line [] (unit ∷ units) = Some 1
+bad_line ([] ∷ lines) units = option_map suc (bad_line lines units)
+bad_line ((b ∷ bs) ∷ lines) units =
+    if list_any (λ unit. bytes_eq unit.name (b ∷ bs)) units then option_map suc (bad_line lines (filter (λ unit. not (bytes_eq unit.name (b ∷ bs))) units)) else Some 1
 
 -- a line of the manifest names no unit, or one that an earlier line names, or a unit has no line
-unfoldable pub bad_manifest : List (List ℕ) → Option (List ℕ) → Option LoadError
-bad_manifest names None = None
-bad_manifest names (Some bytes) = option_map BadManifest (bad_line (map unit_of names) (lines bytes))
+unfoldable pub bad_manifest : List SourceUnit → Option (List ℕ) → Option LoadError
+bad_manifest units None = None
+bad_manifest units (Some bytes) = option_map BadManifest (bad_line (lines bytes) units)
 
 -- the names of these sources
 abbrev pub names_of : List SourceFile → List (List ℕ)
 names_of files = map (λ file. file.name) files
+
+-- the unit that each of these sources gives, and whether the source is its body
+abbrev pub units_of : List SourceFile → List SourceUnit
+units_of files = map (λ file. record { name = unit_of file.name; is_body = is_body_name file.name }) files
 
 -- the first reason not to take these sources with this manifest
 abbrev pub load_refusal : List SourceFile → Option (List ℕ) → Option LoadError
@@ -86,8 +92,8 @@ load_refusal files manifest =
     option_or (too_many files)
     (option_or (too_large files)
     (option_or (long_manifest manifest)
-    (option_or (double_unit (names_of files))
-    (bad_manifest (names_of files) manifest))))
+    (option_or (double_unit (units_of files))
+    (bad_manifest (units_of files) manifest))))
 
 -- they are sources in strict byte order of their names
 pub record AreSources (files : List SourceFile) : Type 0 where
@@ -99,3 +105,7 @@ pub record AreSources (files : List SourceFile) : Type 0 where
 pub record IsProject (files : FileSet) : Type 0 where
   pub sources : AreSources files.entries
   pub taken : load_refusal files.entries files.manifest ≡ None
+
+-- a call is refused so: it is the first reason, or there was no memory
+abbrev pub IsRefusedBy : Option LoadError → LoadError → Type 0
+IsRefusedBy reason error = (reason ≡ Some error) ⊎ (error ≡ Memory)

@@ -1,9 +1,14 @@
 //! The files of a project.
-ghost use Rattle.std.specs.Prelude.{◌≡◌};
-ghost use Rattle.std.specs.Option.{option_copied};
-ghost use Rattle.rotor_base.specs.Files.{IsProject};
+ghost use Rattle.std.specs.Prelude.{◌≡◌, None, IfOk, IfErr, OnOk};
+ghost use Rattle.std.specs.Option.{option_copied, option_map};
+ghost use Rattle.rotor_base.specs.Files.{AreSources, IsProject, IsRefusedBy, load_refusal};
 
-use crate::SourceFile;
+use crate::load_checks::{
+    check_count, check_manifest, check_manifest_size, check_sizes, check_units,
+};
+use crate::unit::source_units;
+use crate::{LoadError, SourceFile};
+use std::alloc::Global;
 use std::marker::Model;
 
 /// The sources of a folder, and its manifest where it has one. Their names are those of sources, in strict byte
@@ -44,4 +49,31 @@ impl Files {
             Some(bytes) => Some(bytes),
         }
     }
+}
+
+/// The files of a project, made of sources in strict byte order of their names and of the manifest's bytes.
+///
+/// # Errors
+///
+/// The first of these that stands: `TooMany` with the number of the sources; `TooLarge` with the first source that is
+/// too large, or with which all so far are; `TooLarge` with `rotor.units`; `DoubleUnit` with the least unit that two
+/// sources of one kind give; `BadManifest` with the first line, counted from 1, that names no unit or one of an earlier
+/// line, or else, where a unit has no line, with one more than the number of lines. And `Memory`.
+pub fn make_files(
+    alloc: Global,
+    entries: Vec<SourceFile>,
+    manifest: Option<Vec<u8>>,
+) -> Result<Files, LoadError>
+    requires { AreSources entries.items }
+    ensures files { IfOk result (λ files. files ≡ record { entries = entries.items; manifest = option_map (λ bytes. bytes.items) manifest }) }
+    ensures taken { OnOk result (load_refusal entries.items (option_map (λ bytes. bytes.items) manifest) ≡ None) }
+    ensures refused { IfErr result (IsRefusedBy (load_refusal entries.items (option_map (λ bytes. bytes.items) manifest))) }
+{
+    check_count(&entries)?;
+    check_sizes(alloc, &entries)?;
+    check_manifest_size(alloc, &manifest)?;
+    let units = source_units(alloc, &entries)?;
+    check_units(alloc, &units)?;
+    check_manifest(units, &manifest)?;
+    Ok(Files { entries, manifest })
 }
