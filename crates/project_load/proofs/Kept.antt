@@ -1,5 +1,5 @@
 -- What is left of a listing after it is filtered, sorted, and freed of names that stand twice.
-use Rattle.std.proofs.Common.{◌≡◌, ℕ, List, [], ◌∷◌, Bool, true, false, not, ◌&&◌, ◌||◌, cond, map, filter, IsPermutation, refl, sym, ap, subst, ◌∙◌}
+use Rattle.std.proofs.Common.{◌≡◌, ℕ, List, [], ◌∷◌, Bool, true, false, not, ◌&&◌, ◌||◌, cond, map, filter, IsPermutation, refl, sym, ap, ◌∙◌}
 use Rattle.std.specs.List.{list_all, list_any, dedup, dedup_from, AllByRecursion}
 use Rattle.std.specs.List.Sorted.{IsStrictlySortedBy}
 use Rattle.std.specs.declared.cmp.Ordering.{Ordering}
@@ -7,7 +7,7 @@ use Rattle.std.specs.declared.cmp.Ordering.TheVariants.{Less}
 use Rattle.std.proofs.lemmas.List.Sorted.{list_any-IsPermutation}
 
 module _ {X : Type 0} (f : X → List ℕ) where
-  any_map : (test : List ℕ → Bool) (xs : List X) → list_any test (map f xs) ≡ list_any (λ x. test (f x)) xs
+  pub any_map : (test : List ℕ → Bool) (xs : List X) → list_any test (map f xs) ≡ list_any (λ x. test (f x)) xs
   any_map test [] = refl
   any_map test (x ∷ xs) = ap (λ b. test (f x) || b) (any_map test xs)
 

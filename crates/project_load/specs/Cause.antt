@@ -1,5 +1,5 @@
 -- When a load says that the folder failed.
-use Rattle.std.specs.Prelude.{◌≡◌, ℕ, ◌<◌, ◌≤◌, Result, IsErrOf}
+use Rattle.std.specs.Prelude.{ℕ, ◌<◌, ◌≤◌, Result, IsErrOf}
 use Rattle.rotor_base.specs.declared.refusal.LoadError.{LoadError}
 use Rattle.rotor_base.specs.declared.refusal.LoadError.TheVariants.{Read}
 use Rattle.tree_io.specs.Outside.{Rose}

@@ -1,5 +1,5 @@
 -- The files of a project in a folder: Load.
-use Rattle.std.specs.Prelude.{◌≡◌, ◌⊎◌, ℕ, List, Option, Some, None, option_map, map, filter, Result, Ok, Err, MatchResult, codes}
+use Rattle.std.specs.Prelude.{◌≡◌, ◌⊎◌, ℕ, List, Option, Some, None, option_map, filter, Result, Ok, Err, MatchResult, codes}
 use Rattle.std.specs.List.{filter_map}
 use Rattle.std.specs.FinMap.{get, keys}
 use Rattle.rotor_base.specs.Stem.{is_source_name}

@@ -27,14 +27,14 @@ pub(crate) fn source_names(listed: Vec<String>) -> Vec<String>
 
 /// Whether the manifest is listed.
 pub(crate) fn has_manifest(listed: &[String]) -> bool
-    ensures { result ≡ list_any (λ name. bytes_eq (string_bytes name) (codes "rotor.units")) listed.now }
+    ensures { result ≡ list_any (λ name. bytes_eq (codes "rotor.units") (string_bytes name)) listed.now }
 {
     listed.iter().any(|name| names_manifest(name.as_str()))
 }
 
 /// Whether a name is that of the manifest.
 fn names_manifest(name: &str) -> bool
-    ensures { result ≡ bytes_eq name.now (codes "rotor.units") }
+    ensures { result ≡ bytes_eq (codes "rotor.units") name.now }
 {
-    name == MANIFEST
+    MANIFEST == name
 }
