@@ -85,7 +85,7 @@ refused : (held : FileMap) (error : LoadError) → load_refusal (sources_of held
 unfolding loaded
 refused held error e = ap (λ (r : Option LoadError). unless_refused r (record { entries = sources_of held; manifest = manifest_of held })) e
 
-accepted : (held : FileMap) → load_refusal (sources_of held) (manifest_of held) ≡ None → loaded held ≡ Ok (record { entries = sources_of held; manifest = manifest_of held })
+pub accepted : (held : FileMap) → load_refusal (sources_of held) (manifest_of held) ≡ None → loaded held ≡ Ok (record { entries = sources_of held; manifest = manifest_of held })
 unfolding loaded
 accepted held e = ap (λ (r : Option LoadError). unless_refused r (record { entries = sources_of held; manifest = manifest_of held })) e
 
@@ -101,7 +101,7 @@ too_many_of : (files : List SourceFile) → 2000 < length files → too_many fil
 unfolding too_many
 too_many_of files l = many_by (length files) (nat_lt 2000 (length files)) refl l
 
-not_too_many : (files : List SourceFile) → length files ≤ 2000 → too_many files ≡ None
+pub not_too_many : (files : List SourceFile) → length files ≤ 2000 → too_many files ≡ None
 unfolding too_many
 not_too_many files l = few_by (length files) (nat_lt 2000 (length files)) refl l
 
@@ -219,3 +219,15 @@ made_not_read files manifest (Err error) (inr h) e = let same : error ≡ Read =
 -- the same of a count
 pub many_answer_at : (content : Option FileMap) (listed names : List (List ℕ)) (count : ℕ) → IsListing content listed names → count ≡ length names → 2000 < count → IfSome content (λ held. IsLoad held (Err (TooMany count)))
 many_answer_at content listed names count h e l = subst (λ n. IfSome content (λ held. IsLoad held (Err (TooMany n)))) (sym e) (many_answer content listed names h (omega arith))
+
+same_ok : (x y : FileSet) → ◌≡◌ {A = Result FileSet LoadError} (Ok x) (Ok y) → x ≡ y
+same_ok x y e = cc
+
+taken_is : (found : Option LoadError) (said files : FileSet) → unless_refused found said ≡ Ok files → files ≡ said
+taken_is None said files e = sym (same_ok said files e)
+taken_is (Some error) said files e = cc
+
+-- the files that Load gives
+pub loaded_is : (held : FileMap) (files : FileSet) → loaded held ≡ Ok files → files ≡ record { entries = sources_of held; manifest = manifest_of held }
+unfolding loaded
+loaded_is held files e = taken_is (load_refusal (sources_of held) (manifest_of held)) (record { entries = sources_of held; manifest = manifest_of held }) files e
