@@ -1,7 +1,6 @@
 pub mod Chains
 pub mod Concluded
 pub mod Endings
-pub mod Folder
 pub mod Keys
 pub mod Numbers
 pub mod Replies

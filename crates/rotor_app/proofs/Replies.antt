@@ -1,10 +1,10 @@
 -- The reply of a renaming that is done.
-use Rattle.std.proofs.Common.{◌≡◌, ℕ, List, [], ◌∷◌, ◌++◌, take, Option, Some, None, IsSome, IfSome, IsPermutation, refl, sym, ap, subst, ◌∙◌}
-use Rattle.std.specs.Option.{ForSome}
-use Rattle.std.specs.FinMap.{get, keys}
-use Rattle.tree_io.specs.Outside.{FileMap, IsFront}
-use Rattle.plain_rename.proofs.Small.{answer_of-take}
-use Rattle.rotor_app.proofs.Folder.{plain_name_permuted, plain_source_there}
+use Rattle.std.proofs.Common.{◌≡◌, ◌⊎◌, ℕ, List, [], ◌∷◌, ◌++◌, Option, Some, None, Result, Ok, Err, IfSome, IfOk, OnOk, refl, sym, ap, subst, ◌∙◌, inl, inr}
+use Rattle.tree_io.specs.Outside.{FileMap}
+use Rattle.tree_io.specs.declared.outside.TreeError.{TreeError}
+use Rattle.rotor_base.specs.Files.{FileSet}
+use Rattle.rotor_base.specs.declared.refusal.LoadError.{LoadError}
+use Rattle.project_load.specs.Load.{loaded, IsLoad, IsOutside}
 use Rattle.rotor_base.specs.declared.source.SourceFile.{SourceFile}
 use Rattle.plain_rename.specs.declared.renaming.Aim.{Aim}
 use Rattle.plain_rename.specs.declared.renaming.Answer.{Answer}
@@ -14,7 +14,7 @@ use Rattle.plain_rename.specs.Renaming.{answer_of}
 use Rattle.rotor_app.specs.declared.reply.Status.TheVariants.{Done}
 use Rattle.rotor_app.specs.declared.reply.Reply.{Reply}
 use Rattle.rotor_app.specs.Aim.{aim_at}
-use Rattle.rotor_app.specs.Said.{reply_from, reply_to, reply_by, reply_in, plain_name, plain_file, not_yet_reply, IsReply}
+use Rattle.rotor_app.specs.Said.{reply_from, reply_to, reply_by, reply_in, reply_loaded, plain_of, load_reply, not_yet_reply, IsReply}
 use Rattle.rotor_app.specs.Text.{done_text}
 
 pub done_reply : (source bytes target name : List ℕ) (aim : Aim) (answer : Answer) (done : Respelled) (writes : List SourceFile) (text : List ℕ)
@@ -29,35 +29,30 @@ pub one_write : (before after : List SourceFile) (lent name bytes : List ℕ) �
     → after ≡ record { name = name; bytes = bytes } ∷ []
 one_write before after lent name bytes e f g = f ∙ ap (λ (fs : List SourceFile). fs ++ record { name = lent; bytes = bytes } ∷ []) e ∙ ap (λ (n : List ℕ). record { name = n; bytes = bytes } ∷ []) g
 
--- no plain source
-pub nothing_found : (content : Option FileMap) (names : List (List ℕ)) (request : List ℕ × List ℕ) (reply : Reply)
-    → ForSome content (λ files. IsPermutation (keys files) names) → None ≡ plain_name names → reply ≡ not_yet_reply → IfSome content (λ files. reply ≡ reply_in files request)
+-- the files that were loaded are those that Load says
+pub reply_of_loaded : (content : Option FileMap) (result : Result FileSet LoadError) (files : FileSet) (request : List ℕ × List ℕ) (reply : Reply) → result ≡ Ok files → IfSome content (λ held. IsLoad held result)
+    → reply ≡ reply_by (plain_of files.entries files.manifest) request → IfSome content (λ held. reply ≡ reply_in held request)
 unfolding reply_in
-nothing_found None names request reply h e r = tt
-nothing_found (Some files) names request reply h e r =
-    let same : plain_name (keys files) ≡ None = plain_name_permuted (keys files) names (h files refl) ∙ sym e in
-    rw same r
+reply_of_loaded None result files request reply e h r = tt
+reply_of_loaded (Some held) result files request reply e h r =
+    let is : loaded held ≡ Ok files = subst (λ (a : Result FileSet LoadError). IsLoad held a) e h in
+    r ∙ ap (λ (a : Result FileSet LoadError). reply_loaded a request) (sym is)
 
--- the plain source is there to be read
-pub source_there : (content : Option FileMap) (names : List (List ℕ)) (x : List ℕ) → ForSome content (λ files. IsPermutation (keys files) names) → Some x ≡ plain_name names
-    → (files : FileMap) → content ≡ Some files → IsSome (get files x)
-source_there content names x h e files at = plain_source_there files x (plain_name_permuted (keys files) names (h files at) ∙ sym e)
-
--- the plain source was read, as far as the limit
-pub source_read : (content : Option FileMap) (names : List (List ℕ)) (x bytes : List ℕ) (request : List ℕ × List ℕ) (reply : Reply)
-    → ForSome content (λ files. IsPermutation (keys files) names) → Some x ≡ plain_name names → IfSome content (λ files. IsFront 1048577 (get files x) bytes) → reply ≡ reply_from x bytes request
-    → IfSome content (λ files. reply ≡ reply_in files request)
+-- the refusal is the one that Load says
+pub reply_of_refused : (content : Option FileMap) (result : Result FileSet LoadError) (error : LoadError) (request : List ℕ × List ℕ) (reply : Reply) → result ≡ Err error → IfSome content (λ held. IsLoad held result)
+    → (IsOutside error → ⊥) → reply ≡ load_reply error → IfSome content (λ held. reply ≡ reply_in held request)
 unfolding reply_in
-source_read None names x bytes request reply h e front r = tt
-source_read (Some files) names x bytes request reply h e front r = read (get files x) refl front where
-  same : plain_name (keys files) ≡ Some x
-  same = plain_name_permuted (keys files) names (h files refl) ∙ sym e
+reply_of_refused None result error request reply e h inside r = tt
+reply_of_refused (Some held) result error request reply e h inside r = by (subst (λ (a : Result FileSet LoadError). IsLoad held a) e h) where
+  by : IsOutside error ⊎ (loaded held ≡ Err error) → reply ≡ reply_loaded (loaded held) request
+  by (inl o) = absurd (inside o)
+  by (inr is) = r ∙ ap (λ (a : Result FileSet LoadError). reply_loaded a request) (sym is)
 
-  read : (file : Option (List ℕ)) → get files x ≡ file → IsFront 1048577 file bytes → reply ≡ reply_by (plain_file files) request
-  read None g f = cc
-  read (Some whole) g f =
-      let cut : take 1048577 whole ≡ bytes = cc in
-      rw (same, g) (r ∙ ap (λ (bs : List ℕ). reply_from x bs request) (sym cut) ∙ ap (λ (a : Answer). reply_to x request.1 a) (answer_of-take whole (aim_at request.0 x) request.1))
+-- the same of a call that may have found no memory
+pub refused_said : (content : Option FileMap) (result : Result FileSet LoadError) (error : LoadError) (request : List ℕ × List ℕ) (answer : Result Reply TreeError) → result ≡ Err error → IfSome content (λ held. IsLoad held result)
+    → IfOk answer (λ reply. reply ≡ load_reply error) → OnOk answer (IsOutside error → ⊥) → IfOk answer (λ reply. IfSome content (λ held. reply ≡ reply_in held request))
+refused_said content result error request (Ok reply) e h told inside = reply_of_refused content result error request reply e h inside told
+refused_said content result error request (Err fault) e h told inside = tt
 
 -- a reply has a status that a reply has
 pub reply_kind : (name new : List ℕ) (a : Answer) → IsReply (reply_to name new a).status (reply_to name new a).writes
@@ -71,3 +66,10 @@ reply_from_kind name bytes request reply e =
 
 pub not_yet_kind : (reply : Reply) → reply ≡ not_yet_reply → IsReply reply.status reply.writes
 not_yet_kind reply e = subst (λ (r : Reply). IsReply r.status r.writes) (sym e) refl
+
+pub reply_by_kind : (file : Option (List ℕ × List ℕ)) (request : List ℕ × List ℕ) (reply : Reply) → reply ≡ reply_by file request → IsReply reply.status reply.writes
+reply_by_kind None request reply e = not_yet_kind reply e
+reply_by_kind (Some file) request reply e = reply_from_kind file.0 file.1 request reply e
+
+pub load_kind : (error : LoadError) (reply : Reply) → reply ≡ load_reply error → IsReply reply.status reply.writes
+load_kind error reply e = subst (λ (r : Reply). IsReply r.status r.writes) (sym e) refl

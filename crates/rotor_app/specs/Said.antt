@@ -1,11 +1,13 @@
 -- What the program answers to its words over the files of a folder, and what the folder holds after it.
-use Rattle.std.specs.Prelude.{ℕ, List, [], ◌∷◌, ◌≤◌, ◌≡◌, Bool, Option, Some, None, option_map, option_and_then, if◌then◌else◌, filter, length, codes}
-use Rattle.std.specs.List.{list_any, AllByRecursion}
-use Rattle.std.specs.Str.{bytes_eq}
-use Rattle.std.specs.FinMap.{get, insert, keys}
-use Rattle.rotor_base.specs.Stem.{is_source_name, is_body_name}
+use Rattle.std.specs.Prelude.{ℕ, List, [], ◌∷◌, ◌≤◌, ◌≡◌, Option, Some, None, Result, Ok, Err, if◌then◌else◌, length}
+use Rattle.std.specs.List.{AllByRecursion}
+use Rattle.std.specs.FinMap.{insert}
+use Rattle.rotor_base.specs.Files.{FileSet}
+use Rattle.rotor_base.specs.Stem.{is_body_name}
+use Rattle.rotor_base.specs.declared.refusal.LoadError.{LoadError}
 use Rattle.rotor_base.specs.declared.source.SourceFile.{SourceFile}
 use Rattle.tree_io.specs.Outside.{FileMap}
+use Rattle.project_load.specs.Load.{sources_of, manifest_of, loaded}
 use Rattle.plain_rename.specs.declared.renaming.Answer.{Answer}
 use Rattle.plain_rename.specs.declared.renaming.Answer.TheVariants as answers
 use Rattle.plain_rename.specs.Renaming.{answer_of}
@@ -13,30 +15,19 @@ use Rattle.rotor_app.specs.declared.reply.Status.{Status}
 use Rattle.rotor_app.specs.declared.reply.Status.TheVariants.{Done, Refused, Usage, Project, TreeFault, SinkFault, Memory}
 use Rattle.rotor_app.specs.declared.reply.Reply.{Reply}
 use Rattle.rotor_app.specs.Aim.{aim_at}
-use Rattle.rotor_app.specs.Text.{usage_text, not_yet_text, obstacle_text, done_text}
+use Rattle.rotor_app.specs.Text.{usage_text, not_yet_text, load_text, obstacle_text, done_text}
 use Rattle.rotor_app.specs.Words.{asked}
 
--- the file that gives the link order
-unfoldable pub is_manifest : List ℕ → Bool
-is_manifest name = bytes_eq name (codes "rotor.units")
-
--- the one of these names, where there is just one in all
-abbrev pub alone : Option (List ℕ) → List (List ℕ) → Option (List ℕ)
-alone found [] = found
-alone None (x ∷ xs) = alone (Some x) xs
-alone (Some y) (x ∷ xs) = None
-
-abbrev pub body_or_none : Option (List ℕ) → Option (List ℕ)
-body_or_none None = None
-body_or_none (Some name) = if is_body_name name then Some name else None
-
--- the one source of a plain folder with these names: a body, with no other source and no manifest beside it
-abbrev pub plain_name : List (List ℕ) → Option (List ℕ)
-plain_name names = if list_any is_manifest names then None else body_or_none (alone None (filter is_source_name names))
+-- the one source of a plain project with its bytes: a body, with no other source and no manifest beside it
+abbrev pub plain_of : List SourceFile → Option (List ℕ) → Option (List ℕ × List ℕ)
+plain_of [] manifest = None
+plain_of (file ∷ []) None = if is_body_name file.name then Some (file.name, file.bytes) else None
+plain_of (file ∷ []) (Some bytes) = None
+plain_of (file ∷ other ∷ files) manifest = None
 
 -- the one source of a plain folder, with its bytes
 abbrev pub plain_file : FileMap → Option (List ℕ × List ℕ)
-plain_file files = option_and_then (λ name. option_map (λ bytes. (name, bytes)) (get files name)) (plain_name (keys files))
+plain_file held = plain_of (sources_of held) (manifest_of held)
 
 abbrev pub not_yet_reply : Reply
 not_yet_reply = record { status = Project; writes = []; text = not_yet_text }
@@ -58,9 +49,17 @@ abbrev pub reply_by : Option (List ℕ × List ℕ) → List ℕ × List ℕ →
 reply_by None request = not_yet_reply
 reply_by (Some file) request = reply_from file.0 file.1 request
 
+-- the reply to a folder that is not taken as a project's files
+abbrev pub load_reply : LoadError → Reply
+load_reply error = record { status = Project; writes = []; text = load_text error }
+
+abbrev pub reply_loaded : Result FileSet LoadError → List ℕ × List ℕ → Reply
+reply_loaded (Err error) request = load_reply error
+reply_loaded (Ok files) request = reply_by (plain_of files.entries files.manifest) request
+
 -- the reply to a target word and a new name
 unfoldable pub reply_in : FileMap → List ℕ × List ℕ → Reply
-reply_in files request = reply_by (plain_file files) request
+reply_in held request = reply_loaded (loaded held) request
 
 abbrev pub said_by : Option (List ℕ × List ℕ) → FileMap → Reply
 said_by None files = usage_reply

@@ -4,6 +4,8 @@ use Rattle.std.specs.Fmt.{decimal}
 use Rattle.rotor_base.specs.declared.place.Place.{Place}
 use Rattle.rotor_base.specs.declared.place.Goal.{Goal}
 use Rattle.rotor_base.specs.declared.place.Goal.TheVariants.{Decl, Outside, Missing, Hidden, Blur}
+use Rattle.rotor_base.specs.declared.refusal.LoadError.{LoadError}
+use Rattle.rotor_base.specs.declared.refusal.LoadError.TheVariants.{Read, TooMany, TooLarge, DoubleUnit, BadManifest, Memory}
 use Rattle.plain_rename.specs.declared.renaming.Obstacle.{Obstacle}
 use Rattle.plain_rename.specs.declared.renaming.Obstacle.TheVariants.{NoTarget, BadName, SameName, Capture}
 use Rattle.plain_rename.specs.declared.renaming.Respelled.{Respelled}
@@ -59,3 +61,12 @@ usage_text = codes "usage: rotor rename TARGET NAME --write" ++ lf
 
 abbrev pub not_yet_text : List ℕ
 not_yet_text = codes "project: notyet" ++ lf
+
+-- the line of a folder that is not taken as a project's files; the folder's own fault and want of memory have none
+abbrev pub load_text : LoadError → List ℕ
+load_text (TooMany count) = codes "project: toomany " ++ decimal count ++ lf
+load_text (TooLarge file) = codes "project: toolarge " ++ file ++ lf
+load_text (DoubleUnit unit) = codes "project: doubleunit " ++ unit ++ lf
+load_text (BadManifest line) = codes "project: badmanifest " ++ decimal line ++ lf
+load_text Read = []
+load_text Memory = []

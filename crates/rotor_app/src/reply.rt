@@ -1,16 +1,15 @@
 //! What the program answers, and how it comes to it.
-ghost use Rattle.std.specs.Prelude.{◌≡◌, ◌<◌, ◌^◌, None, IfOk, IfSome, IsErrOf, OnOk, IsPermutation, map, filter, length, string_bytes};
-ghost use Rattle.std.specs.List.{list_any};
-ghost use Rattle.std.specs.FinMap.{keys};
-ghost use Rattle.std.specs.Option.{ForSome, option_copied};
+ghost use Rattle.std.specs.Prelude.{◌≡◌, ◌<◌, ◌≤◌, ◌^◌, ◌↔◌, IfOk, IfSome, IsErrOf, OnOk, length};
+ghost use Rattle.std.specs.Option.{option_map};
 ghost use Rattle.tree_io.specs.Outside.{HasCause, StaysSteady};
-ghost use Rattle.rotor_base.specs.Stem.{is_source_name};
-ghost use Rattle.rotor_app.specs.Said.{plain_name, is_manifest, alone, reply_in, reply_from, not_yet_reply, HasRoom, IsReply};
+ghost use Rattle.project_load.specs.Load.{IsOutside};
+ghost use Rattle.rotor_app.specs.Said.{plain_of, reply_by, reply_in, reply_from, load_reply, not_yet_reply, HasRoom, IsReply};
 
 use crate::aim::aim_of;
-use crate::text::{NOT_YET, done_lines, obstacle_line};
+use crate::text::{NOT_YET, done_lines, load_line, obstacle_line};
 use plain_rename::{Answer, rename};
-use rotor_base::{Memory, Row, SourceFile, Text, is_body, is_source};
+use project_load::load;
+use rotor_base::{Files, LoadError, Memory, Row, SourceFile, Text, is_body};
 use std::alloc::Global;
 use tree_io::{Tree, TreeError};
 
@@ -62,9 +61,6 @@ pub struct Reply {
     pub text: Row<u8>,
 }
 
-/// The most bytes of a file that are read: one more than a source may have.
-const READ_LIMIT: u32 = 1_048_577;
-
 /// The answer to a request, from the folder. All memory is taken in it, the folder's room for each changed file too.
 pub fn decide<T: Tree>(
     alloc: Global,
@@ -79,32 +75,61 @@ pub fn decide<T: Tree>(
     ensures cause { HasCause (T.faults tree.old) (T.faults tree.new) result }
     ensures steady { StaysSteady (T.is_steady tree.old) (T.is_steady tree.new) (IsErrOf result TreeError.Failed) }
 {
-    let names = tree.list(alloc)?;
-    let reply = reply_over(alloc, &names, target, name, tree)?;
+    let reply = loaded_reply(alloc, target, name, tree)?;
     take_room(alloc, reply.writes.as_slice(), tree)?;
     Ok(reply)
 }
 
-/// The reply to a request in a folder with these names.
-fn reply_over<T: Tree>(
+/// The reply to a request, from the files that the folder loads as.
+fn loaded_reply<T: Tree>(
     alloc: Global,
-    names: &[String],
     target: &[u8],
     name: &[u8],
     tree: &mut T,
 ) -> Result<Reply, TreeError>
-    requires { ForSome (T.content tree.old) (λ files. IsPermutation (keys files) (map string_bytes names.now)) }
     ensures kind { IfOk result (λ reply. IsReply reply.status reply.writes) }
     ensures said { IfOk result (λ reply. IfSome (T.content tree.old) (λ files. reply ≡ reply_in files (target.now, name.now))) }
     ensures content { T.content tree.new ≡ T.content tree.old }
     ensures cause { HasCause (T.faults tree.old) (T.faults tree.new) result }
     ensures steady { StaysSteady (T.is_steady tree.old) (T.is_steady tree.new) (IsErrOf result TreeError.Failed) }
 {
-    let Some(file) = plain_source(names) else {
-        return Ok(not_yet(alloc)?);
-    };
-    let bytes = tree.read(alloc, file, READ_LIMIT)?;
-    Ok(reply_of(alloc, file, &bytes, target, name)?)
+    match load(alloc, tree) {
+        Ok(files) => Ok(reply_over(alloc, &files, target, name)?),
+        Err(error) => refused_reply(alloc, error),
+    }
+}
+
+/// The reply to a request over the files of a project.
+fn reply_over(alloc: Global, files: &Files, target: &[u8], name: &[u8]) -> Result<Reply, Memory>
+    ensures { IfOk result (λ reply. reply ≡ reply_by (plain_of files.now.entries files.now.manifest) (target.now, name.now)) }
+{
+    match plain_source(files) {
+        Some(file) => reply_of(
+            alloc,
+            file.name.as_str(),
+            file.bytes.as_slice(),
+            target,
+            name,
+        ),
+        None => not_yet(alloc),
+    }
+}
+
+/// The reply of a folder that is not taken as a project's files, where neither the folder nor memory failed.
+fn refused_reply(alloc: Global, error: LoadError) -> Result<Reply, TreeError>
+    ensures told { IfOk result (λ reply. reply ≡ load_reply error) }
+    ensures answered { OnOk result (IsOutside error → ⊥) }
+    ensures failed { IsErrOf result TreeError.Failed ↔ (error ≡ LoadError.Read) }
+{
+    match &error {
+        LoadError::Read => Err(TreeError::Failed),
+        LoadError::Memory => Err(TreeError::Memory),
+        _ => Ok(Reply {
+            status: Status::Project,
+            writes: Row::new(alloc),
+            text: Row::from_vec(load_line(alloc, &error)?),
+        }),
+    }
 }
 
 /// Takes the folder's room for each file that will be written.
@@ -171,51 +196,16 @@ fn reply_of(
     }
 }
 
-/// The one source of a plain folder: a body, with no other source and no manifest beside it.
-fn plain_source<'a>(names: &'a [String]) -> Option<&'a str>
-    ensures { option_copied result ≡ plain_name (map string_bytes names.now) }
+/// The one source of a plain project: a body, with no other source and no manifest beside it.
+fn plain_source(files: &Files) -> Option<&SourceFile>
+    ensures small { IfSome result (λ file. length file.now.bytes ≤ 1048576) }
+    ensures plain { option_map (λ file. (file.now.name, file.now.bytes)) result ≡ plain_of files.now.entries files.now.manifest }
 {
-    if has_manifest(names) {
+    if files.manifest().is_some() {
         return None;
     }
-    match only_source(names) {
-        Some(name) if is_body(name.as_bytes()) => Some(name),
+    match files.entries() {
+        [file] if is_body(file.name.as_str().as_bytes()) => Some(file),
         _ => None,
     }
-}
-
-/// Whether a folder has a manifest.
-fn has_manifest(names: &[String]) -> bool
-    ensures { result ≡ list_any is_manifest (map string_bytes names.now) }
-{
-    for name in names {
-        if names_manifest(name.as_str()) {
-            return true;
-        }
-    }
-    false
-}
-
-/// Whether a name is that of the manifest.
-#[tactic(auto, unfolding(crate::specs::Said::is_manifest))]
-fn names_manifest(name: &str) -> bool
-    ensures { result ≡ is_manifest name.now }
-{
-    name == "rotor.units"
-}
-
-/// The source of a folder, where there is just one.
-fn only_source<'a>(names: &'a [String]) -> Option<&'a str>
-    ensures { option_copied result ≡ alone None (filter is_source_name (map string_bytes names.now)) }
-{
-    let mut found: Option<&str> = None;
-    for name in names {
-        if is_source(name.as_bytes()) {
-            if found.is_some() {
-                return None;
-            }
-            found = Some(name.as_str());
-        }
-    }
-    found
 }

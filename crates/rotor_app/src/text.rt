@@ -1,10 +1,10 @@
 //! The lines of the reports.
 ghost use Rattle.std.specs.Prelude.{◌≡◌, ◌++◌, IfOk, OnOk};
 ghost use Rattle.std.specs.Fmt.{decimal};
-ghost use Rattle.rotor_app.specs.Text.{place_text, goal_text, blur_text, capture_text, obstacle_text, counts_text, undo_text, done_text};
+ghost use Rattle.rotor_app.specs.Text.{place_text, goal_text, blur_text, capture_text, obstacle_text, load_text, counts_text, undo_text, done_text};
 
 use plain_rename::{Obstacle, Respelled};
-use rotor_base::{Goal, Memory, Place};
+use rotor_base::{Goal, LoadError, Memory, Place};
 use std::alloc::Global;
 
 /// The usage line.
@@ -25,6 +25,34 @@ pub fn obstacle_line(alloc: Global, file: &[u8], obstacle: Obstacle) -> Result<V
             push_capture(alloc, &mut text, file, at, was, would)?;
         }
     }
+    Ok(text)
+}
+
+/// The line of a folder that is not taken as a project's files. The folder's own fault and want of memory have none.
+pub fn load_line(alloc: Global, error: &LoadError) -> Result<Vec<u8>, Memory>
+    ensures { IfOk result (λ text. text.items ≡ load_text error.now) }
+{
+    let mut text = Vec::new(alloc);
+    match error {
+        LoadError::TooMany { count } => {
+            text.extend_from_slice(b"project: toomany ")?;
+            push_number(alloc, &mut text, *count)?;
+        }
+        LoadError::TooLarge { file } => {
+            text.extend_from_slice(b"project: toolarge ")?;
+            text.extend_from_slice(file.as_bytes())?;
+        }
+        LoadError::DoubleUnit { unit } => {
+            text.extend_from_slice(b"project: doubleunit ")?;
+            text.extend_from_slice(unit.as_bytes())?;
+        }
+        LoadError::BadManifest { line } => {
+            text.extend_from_slice(b"project: badmanifest ")?;
+            push_number(alloc, &mut text, u64::from(*line))?;
+        }
+        LoadError::Read | LoadError::Memory => return Ok(text),
+    }
+    text.extend_from_slice(b"\n")?;
     Ok(text)
 }
 

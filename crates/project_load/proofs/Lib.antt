@@ -1,0 +1,5 @@
+pub mod Causes
+pub mod Kept
+pub mod Loaded
+pub mod Sorted
+pub mod SourcesRead
