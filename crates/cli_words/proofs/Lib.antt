@@ -1,0 +1,6 @@
+pub mod Agree
+pub mod Answered
+pub mod Cuts
+pub mod Forms
+pub mod Shapes
+pub mod Told

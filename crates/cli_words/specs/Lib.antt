@@ -1,0 +1,4 @@
+pub mod Grammar
+pub mod Target
+pub mod Words
+pub mod Written
