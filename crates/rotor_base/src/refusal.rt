@@ -1,6 +1,7 @@
 //! The named refusals.
 
-use crate::{FormKind, Goal, Name, Place};
+use crate::{FormKind, Goal, Memory, Name, Place};
+use std::alloc::{AllocError, AllocFailed};
 use thiserror::Error;
 
 /// Why a project or a renaming is refused. `file` is the number of a source from 0, `offset` a byte of it from 0.
@@ -65,4 +66,70 @@ pub enum LoadError {
     BadManifest { line: u32 },
     #[error("out of memory")]
     Memory,
+}
+
+impl From<Memory> for Refusal {
+    ghost use Rattle.std.specs.Prelude.{◌≡◌};
+    ghost use Rattle.rotor_base.specs.declared.refusal.Refusal.TheVariants as variant;
+
+    ghost from_gives = { λ _ error. error ≡ variant.Memory };
+
+    fn from(_error: Memory) -> Self {
+        Refusal::Memory
+    }
+}
+
+impl From<Memory> for LoadError {
+    ghost use Rattle.std.specs.Prelude.{◌≡◌};
+    ghost use Rattle.rotor_base.specs.declared.refusal.LoadError.TheVariants as variant;
+
+    ghost from_gives = { λ _ error. error ≡ variant.Memory };
+
+    fn from(_error: Memory) -> Self {
+        LoadError::Memory
+    }
+}
+
+impl From<AllocError> for Refusal {
+    ghost use Rattle.std.specs.Prelude.{◌≡◌};
+    ghost use Rattle.rotor_base.specs.declared.refusal.Refusal.TheVariants as variant;
+
+    ghost from_gives = { λ _ error. error ≡ variant.Memory };
+
+    fn from(_error: AllocError) -> Self {
+        Refusal::Memory
+    }
+}
+
+impl<T: Drop> From<AllocFailed<T>> for Refusal {
+    ghost use Rattle.std.specs.Prelude.{◌≡◌};
+    ghost use Rattle.rotor_base.specs.declared.refusal.Refusal.TheVariants as variant;
+
+    ghost from_gives = { λ _ error. error ≡ variant.Memory };
+
+    fn from(_error: AllocFailed<T>) -> Self {
+        Refusal::Memory
+    }
+}
+
+impl From<AllocError> for LoadError {
+    ghost use Rattle.std.specs.Prelude.{◌≡◌};
+    ghost use Rattle.rotor_base.specs.declared.refusal.LoadError.TheVariants as variant;
+
+    ghost from_gives = { λ _ error. error ≡ variant.Memory };
+
+    fn from(_error: AllocError) -> Self {
+        LoadError::Memory
+    }
+}
+
+impl<T: Drop> From<AllocFailed<T>> for LoadError {
+    ghost use Rattle.std.specs.Prelude.{◌≡◌};
+    ghost use Rattle.rotor_base.specs.declared.refusal.LoadError.TheVariants as variant;
+
+    ghost from_gives = { λ _ error. error ≡ variant.Memory };
+
+    fn from(_error: AllocFailed<T>) -> Self {
+        LoadError::Memory
+    }
 }

@@ -1,6 +1,6 @@
-//! The numbers that the commands report.
+//! What the commands report.
 
-use crate::{Foot, Name};
+use crate::{Files, Foot, LoadError, Name, Place, Refusal, Row};
 
 /// What `check` counts.
 #[derive(Clone, Copy, Debug, PartialEq, Eq)]
@@ -27,4 +27,36 @@ pub struct SampleReport {
     pub footprint: u64,
     pub references: u64,
     pub undone: bool,
+}
+
+/// What `rename` has done: the new files, the numbers of those that changed in order, the old name and the new one,
+/// the footprint, the number of references to it, and the place that names the target in the undo.
+#[derive(Debug, Drop)]
+pub struct Renamed {
+    pub files: Files,
+    pub changed: Row<u32>,
+    pub old: Name,
+    pub new: Name,
+    pub foot: Foot,
+    pub refs: u64,
+    pub undo_at: Place,
+}
+
+/// How a command comes out, before its text.
+#[derive(Debug, Drop)]
+pub enum Outcome {
+    /// `rename` is accepted.
+    Done(Renamed),
+    /// What `check` counted.
+    Checked(Counts),
+    /// What `footprint` shows.
+    Shown(FootReport),
+    /// What `sample` computed.
+    Sampled(SampleReport),
+    /// The project or the renaming is refused.
+    Refused(Refusal),
+    /// The folder is not taken.
+    NotLoaded(LoadError),
+    /// The words have none of the forms.
+    BadWords,
 }

@@ -1,0 +1,5 @@
+//! Loading a folder as the files of a project.
+#![tactic(auto)]
+
+mod names;
+mod reading;
