@@ -1,0 +1,5 @@
+pub mod Grammar
+pub mod Laws
+pub mod Target
+pub mod Words
+pub mod Written

@@ -1,0 +1,12 @@
+-- The text of a report: its lines, each ended by LF.
+use Rattle.std.specs.Prelude.{ℕ, List, [], ◌∷◌, ◌++◌, flat_map}
+use Rattle.rotor_base.specs.declared.report.Outcome.{Outcome}
+use Rattle.report.specs.Pieces.{Word}
+use Rattle.report.specs.Lines.{lines_of}
+
+-- a line with its end
+abbrev pub ended : Word → Word
+ended line = line ++ 10 ∷ []
+
+abbrev pub text_of : List Word → Outcome → List ℕ
+text_of names outcome = flat_map ended (lines_of names outcome)

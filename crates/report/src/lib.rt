@@ -1,0 +1,11 @@
+//! The reports of the commands, as text and as JSON.
+#![tactic(auto)]
+
+mod compact;
+mod lines;
+mod notice;
+mod pieces;
+mod plain;
+
+pub use compact::json;
+pub use plain::text;
