@@ -3,3 +3,7 @@ pub mod Codes
 pub mod View
 pub mod Links
 pub mod Looks
+pub mod Names
+pub mod Node
+pub mod Index
+pub mod Falls
