@@ -1,8 +1,8 @@
 -- Look-ups in lists of entries.
 use Rattle.std.proofs.Common.{◌≡◌, ◌+◌, List, [], ◌∷◌, ◌++◌, Option, Some, None, refl, sym, ap, ◌∙◌, arith}
-use Rattle.std.specs.Prelude.{bytes_eq}
+use Rattle.std.specs.Prelude.{bytes_eq, max}
 use Rattle.rotor_base.specs.declared.place.Place.{Place}
-use Rattle.shape_core.specs.Shape.{Name, Entries, none, a_val, a_mod, a_mty, a_dark, ◌⊕◌, vals, mods, mtys, darks, or_else, some_if, unless_some, last_of, passed, last_place, weights}
+use Rattle.shape_core.specs.Shape.{Name, Entries, none, a_val, a_mod, a_mty, a_dark, ◌⊕◌, vals, mods, mtys, darks, or_else, some_if, unless_some, last_of, passed, last_place, weights, depths}
 
 pub or_else_none : {V : Type 0} (o : Option V) → or_else o None ≡ o
 or_else_none None = refl
@@ -106,3 +106,10 @@ weights-append (a_val x g a) b = grind (arith, weights-append a b)
 weights-append (a_mod X s a) b = grind (arith, weights-append a b)
 weights-append (a_mty S s a) b = grind (arith, weights-append a b)
 weights-append (a_dark at a) b = grind (arith, weights-append a b)
+
+pub depths-append : (a b : Entries) → depths (a ⊕ b) ≡ max (depths a) (depths b)
+depths-append none b = omega arith
+depths-append (a_val x g a) b = depths-append a b
+depths-append (a_mod X s a) b = omega (arith, depths-append a b)
+depths-append (a_mty S s a) b = omega (arith, depths-append a b)
+depths-append (a_dark at a) b = depths-append a b

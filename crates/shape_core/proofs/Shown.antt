@@ -1,12 +1,11 @@
 -- Lists of shared entries, and where the last entry of a name stands in them.
-use Rattle.std.proofs.Common.{◌≡◌, ℕ, zero, suc, ◌<◌, ◌≤◌, ◌+◌, ◌-◌, Bool, true, false, List, [], ◌∷◌, ◌++◌, length, take, drop, slice_get, Option, Some, None, refl, sym, ap, ◌∙◌, arith}
+use Rattle.std.proofs.Common.{◌≡◌, ℕ, zero, suc, ◌<◌, ◌-◌, Bool, true, false, List, [], ◌∷◌, ◌++◌, length, drop, slice_get, Option, Some, None, refl, sym, ap, ◌∙◌, arith}
 use Rattle.std.specs.Prelude.{bytes_eq}
 use Rattle.rotor_base.specs.declared.place.Place.{Place}
 use Rattle.rotor_base.specs.declared.place.Goal.{Goal}
 use Rattle.shape_core.specs.declared.shared.SharedEntry.{SharedEntry}
 use Rattle.shape_core.specs.declared.shared.SharedEntry.TheVariants as e
 use Rattle.shape_core.specs.declared.index.Spot.{Spot}
-use Rattle.shape_core.specs.declared.index.Before.{Before}
 use Rattle.shape_core.specs.Node.{and_then, entries_of}
 use Rattle.shape_core.specs.Index.{one_more, last_spot, is_mod, is_mty, up, last_at, before_of, befores_from, mod_at, mty_at, there}
 use Rattle.shape_core.specs.Shape.{Name, Shape, Entries, none, a_val, a_mod, a_mty, a_dark, ◌⊕◌, or_else, some_if, unless_some, darks, vals, mods, mtys, last_of, passed, last_place}

@@ -1,9 +1,9 @@
 -- Tables after one entry more or less.
-use Rattle.std.proofs.Common.{◌≡◌, ℕ, ◌+◌, ◌<◌, ◌≤◌, ◌-◌, Bool, true, false, List, [], ◌∷◌, ◌++◌, length, take, drop, slice_get, Option, Some, None, refl, sym, ap, subst, ◌∙◌, arith, length-append, length-drop, true≢false}
+use Rattle.std.proofs.Common.{◌≡◌, ℕ, ◌+◌, ◌<◌, ◌≤◌, ◌-◌, Bool, true, false, List, [], ◌∷◌, ◌++◌, length, take, drop, get_or, slice_get, Option, Some, None, refl, sym, ap, subst, ◌∙◌, arith, length-append, length-drop, true≢false}
 use Rattle.std.proofs.lemmas.Slice.Eq.{bytes_eq-Decides}
 use Rattle.std.proofs.Math.Seq.{take-append_seam}
-use Rattle.std.proofs.lemmas.List.{drop_all}
-use Rattle.std.specs.Prelude.{vec_len}
+use Rattle.std.proofs.lemmas.List.{drop_all, take_more}
+use Rattle.std.specs.Prelude.{vec_len, max}
 use Rattle.std.specs.Prelude.{bytes_eq, if◌then◌else◌, IsSome}
 use Rattle.std.specs.Global.{Vec}
 use Rattle.rotor_base.specs.declared.place.Place.{Place}
@@ -13,15 +13,17 @@ use Rattle.shape_core.specs.declared.shared.SharedEntry.TheVariants as e
 use Rattle.shape_core.specs.declared.index.Spot.{Spot}
 use Rattle.shape_core.specs.declared.index.Tables.{Tables}
 use Rattle.shape_core.specs.declared.index.Before.{Before}
-use Rattle.shape_core.specs.declared.index.Index.{Index}
 use Rattle.shape_core.specs.declared.names.Names.{Names}
 use Rattle.shape_core.specs.declared.shape.Seen.{Seen}
-use Rattle.shape_core.specs.View.{Sees}
+use Rattle.shape_core.specs.View.{Sees, entries, view_then}
+use Rattle.shape_core.specs.declared.shape.Entry.{Entry}
+use Rattle.shape_core.proofs.Views.{entries_more}
+use Rattle.std.proofs.Common.{append_assoc}
 use Rattle.shape_core.specs.Names.{at}
 use Rattle.shape_core.specs.Node.{and_then, entries_of}
-use Rattle.shape_core.specs.Index.{last_spot, is_mod, is_mty, last_at, before_of, befores_from, Tells, IsIndexOf}
-use Rattle.shape_core.specs.Shape.{Name, Shape, Entries, none, a_val, a_mod, a_mty, a_dark, ◌⊕◌, or_else, some_if, darks, passed, vals, last_of, last_place, find_val, seen}
-use Rattle.shape_core.proofs.Lists.{darks-append}
+use Rattle.shape_core.specs.Index.{last_spot, is_mod, is_mty, last_at, before_of, befores_from, Tells}
+use Rattle.shape_core.specs.Shape.{Name, Shape, Entries, none, ◌⊕◌, or_else, some_if, darks, passed, vals, last_of, last_place, find_val, seen, weights, depths}
+use Rattle.shape_core.proofs.Lists.{darks-append, weights-append, depths-append}
 use Rattle.shape_core.proofs.Shown.{entries_of-append, spot_val, spot_still, last_at-push, befores-push, length-befores, told, Told, last_drop, last_get}
 
 nil_right : {A : Type 0} (a : List A) → a ++ [] ≡ a
@@ -212,3 +214,27 @@ some_left n ats h = last_drop n ats (omega (arith, h)) ∙ sym (last_get ats)
 
 pub sees_val : (es : Entries) (x : Name) (s : Seen) → Sees es x s → seen s.found s.by s.passed ≡ find_val es x
 sees_val es x s h = ap (λ z. seen z s.by s.passed) h.found ∙ ap (λ z. seen (last_of (vals es) x) z s.passed) h.by ∙ ap (λ z. seen (last_of (vals es) x) (last_place (passed es x)) z) h.passed
+
+-- a list of entries of which one more is taken
+pub taken : (list : List SharedEntry) (i : ℕ) (d : SharedEntry) → i < length list → d ≡ get_or list i d → take (i + 1) list ≡ take i list ++ d ∷ []
+taken list i d h k = take_more list i d h ∙ ap (λ (z : SharedEntry). take i list ++ z ∷ []) (sym k)
+
+pub weights_taken : (list : List SharedEntry) (i : ℕ) (d : SharedEntry) → i < length list → d ≡ get_or list i d → weights (entries_of (take (i + 1) list)) ≡ weights (entries_of (take i list)) + weights (and_then d none)
+weights_taken list i d h k = ap (λ l. weights (entries_of l)) (taken list i d h k) ∙ ap weights (entries_of-append (take i list) (d ∷ [])) ∙ weights-append (entries_of (take i list)) (and_then d none)
+
+pub depths_taken : (list : List SharedEntry) (i : ℕ) (d : SharedEntry) → i < length list → d ≡ get_or list i d → depths (entries_of (take (i + 1) list)) ≡ max (depths (entries_of (take i list))) (depths (and_then d none))
+depths_taken list i d h k = ap (λ l. depths (entries_of l)) (taken list i d h k) ∙ ap depths (entries_of-append (take i list) (d ∷ [])) ∙ depths-append (entries_of (take i list)) (and_then d none)
+
+-- shared entries made of plain ones
+pub shared_more : (xs : List SharedEntry) (ys : List Entry) (i : ℕ) (d : SharedEntry) (e : Entry) → i < length ys → e ≡ get_or ys i e → entries_of xs ≡ entries (take i ys) → and_then d none ≡ view_then e none → entries_of (xs ++ d ∷ []) ≡ entries (take (i + 1) ys)
+shared_more xs ys i d e h is k v =
+    entries_of-append xs (d ∷ []) ∙ ap (λ l. l ⊕ and_then d none) k ∙ ap (λ l. entries (take i ys) ⊕ l) (v ∙ ap (λ z. view_then z none) is) ∙ sym (entries_more ys i e h)
+
+-- a list that is cut
+pub cut_more : (whole xs ys : List SharedEntry) (d : SharedEntry) → xs ≡ ys ++ d ∷ [] → ((rest : List SharedEntry) × (whole ≡ xs ++ rest)) → (rest : List SharedEntry) × (whole ≡ ys ++ rest)
+cut_more whole xs ys d k h = (d ∷ h.0, h.1 ∙ ap (λ l. l ++ h.0) k ∙ append_assoc ys (d ∷ []) h.0)
+
+pub cut_done : (whole : List SharedEntry) (v : Vec SharedEntry) (n : ℕ) → ((rest : List SharedEntry) × (whole ≡ v.items ++ rest)) → n ≤ vec_len v → vec_len v ≤ n → v.items ≡ take n whole
+cut_done whole v n h lo hi =
+    let k : n ≡ length v.items = let l = len_of v in omega (arith, l) in
+    sym (ap (λ m. take m whole) k ∙ ap (take (length v.items)) h.1 ∙ take-append_seam v.items h.0)

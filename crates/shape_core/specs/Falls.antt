@@ -1,5 +1,5 @@
 -- A shape is deeper than what stands in it.
-use Rattle.std.specs.Prelude.{ℕ, ◌≤◌, ◌+◌, List, [], ◌∷◌, max}
+use Rattle.std.specs.Prelude.{◌≤◌, List, [], ◌∷◌, max}
 use Rattle.std.proofs.Common.{arith}
 use denote.Param.Weighed.{most}
 use Rattle.shape_core.specs.declared.shared.Node.{Node}

@@ -177,6 +177,25 @@ brought (Functor p r) at = a_dark at none
 brought (Unitary r) at = a_dark at none
 brought Opaque at = a_dark at none
 
+-- the entries of a structure, and the parts of a functor
+abbrev pub entries_in : Shape → Entries
+entries_in (Struct es) = es
+entries_in (Functor p r) = none
+entries_in (Unitary r) = none
+entries_in Opaque = none
+
+abbrev pub param_of : Shape → Option Shape
+param_of (Struct es) = None
+param_of (Functor p r) = Some p
+param_of (Unitary r) = None
+param_of Opaque = None
+
+abbrev pub result_of : Shape → Option Shape
+result_of (Struct es) = None
+result_of (Functor p r) = Some r
+result_of (Unitary r) = Some r
+result_of Opaque = None
+
 -- Visible: the first entry of a list is hidden by none of its kind and name after it, and is not Dark
 abbrev pub is_shown : Entries → Bool
 is_shown none = false

@@ -5,7 +5,7 @@ ghost use Rattle.shape_core.specs.Shape as pure;
 ghost use Rattle.shape_core.specs.declared.shared.SharedEntry.{SharedEntry};
 ghost use Rattle.shape_core.specs.Node.{entries_of};
 ghost use Rattle.shape_core.specs.View.{Sees};
-ghost use Rattle.shape_core.specs.Index.{Tells, IsIndexOf, before_of};
+ghost use Rattle.shape_core.specs.Index.{Tells, IsIndexOf, before_of, there, mod_at, mty_at};
 
 use crate::names::Names;
 use crate::shape::Seen;
@@ -151,11 +151,45 @@ impl Index {
         }
     }
 
+    /// The shape of the last module of that name in the list.
+    pub fn module<'a>(&self, list: &'a [SharedEntry], name: &[u8]) -> Option<&'a Shared>
+        requires { IsIndexOf self.now list.now }
+        ensures { option_copied result ≡ pure.find_mod (entries_of list.now) name.now }
+    {
+        module_at(list, self.tables.mods.get(name))
+    }
+
+    /// The shape of the last module type of that name in the list.
+    pub fn module_type<'a>(&self, list: &'a [SharedEntry], name: &[u8]) -> Option<&'a Shared>
+        requires { IsIndexOf self.now list.now }
+        ensures { option_copied result ≡ pure.find_mty (entries_of list.now) name.now }
+    {
+        module_type_at(list, self.tables.mtys.get(name))
+    }
+
     /// What a look-up of a value gives.
     pub fn val(&self, name: &[u8]) -> Option<Goal>
         ensures { (list : List SharedEntry) → IsIndexOf self.now list → result ≡ pure.find_val (entries_of list) name.now }
     {
         self.tables.seen(name).goal()
+    }
+}
+
+fn module_at(list: &[SharedEntry], position: Option<usize>) -> Option<&Shared>
+    ensures { option_copied result ≡ there mod_at list.now position }
+{
+    match list.get(position?) {
+        Some(SharedEntry::Mod(_, shape)) => Some(shape),
+        _ => None,
+    }
+}
+
+fn module_type_at(list: &[SharedEntry], position: Option<usize>) -> Option<&Shared>
+    ensures { option_copied result ≡ there mty_at list.now position }
+{
+    match list.get(position?) {
+        Some(SharedEntry::Mty(_, shape)) => Some(shape),
+        _ => None,
     }
 }
 

@@ -333,7 +333,7 @@ pub fn copy(alloc: Global, shape: &Shape) -> Result<Shape, Memory>
 }
 
 // One level less, where there is one.
-fn below(levels: usize) -> Result<usize, Memory> {
+pub fn below(levels: usize) -> Result<usize, Memory> {
     match levels {
         0 => Err(Memory),
         _ => Ok(levels - 1),

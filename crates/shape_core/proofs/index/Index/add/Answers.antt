@@ -1,4 +1,4 @@
-use Rattle.std.proofs.Common.{◌≡◌, ◌∙◌, sym}
+use Rattle.std.proofs.Common.{◌∙◌, sym}
 use Rattle.shape_core.proofs.Telling.{befores_more, befores_length}
 use Rattle.shape_core.proofs.index.Index.add.Goals as goal
 

@@ -1,4 +1,4 @@
-use Rattle.std.proofs.Common.{◌≡◌, ◌∙◌, sym, arith}
+use Rattle.std.proofs.Common.{arith}
 use Rattle.shape_core.proofs.Telling.{befores_less, some_before}
 use Rattle.shape_core.proofs.index.Index.take_out.Goals as goal
 

@@ -1,4 +1,4 @@
-use Rattle.std.proofs.Common.{◌≡◌, ◌∙◌}
+use Rattle.std.proofs.Common.{◌∙◌}
 use Rattle.shape_core.proofs.Telling.{sees_val}
 use Rattle.shape_core.proofs.index.Index.val.Goals as goal
 

@@ -1,4 +1,4 @@
-use Rattle.std.proofs.Common.{◌≡◌, ap, sym, subst, ◌∙◌, ℕ, List}
+use Rattle.std.proofs.Common.{ap, sym, subst, ◌∙◌, ℕ, List}
 use Rattle.std.specs.Prelude.{IsSome}
 use Rattle.shape_core.specs.Names.{at}
 use Rattle.shape_core.specs.Index.{before_of}

@@ -1,5 +1,4 @@
-use Rattle.std.proofs.Common.{◌≡◌, ap, sym, ◌∙◌, Some}
-use Rattle.shape_core.specs.Index.{before_of}
+use Rattle.std.proofs.Common.{sym, ◌∙◌}
 use Rattle.shape_core.proofs.Telling.{len_of, at_entry, by_name, tells_val, tells_mod, tells_mty, tells_dark}
 use Rattle.shape_core.proofs.index.Tables.note.Goals as goal
 

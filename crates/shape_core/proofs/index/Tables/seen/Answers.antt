@@ -1,4 +1,4 @@
-use Rattle.std.proofs.Common.{◌≡◌, ◌∙◌, ap, sym, refl, ◌-◌, ◌<◌, drop, slice_get, length, arith}
+use Rattle.std.proofs.Common.{◌∙◌, ap, sym, refl, ◌-◌, ◌<◌, slice_get, length, arith}
 use Rattle.shape_core.specs.Shape as pure
 use Rattle.shape_core.specs.Node.{entries_of}
 use Rattle.shape_core.proofs.Shown.{last_get}

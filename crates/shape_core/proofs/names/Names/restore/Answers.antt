@@ -1,4 +1,4 @@
-use Rattle.std.proofs.Common.{◌≡◌, ◌∙◌, ap, sym, Some, ℕ, List, subst, Option}
+use Rattle.std.proofs.Common.{◌≡◌, sym, Some, ℕ, List, subst, Option}
 use Rattle.std.specs.Prelude.{bytes_eq, if◌then◌else◌}
 use Rattle.shape_core.specs.Names.{at}
 use Rattle.shape_core.proofs.NameTables.{updated}
