@@ -5,3 +5,7 @@ pub mod Weights
 pub mod NameTables
 pub mod Shown
 pub mod Telling
+pub mod Founds
+pub mod Matches
+pub mod Spelled
+pub mod Retold
