@@ -24,7 +24,7 @@ use Rattle.shape_core.specs.Node.{and_then, entries_of}
 use Rattle.shape_core.specs.Index.{last_spot, is_mod, is_mty, last_at, before_of, befores_from, Tells}
 use Rattle.shape_core.specs.Shape.{Name, Shape, Entries, none, ◌⊕◌, or_else, some_if, darks, passed, vals, last_of, last_place, find_val, seen, weights, depths}
 use Rattle.shape_core.proofs.Lists.{darks-append, weights-append, depths-append}
-use Rattle.shape_core.proofs.Shown.{entries_of-append, spot_val, spot_still, last_at-push, befores-push, length-befores, told, Told, last_drop, last_get}
+use Rattle.shape_core.proofs.Shown.{spot, number_of, entries_of-append, spot_val, spot_still, last_at-push, befores-push, length-befores, told, Told, last_drop, last_get}
 
 nil_right : {A : Type 0} (a : List A) → a ++ [] ≡ a
 nil_right [] = refl
@@ -50,15 +50,18 @@ darks_still list d h = darks_more list d ∙ ap (λ l. darks (entries_of list) +
 at_still : (test : SharedEntry → Bool) (list : List SharedEntry) (d : SharedEntry) → test d ≡ false → last_at test (list ++ d ∷ []) ≡ last_at test list
 at_still test list d h = last_at-push test list d ∙ ap (λ b. or_else (some_if {V = ℕ} b (length list)) (last_at test list)) h
 
-spot_here : (list : List SharedEntry) (x y : Name) (g : Goal) → last_spot (entries_of (list ++ e.Val y g ∷ [])) x ≡ or_else (some_if (bytes_eq y x) (record { goal = g; darks = length (darks (entries_of list)) })) (last_spot (entries_of list) x)
-spot_here list x y g = ap (λ l. last_spot l x) (entries_of-append list (e.Val y g ∷ [])) ∙ spot_val (entries_of list) x y g
+spot_here : (list : List SharedEntry) (x y : Name) (g : Goal) → last_spot (entries_of (list ++ e.Val y g ∷ [])) x ≡ or_else (some_if (bytes_eq y x) (spot g (length list) (length (darks (entries_of list))))) (last_spot (entries_of list) x)
+spot_here list x y g =
+    ap (λ l. last_spot l x) (entries_of-append list (e.Val y g ∷ [])) ∙ spot_val (entries_of list) x y g
+    ∙ ap (λ n. or_else (some_if (bytes_eq y x) (spot g n (length (darks (entries_of list))))) (last_spot (entries_of list) x)) (number_of list)
 
 -- one entry more
-pub tells_val : (v v' : Names Spot) (m s : Names ℕ) (d : Vec Place) (list : List SharedEntry) (y : Name) (g : Goal) (n : ℕ) → n ≡ length d.items
-    → ((x : Name) → at v' x ≡ (if bytes_eq y x then Some (record { goal = g; darks = n }) else at v x)) → Tells (made v m s d) list → Tells (made v' m s d) (list ++ e.Val y g ∷ [])
-tells_val v v' m s d list y g n k put t = record {
-  vals = λ x. put x ∙ or_if (bytes_eq y x) _ (at v x) ∙ ap (λ c. or_else (some_if (bytes_eq y x) (record { goal = g; darks = c })) (at v x)) (k ∙ ap length t.darks)
-      ∙ ap (or_else (some_if (bytes_eq y x) (record { goal = g; darks = length (darks (entries_of list)) }))) (t.vals x) ∙ sym (spot_here list x y g);
+pub tells_val : (v v' : Names Spot) (m s : Names ℕ) (d : Vec Place) (list : List SharedEntry) (y : Name) (g : Goal) (p n : ℕ) → length list ≡ p → n ≡ length d.items
+    → ((x : Name) → at v' x ≡ (if bytes_eq y x then Some (spot g p n) else at v x)) → Tells (made v m s d) list → Tells (made v' m s d) (list ++ e.Val y g ∷ [])
+tells_val v v' m s d list y g p n l k put t = record {
+  vals = λ x. put x ∙ or_if (bytes_eq y x) (spot g p n) (at v x) ∙ ap (λ c. or_else (some_if (bytes_eq y x) (spot g p c)) (at v x)) (k ∙ ap length t.darks)
+      ∙ ap (λ c. or_else (some_if (bytes_eq y x) (spot g c (length (darks (entries_of list))))) (at v x)) (sym l)
+      ∙ ap (or_else (some_if (bytes_eq y x) (spot g (length list) (length (darks (entries_of list)))))) (t.vals x) ∙ sym (spot_here list x y g);
   mods = λ x. t.mods x ∙ sym (at_still (is_mod x) list (e.Val y g) refl);
   mtys = λ x. t.mtys x ∙ sym (at_still (is_mty x) list (e.Val y g) refl);
   darks = t.darks ∙ sym (darks_still list (e.Val y g) refl);

@@ -1,5 +1,5 @@
 -- What an index of a list of entries tells.
-use Rattle.std.specs.Prelude.{◌≡◌, ◌≤◌, ℕ, suc, Bool, false, List, [], ◌∷◌, ◌++◌, slice_get, Option, Some, None, bytes_eq}
+use Rattle.std.specs.Prelude.{◌≡◌, ◌≤◌, ℕ, suc, Bool, false, List, [], ◌∷◌, ◌++◌, slice_get, Option, Some, None, bytes_eq, nat_eq}
 use Rattle.shape_core.specs.declared.shared.SharedEntry.{SharedEntry}
 use Rattle.shape_core.specs.declared.shared.SharedEntry.TheVariants as e
 use Rattle.shape_core.specs.declared.shared.Form.{Form}
@@ -13,20 +13,30 @@ use Rattle.shape_core.specs.Names.{at}
 use Rattle.shape_core.specs.Node.{entries_of, shape_of}
 use Rattle.shape_core.specs.Shape.{Name, Shape, Entries, none, a_val, a_mod, a_mty, a_dark, or_else, some_if, darks, weight, depth, capped}
 
--- one Dark entry more in front
+-- one entry more in front, and one Dark entry more
+abbrev pub moved : Option Spot → Option Spot
+moved None = None
+moved (Some s) = Some (record { goal = s.goal; position = suc s.position; darks = s.darks })
+
 abbrev pub one_more : Option Spot → Option Spot
 one_more None = None
-one_more (Some s) = Some (record { goal = s.goal; darks = suc s.darks })
+one_more (Some s) = Some (record { goal = s.goal; position = suc s.position; darks = suc s.darks })
 
--- the last value of a name: its goal, and the number of Dark entries before it
+-- the last value of a name: its goal, its position, and the number of Dark entries before it
 abbrev pub last_spot : Entries → Name → Option Spot
 last_spot none x = None
-last_spot (a_val y g es) x = or_else (last_spot es x) (some_if (bytes_eq y x) (record { goal = g; darks = 0 }))
-last_spot (a_mod X s es) x = last_spot es x
-last_spot (a_mty S s es) x = last_spot es x
+last_spot (a_val y g es) x = or_else (moved (last_spot es x)) (some_if (bytes_eq y x) (record { goal = g; position = 0; darks = 0 }))
+last_spot (a_mod X s es) x = moved (last_spot es x)
+last_spot (a_mty S s es) x = moved (last_spot es x)
 last_spot (a_dark at es) x = one_more (last_spot es x)
 
--- the entry is a module of that name, or a module type of that name
+-- the entry is a value, a module, or a module type of that name
+abbrev pub is_val : Name → SharedEntry → Bool
+is_val x (e.Val y g) = bytes_eq y x
+is_val x (e.Mod Y s) = false
+is_val x (e.Mty Y s) = false
+is_val x (e.Dark at) = false
+
 abbrev pub is_mod : Name → SharedEntry → Bool
 is_mod X (e.Val y g) = false
 is_mod X (e.Mod Y s) = bytes_eq Y X
@@ -47,6 +57,15 @@ up (Some n) = Some (suc n)
 abbrev pub last_at : (SharedEntry → Bool) → List SharedEntry → Option ℕ
 last_at test [] = None
 last_at test (e ∷ es) = or_else (up (last_at test es)) (some_if (test e) 0)
+
+-- the position of a spot, and whether a position is this one
+abbrev pub position_of : Option Spot → Option ℕ
+position_of None = None
+position_of (Some s) = Some s.position
+
+abbrev pub position_is : ℕ → Option ℕ → Bool
+position_is n None = false
+position_is n (Some m) = nat_eq m n
 
 -- the shape of a module, and of a module type
 abbrev pub mod_at : Option SharedEntry → Option Shape

@@ -1,5 +1,5 @@
 -- Shapes, look-ups and weights.
-use Rattle.std.specs.Prelude.{ℕ, ◌+◌, Bool, true, false, List, [], ◌∷◌, length, Option, Some, None, max, min, bytes_eq}
+use Rattle.std.specs.Prelude.{ℕ, zero, suc, ◌+◌, Bool, true, false, List, [], ◌∷◌, length, Option, Some, None, max, min, bytes_eq}
 use Rattle.rotor_base.specs.declared.place.Place.{Place}
 use Rattle.rotor_base.specs.declared.place.Goal.{Goal}
 use Rattle.rotor_base.specs.declared.place.Goal.TheVariants.{Decl, Outside, Missing, Hidden, Blur}
@@ -195,6 +195,15 @@ result_of (Struct es) = None
 result_of (Functor p r) = Some r
 result_of (Unitary r) = Some r
 result_of Opaque = None
+
+-- the entries from a position on
+abbrev pub entries_from : ℕ → Entries → Entries
+entries_from zero es = es
+entries_from (suc n) none = none
+entries_from (suc n) (a_val x g es) = entries_from n es
+entries_from (suc n) (a_mod X s es) = entries_from n es
+entries_from (suc n) (a_mty S s es) = entries_from n es
+entries_from (suc n) (a_dark at es) = entries_from n es
 
 -- Visible: the first entry of a list is hidden by none of its kind and name after it, and is not Dark
 abbrev pub is_shown : Entries → Bool

@@ -1,11 +1,11 @@
 //! Where the last entry of each kind and name stands in a list of entries.
 
-ghost use Rattle.std.specs.Prelude.{◌≡◌, List, [], ◌∷◌, ◌++◌, IfOk, OnOk, OnErr, length, option_copied};
+ghost use Rattle.std.specs.Prelude.{◌≡◌, List, [], ◌∷◌, ◌++◌, IfOk, OnOk, OnErr, length, option_copied, slice_get, Some};
 ghost use Rattle.shape_core.specs.Shape as pure;
 ghost use Rattle.shape_core.specs.declared.shared.SharedEntry.{SharedEntry};
 ghost use Rattle.shape_core.specs.Node.{entries_of};
 ghost use Rattle.shape_core.specs.View.{Sees};
-ghost use Rattle.shape_core.specs.Index.{Tells, IsIndexOf, before_of, there, mod_at, mty_at};
+ghost use Rattle.shape_core.specs.Index.{Tells, IsIndexOf, before_of, there, mod_at, mty_at, position_is, position_of};
 
 use crate::names::Names;
 use crate::shape::Seen;
@@ -13,10 +13,11 @@ use crate::shared::{Shared, SharedEntry};
 use rotor_base::{Goal, Memory, Place};
 use std::alloc::Global;
 
-/// The last value of a name: its goal, and the number of Dark entries before it.
+/// The last value of a name: its goal, its position, and the number of Dark entries before it.
 #[derive(Clone, Copy)]
 pub struct Spot {
     pub goal: Goal,
+    pub position: usize,
     pub darks: usize,
 }
 
@@ -59,6 +60,7 @@ impl Tables {
             SharedEntry::Val(x, goal) => {
                 let spot = Spot {
                     goal: *goal,
+                    position,
                     darks: self.darks.len(),
                 };
                 let spot = self.vals.put(alloc, x.as_bytes(), spot)?;
@@ -167,11 +169,52 @@ impl Index {
         module_type_at(list, self.tables.mtys.get(name))
     }
 
+    /// Whether no later entry of the list has the kind and name of the entry at a position; false for a Dark entry.
+    pub fn shown(&self, list: &[SharedEntry], at: usize) -> bool
+        requires { IsIndexOf self.now list.now }
+        ensures { result ≡ pure.is_shown (pure.entries_from at (entries_of list.now)) }
+    {
+        match list.get(at) {
+            Some(entry) => self.shown_entry(entry, at),
+            None => false,
+        }
+    }
+
+    // The same of the entry that stands at the position.
+    fn shown_entry(&self, entry: &SharedEntry, at: usize) -> bool
+        ensures { (list : List SharedEntry) → IsIndexOf self.now list → slice_get list at ≡ Some entry.now → result ≡ pure.is_shown (pure.entries_from at (entries_of list)) }
+    {
+        match entry {
+            SharedEntry::Val(x, _) => is_spot(self.tables.vals.get(x.as_bytes()), at),
+            SharedEntry::Mod(x, _) => is_at(self.tables.mods.get(x.as_bytes()), at),
+            SharedEntry::Mty(x, _) => is_at(self.tables.mtys.get(x.as_bytes()), at),
+            SharedEntry::Dark(_) => false,
+        }
+    }
+
     /// What a look-up of a value gives.
     pub fn val(&self, name: &[u8]) -> Option<Goal>
         ensures { (list : List SharedEntry) → IsIndexOf self.now list → result ≡ pure.find_val (entries_of list) name.now }
     {
         self.tables.seen(name).goal()
+    }
+}
+
+fn is_at(position: Option<usize>, at: usize) -> bool
+    ensures { result ≡ position_is at position }
+{
+    match position {
+        Some(position) => position == at,
+        None => false,
+    }
+}
+
+fn is_spot(spot: Option<Spot>, at: usize) -> bool
+    ensures { result ≡ position_is at (position_of spot) }
+{
+    match spot {
+        Some(spot) => spot.position == at,
+        None => false,
     }
 }
 

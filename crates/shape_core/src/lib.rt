@@ -17,7 +17,7 @@ pub use shape::{
     Entry, GREATEST_WEIGHT, Shape, copy, find_mod, find_mty, find_val, visible, walk, weight,
 };
 pub use shared::{
-    Shared, SharedEntry, entries, kind, levels_of, make_functor, make_opaque, make_struct,
-    make_unitary, mod_of, mty_of, param, result, val_of, weight_of,
+    Shared, SharedEntry, entries, is_shown, kind, levels_of, make_functor, make_opaque,
+    make_struct, make_unitary, mod_of, mty_of, param, result, val_of, weight_of,
 };
 pub use sharing::{bring, share, share_again};

@@ -333,7 +333,9 @@ pub fn copy(alloc: Global, shape: &Shape) -> Result<Shape, Memory>
 }
 
 // One level less, where there is one.
-pub fn below(levels: usize) -> Result<usize, Memory> {
+pub fn below(levels: usize) -> Result<usize, Memory>
+    ensures { IfOk result (λ left. levels ≡ left + 1) }
+{
     match levels {
         0 => Err(Memory),
         _ => Ok(levels - 1),

@@ -268,3 +268,16 @@ pub fn mty_of<'a>(shape: &'a Shared, name: &[u8]) -> Option<&'a Shared>
         Form::Opaque => None,
     }
 }
+
+/// Whether no later entry of a structure has the kind and name of the entry at a position, as [`crate::visible`]
+/// says; false for a Dark entry, past the end and for another shape. It costs a hash, and takes no memory.
+pub fn is_shown(shape: &Shared, at: usize) -> bool
+    ensures { result ≡ pure.is_shown (pure.entries_from at (pure.entries_in shape.now)) }
+{
+    match &shape.node.form {
+        Form::Struct(entries, index) => index.shown(entries, at),
+        Form::Functor(_, _) => false,
+        Form::Unitary(_) => false,
+        Form::Opaque => false,
+    }
+}

@@ -5,7 +5,7 @@ use Rattle.shape_core.proofs.index.Tables.note.Goals as goal
 pub returns-in_ok-spot-in-Val-clause-noted : goal.returns-in_ok-spot-in-Val-clause-noted
 returns-in_ok-spot-in-Val-clause-noted c list k t =
     let put = by_name c.args.self.now.vals c.put.new.self _ c.in-Val.x _ c.as_bytes.ensures c.in_ok-spot-in-Val.ensures.put in
-    at_entry _ list _ c.args.entry.now (sym c.in-Val.is) (tells_val c.args.self.now.vals c.put.new.self _ _ _ list c.in-Val.x c.in-Val.goal _ (c.len.ensures ∙ len_of c.args.self.now.darks) put t)
+    at_entry _ list _ c.args.entry.now (sym c.in-Val.is) (tells_val c.args.self.now.vals c.put.new.self _ _ _ list c.in-Val.x c.in-Val.goal _ _ k (c.len.ensures ∙ len_of c.args.self.now.darks) put t)
 
 pub returns-in_ok-position-in-Mod-clause-noted : goal.returns-in_ok-position-in-Mod-clause-noted
 returns-in_ok-position-in-Mod-clause-noted c list k t =
