@@ -111,7 +111,7 @@ pub record IsIndexOf (ix : Index) (list : List SharedEntry) : Type 0 where
   pub befores : ix.befores.items ≡ befores_from [] list
 
 abbrev pub IsIndexed : Form → Type 0
-IsIndexed (f.Struct es ix) = IsIndexOf ix es.items
+IsIndexed (f.Struct es ix) = IsIndexOf ix.value es.items
 IsIndexed (f.Functor p r) = Unit {0}
 IsIndexed (f.Unitary r) = Unit {0}
 IsIndexed f.Opaque = Unit {0}

@@ -31,7 +31,8 @@ struct Node {
 #[derive(Drop)]
 #[cycle(sharing)]
 enum Form {
-    Struct(Vec<SharedEntry>, Index),
+    // Boxed, so that a level of a deep shape takes little stack when it is dropped.
+    Struct(Vec<SharedEntry>, Box<Index>),
     Functor(Shared, Shared),
     Unitary(Shared),
     Opaque,
@@ -154,6 +155,7 @@ pub fn make_struct(alloc: Global, entries: Vec<SharedEntry>) -> Result<Shared, M
         weight = plus(weight, weight_of_entry(entry));
         levels = levels.max(levels_of_entry(entry));
     }
+    let index = Box::new(alloc, index)?;
     make(alloc, Form::Struct(entries, index), weight, levels)
 }
 
