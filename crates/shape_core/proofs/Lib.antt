@@ -1,0 +1,11 @@
+pub mod Lists
+pub mod Views
+pub mod Seen
+pub mod Weights
+pub mod NameTables
+pub mod Shown
+pub mod Telling
+pub mod Founds
+pub mod Matches
+pub mod Spelled
+pub mod Retold

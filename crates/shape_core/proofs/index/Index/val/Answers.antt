@@ -1,0 +1,6 @@
+use Rattle.std.proofs.Common.{◌∙◌}
+use Rattle.shape_core.proofs.Telling.{sees_val}
+use Rattle.shape_core.proofs.index.Index.val.Goals as goal
+
+pub returns : goal.returns
+returns c list h = c.goal.ensures ∙ sees_val _ _ c.seen.result (c.seen.ensures list h.tables)

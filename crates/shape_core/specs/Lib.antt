@@ -1,0 +1,10 @@
+pub mod Shape
+pub mod Codes
+pub mod View
+pub mod Links
+pub mod Looks
+pub mod Names
+pub mod Node
+pub mod Index
+pub mod Falls
+pub mod Respell

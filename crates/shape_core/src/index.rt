@@ -1,0 +1,264 @@
+//! Where the last entry of each kind and name stands in a list of entries.
+
+ghost use Rattle.std.specs.Prelude.{◌≡◌, List, [], ◌∷◌, ◌++◌, IfOk, OnOk, OnErr, length, option_copied, slice_get, Some};
+ghost use Rattle.shape_core.specs.Shape as pure;
+ghost use Rattle.shape_core.specs.declared.shared.SharedEntry.{SharedEntry};
+ghost use Rattle.shape_core.specs.Node.{entries_of};
+ghost use Rattle.shape_core.specs.View.{Sees};
+ghost use Rattle.shape_core.specs.Index.{Tells, IsIndexOf, before_of, there, mod_at, mty_at, position_is, position_of};
+
+use crate::names::Names;
+use crate::shape::Seen;
+use crate::shared::{Shared, SharedEntry};
+use rotor_base::{Goal, Memory, Place};
+use std::alloc::Global;
+
+/// The last value of a name: its goal, its position, and the number of Dark entries before it.
+#[derive(Clone, Copy)]
+pub struct Spot {
+    pub goal: Goal,
+    pub position: usize,
+    pub darks: usize,
+}
+
+/// What a list tells by name, and its Dark entries.
+#[derive(Drop)]
+pub struct Tables {
+    pub vals: Names<Spot>,
+    pub mods: Names<usize>,
+    pub mtys: Names<usize>,
+    pub darks: Vec<Place>,
+}
+
+/// What the tables told of an entry's name before the entry.
+#[derive(Clone, Copy)]
+pub struct Before {
+    pub spot: Option<Spot>,
+    pub position: Option<usize>,
+}
+
+/// The tables of a list, with what each of its entries changed in them.
+#[derive(Drop)]
+pub struct Index {
+    pub tables: Tables,
+    pub befores: Vec<Before>,
+}
+
+impl Tables {
+    // Takes in the entry at a position. An `Err` changes nothing of what is told.
+    fn note(
+        &mut self,
+        alloc: Global,
+        entry: &SharedEntry,
+        position: usize,
+    ) -> Result<Before, Memory>
+        ensures noted { OnOk result ((list : List SharedEntry) → length list ≡ position → Tells self.old list → Tells self.new (list ++ entry.now ∷ [])) }
+        ensures before { IfOk result (λ before. (list : List SharedEntry) → Tells self.old list → before ≡ before_of list entry.now) }
+        ensures kept { OnErr result ((list : List SharedEntry) → Tells self.old list → Tells self.new list) }
+    {
+        match entry {
+            SharedEntry::Val(x, goal) => {
+                let spot = Spot {
+                    goal: *goal,
+                    position,
+                    darks: self.darks.len(),
+                };
+                let spot = self.vals.put(alloc, x.as_bytes(), spot)?;
+                Ok(Before {
+                    spot,
+                    position: None,
+                })
+            }
+            SharedEntry::Mod(x, _) => {
+                let position = self.mods.put(alloc, x.as_bytes(), position)?;
+                Ok(Before {
+                    spot: None,
+                    position,
+                })
+            }
+            SharedEntry::Mty(x, _) => {
+                let position = self.mtys.put(alloc, x.as_bytes(), position)?;
+                Ok(Before {
+                    spot: None,
+                    position,
+                })
+            }
+            SharedEntry::Dark(at) => {
+                self.darks.push(*at)?;
+                Ok(Before {
+                    spot: None,
+                    position: None,
+                })
+            }
+        }
+    }
+
+    // Takes the last entry out.
+    fn forget(&mut self, entry: &SharedEntry, before: Before)
+        requires { (list : List SharedEntry) × Tells self.old (list ++ entry.now ∷ []) }
+        ensures { (list : List SharedEntry) → Tells self.old (list ++ entry.now ∷ []) → before ≡ before_of list entry.now → Tells self.new list }
+    {
+        match entry {
+            SharedEntry::Val(x, _) => self.vals.restore(x.as_bytes(), before.spot),
+            SharedEntry::Mod(x, _) => self.mods.restore(x.as_bytes(), before.position),
+            SharedEntry::Mty(x, _) => self.mtys.restore(x.as_bytes(), before.position),
+            SharedEntry::Dark(_) => {
+                self.darks.pop();
+            }
+        }
+    }
+}
+
+impl Index {
+    /// The index of the empty list.
+    pub fn new(alloc: Global) -> Self
+        ensures { IsIndexOf result [] }
+    {
+        let tables = Tables {
+            vals: Names::new(alloc),
+            mods: Names::new(alloc),
+            mtys: Names::new(alloc),
+            darks: Vec::new(alloc),
+        };
+        Index {
+            tables,
+            befores: Vec::new(alloc),
+        }
+    }
+
+    /// Takes in an entry at the end of the list. An `Err` leaves the index of the list.
+    pub fn add(&mut self, alloc: Global, entry: &SharedEntry) -> Result<(), Memory>
+        requires { (list : List SharedEntry) × IsIndexOf self.old list }
+        ensures added { OnOk result ((list : List SharedEntry) → IsIndexOf self.old list → IsIndexOf self.new (list ++ entry.now ∷ [])) }
+        ensures kept { OnErr result ((list : List SharedEntry) → IsIndexOf self.old list → IsIndexOf self.new list) }
+    {
+        let position = self.befores.len();
+        let before = self.tables.note(alloc, entry, position)?;
+        match self.befores.push(before) {
+            Ok(()) => Ok(()),
+            Err(_) => {
+                self.tables.forget(entry, before);
+                Err(Memory)
+            }
+        }
+    }
+
+    /// Takes the last entry of the list out.
+    pub fn take_out(&mut self, entry: &SharedEntry)
+        requires { (list : List SharedEntry) × IsIndexOf self.old (list ++ entry.now ∷ []) }
+        ensures { (list : List SharedEntry) → IsIndexOf self.old (list ++ entry.now ∷ []) → IsIndexOf self.new list }
+    {
+        if let Some(before) = self.befores.pop() {
+            self.tables.forget(entry, before);
+        }
+    }
+
+    /// The shape of the last module of that name in the list.
+    pub fn module<'a>(&self, list: &'a [SharedEntry], name: &[u8]) -> Option<&'a Shared>
+        requires { IsIndexOf self.now list.now }
+        ensures { option_copied result ≡ pure.find_mod (entries_of list.now) name.now }
+    {
+        module_at(list, self.tables.mods.get(name))
+    }
+
+    /// The shape of the last module type of that name in the list.
+    pub fn module_type<'a>(&self, list: &'a [SharedEntry], name: &[u8]) -> Option<&'a Shared>
+        requires { IsIndexOf self.now list.now }
+        ensures { option_copied result ≡ pure.find_mty (entries_of list.now) name.now }
+    {
+        module_type_at(list, self.tables.mtys.get(name))
+    }
+
+    /// Whether no later entry of the list has the kind and name of the entry at a position; false for a Dark entry.
+    pub fn shown(&self, list: &[SharedEntry], at: usize) -> bool
+        requires { IsIndexOf self.now list.now }
+        ensures { result ≡ pure.is_shown (pure.entries_from at (entries_of list.now)) }
+    {
+        match list.get(at) {
+            Some(entry) => self.shown_entry(entry, at),
+            None => false,
+        }
+    }
+
+    // The same of the entry that stands at the position.
+    fn shown_entry(&self, entry: &SharedEntry, at: usize) -> bool
+        ensures { (list : List SharedEntry) → IsIndexOf self.now list → slice_get list at ≡ Some entry.now → result ≡ pure.is_shown (pure.entries_from at (entries_of list)) }
+    {
+        match entry {
+            SharedEntry::Val(x, _) => is_spot(self.tables.vals.get(x.as_bytes()), at),
+            SharedEntry::Mod(x, _) => is_at(self.tables.mods.get(x.as_bytes()), at),
+            SharedEntry::Mty(x, _) => is_at(self.tables.mtys.get(x.as_bytes()), at),
+            SharedEntry::Dark(_) => false,
+        }
+    }
+
+    /// What a look-up of a value gives.
+    pub fn val(&self, name: &[u8]) -> Option<Goal>
+        ensures { (list : List SharedEntry) → IsIndexOf self.now list → result ≡ pure.find_val (entries_of list) name.now }
+    {
+        self.tables.seen(name).goal()
+    }
+}
+
+fn is_at(position: Option<usize>, at: usize) -> bool
+    ensures { result ≡ position_is at position }
+{
+    match position {
+        Some(position) => position == at,
+        None => false,
+    }
+}
+
+fn is_spot(spot: Option<Spot>, at: usize) -> bool
+    ensures { result ≡ position_is at (position_of spot) }
+{
+    match spot {
+        Some(spot) => spot.position == at,
+        None => false,
+    }
+}
+
+fn module_at(list: &[SharedEntry], position: Option<usize>) -> Option<&Shared>
+    ensures { option_copied result ≡ there mod_at list.now position }
+{
+    match list.get(position?) {
+        Some(SharedEntry::Mod(_, shape)) => Some(shape),
+        _ => None,
+    }
+}
+
+fn module_type_at(list: &[SharedEntry], position: Option<usize>) -> Option<&Shared>
+    ensures { option_copied result ≡ there mty_at list.now position }
+{
+    match list.get(position?) {
+        Some(SharedEntry::Mty(_, shape)) => Some(shape),
+        _ => None,
+    }
+}
+
+impl Tables {
+    // What a look-up of a value has seen of the list.
+    fn seen(&self, name: &[u8]) -> Seen
+        ensures { (list : List SharedEntry) → Tells self.now list → Sees (entries_of list) name.now result }
+    {
+        match self.vals.get(name) {
+            None => Seen {
+                found: None,
+                by: self.darks.last().copied(),
+                passed: self.darks.len() as u64,
+            },
+            Some(spot) => {
+                let passed = self.darks.len().saturating_sub(spot.darks);
+                Seen {
+                    found: Some(spot.goal),
+                    by: if passed == 0 {
+                        None
+                    } else {
+                        self.darks.last().copied()
+                    },
+                    passed: passed as u64,
+                }
+            }
+        }
+    }
+}

@@ -1,0 +1,112 @@
+//! Scopes: lists of entries that grow at their end and are cut back.
+
+ghost use Rattle.std.specs.Prelude.{◌≡◌, ◌≤◌, [], ◌∷◌, ◌++◌, IfOk, OnOk, OnErr, length, take, option_copied};
+ghost use Rattle.shape_core.specs.Shape as pure;
+ghost use Rattle.shape_core.specs.Node.{entries_of};
+
+use crate::index::Index;
+use crate::shared::{Shared, SharedEntry};
+use rotor_base::{Goal, Memory};
+use std::alloc::Global;
+use std::marker::Model;
+
+/// A scope, with its entries indexed by name. Contracts see it as the list of its entries. A look-up costs a hash,
+/// also behind many pushes and cuts.
+#[derive(Drop)]
+pub struct Scope {
+    alloc: Global,
+    entries: Vec<SharedEntry>,
+    index: Index,
+}
+
+impl Model for Scope {
+    ghost use Rattle.std.specs.Prelude.{List};
+    ghost use Rattle.shape_core.specs.declared.shared.SharedEntry.{SharedEntry};
+    ghost use Rattle.std.specs.Coded.{coded_list};
+    ghost use Rattle.shape_core.specs.contracts.shared.SharedEntry.{the_row};
+
+    ghost Value = { List SharedEntry };
+
+    ghost coded = { coded_list the_row.coded };
+
+    ghost use Rattle.shape_core.specs.Index.{IsIndexOf};
+
+    ghost view = { λ s. s.entries.items };
+
+    ghost invariant = { λ s. IsIndexOf s.index s.entries.items };
+}
+
+impl Scope {
+    /// The empty scope.
+    pub fn new(alloc: Global) -> Result<Scope, Memory>
+        ensures { IfOk result (λ scope. scope ≡ []) }
+    {
+        Ok(Scope {
+            alloc,
+            entries: Vec::new(alloc),
+            index: Index::new(alloc),
+        })
+    }
+
+    /// Adds an entry at the end. An `Err` changes nothing. It costs a hash of the entry's name.
+    pub fn push(&mut self, entry: SharedEntry) -> Result<(), Memory>
+        ensures pushed { OnOk result (self.new ≡ self.old ++ entry ∷ []) }
+        ensures kept { OnErr result (self.new ≡ self.old) }
+    {
+        self.index.add(self.alloc, &entry)?;
+        match self.entries.push(entry) {
+            Ok(()) => Ok(()),
+            Err(failed) => {
+                self.index.take_out(&failed.value);
+                Err(Memory)
+            }
+        }
+    }
+
+    /// The number of entries. It takes no memory.
+    pub fn len(&self) -> usize
+        ensures { result ≡ length self.now }
+    {
+        self.entries.len()
+    }
+
+    /// The entries in order. It takes no memory.
+    pub fn all(&self) -> &[SharedEntry]
+        ensures { result.now ≡ self.now }
+    {
+        &self.entries
+    }
+
+    /// Keeps the first `len` entries. It costs a hash for each entry that goes, and takes no memory.
+    pub fn cut(&mut self, len: usize)
+        requires { len ≤ length self.old }
+        ensures { self.new ≡ take len self.old }
+    {
+        while self.entries.len() > len {
+            if let Some(entry) = self.entries.pop() {
+                self.index.take_out(&entry);
+            }
+        }
+    }
+}
+
+/// The goal that a look-up of a value gives, as [`crate::find_val`] does. It costs a hash, and takes no memory.
+pub fn val_in(scope: &Scope, name: &[u8]) -> Option<Goal>
+    ensures { result ≡ pure.find_val (entries_of scope.now) name.now }
+{
+    scope.index.val(name)
+}
+
+/// The shape of the last module of that name. It costs a hash, and takes no memory.
+pub fn mod_in<'a>(scope: &'a Scope, name: &[u8]) -> Option<&'a Shared>
+    ensures { option_copied result ≡ pure.find_mod (entries_of scope.now) name.now }
+{
+    scope.index.module(&scope.entries, name)
+}
+
+/// The shape of the last module type of that name. It costs a hash, and takes no memory.
+pub fn mty_in<'a>(scope: &'a Scope, name: &[u8]) -> Option<&'a Shared>
+    ensures { option_copied result ≡ pure.find_mty (entries_of scope.now) name.now }
+{
+    scope.index.module_type(&scope.entries, name)
+}

@@ -1,0 +1,285 @@
+//! The shared form of shapes.
+
+ghost use Rattle.std.specs.Prelude.{◌≡◌, ◌≤◌, ◌+◌, IfOk, option_copied};
+ghost use Rattle.shape_core.specs.Shape as pure;
+ghost use Rattle.shape_core.specs.Node.{entries_of, and_then, shape_of, kind_of};
+ghost use Rattle.shape_core.specs.Index.{IsIndexed};
+
+use crate::index::Index;
+use crate::kinds::Kind;
+use crate::shape::plus;
+use rotor_base::{Goal, MAX_LEVELS, Memory, Name, Place};
+use std::alloc::{AllocError, Global};
+use std::marker::Model;
+use std::rc::Rc;
+
+/// A shape whose parts are shared. Contracts see it as the shape.
+#[derive(Drop)]
+#[cycle(sharing)]
+pub struct Shared {
+    node: Rc<Node>,
+}
+
+#[derive(Drop)]
+#[cycle(sharing)]
+struct Node {
+    form: Form,
+    weight: u64,
+    levels: usize,
+}
+
+#[derive(Drop)]
+#[cycle(sharing)]
+enum Form {
+    // Boxed, so that a level of a deep shape takes little stack when it is dropped.
+    Struct(Vec<SharedEntry>, Box<Index>),
+    Functor(Shared, Shared),
+    Unitary(Shared),
+    Opaque,
+}
+
+/// A part of a scope or of a structure, whose shapes are shared.
+#[derive(Drop)]
+#[cycle(sharing)]
+pub enum SharedEntry {
+    /// A value and its goal.
+    Val(Name, Goal),
+    /// A module and its shape.
+    Mod(Name, Shared),
+    /// A module type and its shape.
+    Mty(Name, Shared),
+    /// An opening of an outside module, at its site.
+    Dark(Place),
+}
+
+impl Model for Shared {
+    ghost use Rattle.shape_core.specs.Shape.{Shape, depth};
+    ghost use Rattle.shape_core.specs.Codes.{coded_shape};
+
+    ghost Value = { Shape };
+
+    ghost coded = { coded_shape };
+
+    ghost use Rattle.shape_core.specs.Node.{shape_of};
+    ghost use Rattle.shape_core.specs.Index.{IsSound};
+
+    ghost view = { λ s. shape_of s.node.value.form };
+
+    ghost invariant = { λ s. IsSound s.node.value };
+
+    ghost size = { depth };
+
+    ghost use Rattle.shape_core.specs.Falls.{depth_falls};
+
+    ghost size_decreases = { λ s h. depth_falls s.node.value };
+}
+
+impl Clone for Shared {
+    ghost is_clone = { λ shape copy. copy ≡ shape };
+
+    fn clone(&self) -> Result<Shared, AllocError> {
+        Ok(Shared {
+            node: self.node.clone()?,
+        })
+    }
+}
+
+// The shape of a form, unless it is too deep.
+fn make(alloc: Global, form: Form, weight: u64, levels: usize) -> Result<Shared, Memory>
+    requires weight { weight ≡ pure.capped (pure.weight (shape_of form)) }
+    requires levels { levels ≡ pure.depth (shape_of form) }
+    requires indexed { IsIndexed form }
+    ensures { IfOk result (λ shape. shape ≡ shape_of form) }
+{
+    if levels > MAX_LEVELS {
+        return Err(Memory);
+    }
+    let node = Rc::new(
+        alloc,
+        Node {
+            form,
+            weight,
+            levels,
+        },
+    )?;
+    Ok(Shared { node })
+}
+
+/// The weight of a shape, or 16,777,216 where it is more. It is kept in the shape, and takes no memory.
+pub fn weight_of(shape: &Shared) -> u64
+    ensures { result ≡ pure.capped (pure.weight shape.now) }
+{
+    shape.node.weight
+}
+
+/// How many levels of shapes stand below a shape: at most [`MAX_LEVELS`]. It takes no memory.
+pub fn levels_of(shape: &Shared) -> usize
+    ensures levels { result ≡ pure.depth shape.now }
+    ensures bound { result ≤ 3000 }
+{
+    shape.node.levels
+}
+
+fn weight_of_entry(entry: &SharedEntry) -> u64
+    ensures { result ≡ pure.capped (pure.weights (and_then entry.now pure.none)) }
+{
+    match entry {
+        SharedEntry::Val(_, _) => 1,
+        SharedEntry::Mod(_, shape) => plus(1, weight_of(shape)),
+        SharedEntry::Mty(_, shape) => plus(1, weight_of(shape)),
+        SharedEntry::Dark(_) => 1,
+    }
+}
+
+fn levels_of_entry(entry: &SharedEntry) -> usize
+    ensures { result ≡ pure.depths (and_then entry.now pure.none) }
+{
+    match entry {
+        SharedEntry::Val(_, _) => 0,
+        SharedEntry::Mod(_, shape) => levels_of(shape) + 1,
+        SharedEntry::Mty(_, shape) => levels_of(shape) + 1,
+        SharedEntry::Dark(_) => 0,
+    }
+}
+
+/// The structure of these entries. `Memory` is the only error; it comes where there is none, and where the shape
+/// would be deeper than [`MAX_LEVELS`]. It costs a hash for each entry.
+pub fn make_struct(alloc: Global, entries: Vec<SharedEntry>) -> Result<Shared, Memory>
+    ensures { IfOk result (λ shape. shape ≡ pure.Struct (entries_of entries.items)) }
+{
+    let mut index = Index::new(alloc);
+    let mut weight = 0;
+    let mut levels = 0;
+    for entry in &entries {
+        index.add(alloc, entry)?;
+        weight = plus(weight, weight_of_entry(entry));
+        levels = levels.max(levels_of_entry(entry));
+    }
+    let index = Box::new(alloc, index)?;
+    make(alloc, Form::Struct(entries, index), weight, levels)
+}
+
+/// The functor of this parameter with this result; errors as for [`make_struct`].
+pub fn make_functor(alloc: Global, param: Shared, body: Shared) -> Result<Shared, Memory>
+    ensures { IfOk result (λ shape. shape ≡ pure.Functor param body) }
+{
+    let weight = plus(1, plus(weight_of(&param), weight_of(&body)));
+    let levels = levels_of(&param).max(levels_of(&body)) + 1;
+    make(alloc, Form::Functor(param, body), weight, levels)
+}
+
+/// The functor with the parameter `()` and this result; errors as for [`make_struct`].
+pub fn make_unitary(alloc: Global, body: Shared) -> Result<Shared, Memory>
+    ensures { IfOk result (λ shape. shape ≡ pure.Unitary body) }
+{
+    let weight = plus(1, weight_of(&body));
+    let levels = levels_of(&body) + 1;
+    make(alloc, Form::Unitary(body), weight, levels)
+}
+
+/// The shape of an outside or unknown module; errors as for [`make_struct`].
+pub fn make_opaque(alloc: Global) -> Result<Shared, Memory>
+    ensures { IfOk result (λ shape. shape ≡ pure.Opaque) }
+{
+    make(alloc, Form::Opaque, 0, 0)
+}
+
+/// What kind of shape a shape is. It takes no memory.
+pub fn kind(shape: &Shared) -> Kind
+    ensures { result ≡ kind_of shape.now }
+{
+    match &shape.node.form {
+        Form::Struct(_, _) => Kind::Struct,
+        Form::Functor(_, _) => Kind::Functor,
+        Form::Unitary(_) => Kind::Unitary,
+        Form::Opaque => Kind::Opaque,
+    }
+}
+
+/// The entries of a structure, none of another shape. It takes no memory.
+pub fn entries(shape: &Shared) -> &[SharedEntry]
+    ensures { entries_of result.now ≡ pure.entries_in shape.now }
+{
+    match &shape.node.form {
+        Form::Struct(entries, _) => entries,
+        Form::Functor(_, _) => &[],
+        Form::Unitary(_) => &[],
+        Form::Opaque => &[],
+    }
+}
+
+/// The parameter of a functor. It takes no memory.
+pub fn param(shape: &Shared) -> Option<&Shared>
+    ensures { option_copied result ≡ pure.param_of shape.now }
+{
+    match &shape.node.form {
+        Form::Functor(param, _) => Some(param),
+        Form::Struct(_, _) => None,
+        Form::Unitary(_) => None,
+        Form::Opaque => None,
+    }
+}
+
+/// The result of a functor, also of one with the parameter `()`. It takes no memory.
+pub fn result(shape: &Shared) -> Option<&Shared>
+    ensures { option_copied result ≡ pure.result_of shape.now }
+{
+    match &shape.node.form {
+        Form::Functor(_, body) => Some(body),
+        Form::Unitary(body) => Some(body),
+        Form::Struct(_, _) => None,
+        Form::Opaque => None,
+    }
+}
+
+/// The goal that a look-up of a value in a structure gives, as [`crate::find_val`] does; `None` for another shape. It
+/// costs a hash, and takes no memory.
+pub fn val_of(shape: &Shared, name: &[u8]) -> Option<Goal>
+    ensures { result ≡ pure.find_val (pure.entries_in shape.now) name.now }
+{
+    match &shape.node.form {
+        Form::Struct(_, index) => index.val(name),
+        Form::Functor(_, _) => None,
+        Form::Unitary(_) => None,
+        Form::Opaque => None,
+    }
+}
+
+/// The shape of the last module of that name in a structure; `None` for another shape. It costs a hash, and takes
+/// no memory.
+pub fn mod_of<'a>(shape: &'a Shared, name: &[u8]) -> Option<&'a Shared>
+    ensures { option_copied result ≡ pure.find_mod (pure.entries_in shape.now) name.now }
+{
+    match &shape.node.form {
+        Form::Struct(entries, index) => index.module(entries, name),
+        Form::Functor(_, _) => None,
+        Form::Unitary(_) => None,
+        Form::Opaque => None,
+    }
+}
+
+/// The shape of the last module type of that name in a structure; `None` for another shape. It costs a hash, and
+/// takes no memory.
+pub fn mty_of<'a>(shape: &'a Shared, name: &[u8]) -> Option<&'a Shared>
+    ensures { option_copied result ≡ pure.find_mty (pure.entries_in shape.now) name.now }
+{
+    match &shape.node.form {
+        Form::Struct(entries, index) => index.module_type(entries, name),
+        Form::Functor(_, _) => None,
+        Form::Unitary(_) => None,
+        Form::Opaque => None,
+    }
+}
+
+/// Whether no later entry of a structure has the kind and name of the entry at a position, as [`crate::visible`]
+/// says; false for a Dark entry, past the end and for another shape. It costs a hash, and takes no memory.
+pub fn is_shown(shape: &Shared, at: usize) -> bool
+    ensures { result ≡ pure.is_shown (pure.entries_from at (pure.entries_in shape.now)) }
+{
+    match &shape.node.form {
+        Form::Struct(entries, index) => index.shown(entries, at),
+        Form::Functor(_, _) => false,
+        Form::Unitary(_) => false,
+        Form::Opaque => false,
+    }
+}
