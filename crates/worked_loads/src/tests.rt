@@ -1,0 +1,6 @@
+mod faults;
+mod folders;
+mod limits;
+mod lines;
+mod system;
+mod told;

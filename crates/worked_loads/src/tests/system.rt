@@ -1,0 +1,111 @@
+// The system's folder: files, a folder of a source's name, a source that leads nowhere, and a name that is no text.
+use super::told::{Told, is_told};
+use project_load::load;
+use std::alloc::{Allocator, Global};
+use std::fs::{Files, Metadata, OpenOptions};
+use std::process::Abort;
+use std::test::Fail;
+use std::{fs, io};
+use tree_io::HostTree;
+
+/// The system's files, with a listing of its own.
+#[derive(Clone, Copy)]
+struct Listed<'a, R> {
+    rt: &'a R,
+    names: &'a [u8],
+}
+
+impl<'a, R: Files> Files for Listed<'a, R> {
+    type File = R::File;
+
+    type Dir = &'a [u8];
+
+    fn open_file(&self, how: &OpenOptions, path: &str) -> io::Result<R::File> {
+        self.rt.open_file(how, path)
+    }
+
+    fn open_dir(&self, _path: &str) -> io::Result<&'a [u8]> {
+        Ok(self.names)
+    }
+
+    fn metadata(&self, path: &str) -> io::Result<Metadata> {
+        self.rt.metadata(path)
+    }
+
+    fn symlink_metadata(&self, path: &str) -> io::Result<Metadata> {
+        self.rt.symlink_metadata(path)
+    }
+
+    fn copy(&self, from: &str, to: &str) -> io::Result<u64> {
+        self.rt.copy(from, to)
+    }
+
+    fn rename(&self, from: &str, to: &str) -> io::Result<()> {
+        self.rt.rename(from, to)
+    }
+
+    fn remove_file(&self, path: &str) -> io::Result<()> {
+        self.rt.remove_file(path)
+    }
+
+    fn create_dir(&self, path: &str) -> io::Result<()> {
+        self.rt.create_dir(path)
+    }
+
+    fn remove_dir(&self, path: &str) -> io::Result<()> {
+        self.rt.remove_dir(path)
+    }
+
+    fn remove_dir_all<B: Allocator>(&self, alloc: B, path: &str) -> io::Result<()> {
+        self.rt.remove_dir_all(alloc, path)
+    }
+}
+
+#[test]
+fn host_tree(rt: HostRuntime) -> Result<(), Fail> {
+    let alloc = rt.alloc();
+    fs::write(&rt, "b.ml", "let y = 1")?;
+    fs::write(&rt, "a.mli", "val x : int")?;
+    fs::write(&rt, "rotor.units", "B\r\nA")?;
+    fs::write(&rt, "notes", "c")?;
+    fs::create_dir(&rt, "sub.ml.d")?;
+    let mut tree = HostTree::new(&rt);
+    let told = Told::Loaded(&[("a.mli", "val x : int"), ("b.ml", "let y = 1")]);
+    assert!(rt; is_told(&load(alloc, &mut tree), &told), "files");
+    // A folder of a source's name cannot be read.
+    fs::create_dir(&rt, "c.ml")?;
+    assert!(rt; is_told(&load(alloc, &mut tree), &Told::Read), "a folder");
+    fs::remove_dir(&rt, "c.ml")?;
+    // Nor can a link that leads nowhere.
+    rt.symlink("nowhere", "c.ml")?;
+    assert!(rt; is_told(&load(alloc, &mut tree), &Told::Read), "a link");
+    fs::remove_file(&rt, "c.ml")?;
+    assert!(rt; is_told(&load(alloc, &mut tree), &told), "files again");
+    for name in ["a.mli", "b.ml", "notes", "rotor.units"] {
+        fs::remove_file(&rt, name)?;
+    }
+    fs::remove_dir(&rt, "sub.ml.d")?;
+    odd_names(&rt, alloc)
+}
+
+/// Loads with listings that a folder in memory cannot have.
+fn odd_names<R: Abort + Files>(rt: &R, alloc: Global) -> Result<(), Fail> {
+    fs::write(rt, "a.ml", "let x = 1")?;
+    // A name that stands twice is loaded once; one that is no UTF-8 is a fault, a source or not.
+    let cases: [(&[u8], Told); 4] = [
+        (
+            b".\0..\0a.ml\0\xc3\xa9\0a.ml\0",
+            Told::Loaded(&[("a.ml", "let x = 1")]),
+        ),
+        (b"a.ml\0\xff.ml\0", Told::Read),
+        (b"\xc3\0a.ml\0", Told::Read),
+        (b"a.ml\0b.ml\0", Told::Read),
+    ];
+    for (names, told) in cases {
+        let listed = Listed { rt, names };
+        let mut tree = HostTree::new(&listed);
+        assert!(rt; is_told(&load(alloc, &mut tree), &told), "{names:?}");
+    }
+    fs::remove_file(rt, "a.ml")?;
+    Ok(())
+}
