@@ -1,5 +1,7 @@
 //! Commands written out for the tables.
 
+ghost use Rattle.std.specs.Prelude.{◌≡◌, IfOk, None};
+
 use cli_words::{Command, WordsError};
 use rotor_base::{Files, LoadError, Name, Target, make_files};
 use std::alloc::{AllocError, Global};
@@ -86,6 +88,8 @@ fn name_told(name: &Name) -> &str {
 }
 
 /// A project of no files.
-pub fn no_files(alloc: Global) -> Result<Files, LoadError> {
+pub fn no_files(alloc: Global) -> Result<Files, LoadError>
+    ensures manifest { IfOk result (λ files. files.manifest ≡ None) }
+{
     make_files(alloc, Vec::new(alloc), None)
 }

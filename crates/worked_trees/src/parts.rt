@@ -1,11 +1,16 @@
 //! Parts of trees.
 
+ghost use Rattle.std.specs.Prelude.{◌≡◌, IfOk};
+
 use ml_syntax::{Expr, Pat, ValueName, Word};
 use rotor_base::{Class, Memory, Name};
 use std::alloc::Global;
 
 /// A word of this class, token and text.
-pub fn word(alloc: Global, class: Class, token: u32, text: &str) -> Result<Word, Memory> {
+pub fn word(alloc: Global, class: Class, token: u32, text: &str) -> Result<Word, Memory>
+    ensures token { IfOk result (λ word. word.token ≡ token) }
+    ensures name { IfOk result (λ word. word.name ≡ text.now) }
+{
     Ok(Word {
         token,
         class,

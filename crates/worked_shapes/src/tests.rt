@@ -1,0 +1,3 @@
+mod depth;
+mod lookups;
+mod two_includes;
