@@ -2,7 +2,7 @@
 use crate::parts::{lower, operator, value, value_pattern, word};
 use ml_syntax::{
     Argument, Binding, Expr, Field, FileTree, Item, Mark, Param, Pat, PatField, Path, ValueName,
-    binders, puns, value_refs,
+    Word, binders, puns, value_refs,
 };
 use rotor_base::{Class, Memory};
 use std::alloc::Global;
@@ -105,11 +105,11 @@ fn pairs(alloc: Global) -> Result<FileTree, Memory> {
     )
 }
 
-/// `{ x }` as an expression, whose `{` is this token.
-fn punned_record(alloc: Global, at: u32) -> Result<Expr, Memory> {
+/// `{ x }` as an expression, whose `{` and `x` are these tokens.
+fn punned_record(alloc: Global, at: u32, token: u32) -> Result<Expr, Memory> {
     let field = Field::FieldPun {
         path: Vec::new(alloc),
-        label: lower(alloc, at + 1, "x")?,
+        label: lower(alloc, token, "x")?,
         run: None,
     };
     Ok(Expr::Record {
@@ -135,12 +135,12 @@ fn fields(alloc: Global) -> Result<FileTree, Memory> {
         open: None,
         last: false,
     };
-    plain(alloc, pat, 5, punned_record(alloc, 6)?)
+    plain(alloc, pat, 5, punned_record(alloc, 6, 7)?)
 }
 
 /// `M.{ x }`
 fn opened(alloc: Global) -> Result<FileTree, Memory> {
-    let body = Box::new(alloc, punned_record(alloc, 3)?)?;
+    let body = Box::new(alloc, punned_record(alloc, 3, 4)?)?;
     let e = Expr::Opened {
         path: path(alloc, 1, "M")?,
         body,
@@ -197,46 +197,57 @@ fn labels(alloc: Global) -> Result<FileTree, Memory> {
     with_binding(alloc, binding)
 }
 
-/// `( + ) - - x`
-fn operators(alloc: Global) -> Result<FileTree, Memory> {
-    let name = ValueName::Operator {
-        open: 1,
-        word: operator(alloc, 2, "+")?,
-    };
-    let first = Expr::Value {
+/// `( + )`
+fn plus(alloc: Global) -> Result<Expr, Memory> {
+    let word = operator(alloc, 2, "+")?;
+    Ok(Expr::Value {
         path: Vec::new(alloc),
-        name,
-    };
-    let minus = Expr::Minus {
+        name: ValueName::Operator { open: 1, word },
+    })
+}
+
+/// `- x`
+fn minus(alloc: Global) -> Result<Expr, Memory> {
+    let operand = Box::new(alloc, value(alloc, 6, "x")?)?;
+    Ok(Expr::Minus {
         sign: operator(alloc, 5, "-")?,
-        operand: Box::new(alloc, value(alloc, 6, "x")?)?,
-    };
+        operand,
+    })
+}
+
+/// A chain of two operands.
+fn chain(alloc: Global, level: u32, first: Expr, link: Word, last: Expr) -> Result<Expr, Memory> {
     let mut rest = Vec::new(alloc);
-    rest.push((operator(alloc, 4, "-")?, minus))?;
-    let e = Expr::Chain {
-        level: 10,
+    rest.push((link, last))?;
+    Ok(Expr::Chain {
+        level,
         first: Box::new(alloc, first)?,
         rest,
-    };
+    })
+}
+
+/// `( + ) - - x`
+fn operators(alloc: Global) -> Result<FileTree, Memory> {
+    let e = chain(
+        alloc,
+        10,
+        plus(alloc)?,
+        operator(alloc, 4, "-")?,
+        minus(alloc)?,
+    )?;
     with_expression(alloc, e)
+}
+
+/// `b :: c`
+fn cons(alloc: Global) -> Result<Expr, Memory> {
+    let link = word(alloc, Class::Mark, 4, "::")?;
+    chain(alloc, 9, value(alloc, 3, "b")?, link, value(alloc, 5, "c")?)
 }
 
 /// `a = b :: c`
 fn marks(alloc: Global) -> Result<FileTree, Memory> {
-    let mut tail = Vec::new(alloc);
-    tail.push((word(alloc, Class::Mark, 4, "::")?, value(alloc, 5, "c")?))?;
-    let cons = Expr::Chain {
-        level: 9,
-        first: Box::new(alloc, value(alloc, 3, "b")?)?,
-        rest: tail,
-    };
-    let mut rest = Vec::new(alloc);
-    rest.push((word(alloc, Class::Mark, 2, "=")?, cons))?;
-    let e = Expr::Chain {
-        level: 7,
-        first: Box::new(alloc, value(alloc, 1, "a")?)?,
-        rest,
-    };
+    let link = word(alloc, Class::Mark, 2, "=")?;
+    let e = chain(alloc, 7, value(alloc, 1, "a")?, link, cons(alloc)?)?;
     with_expression(alloc, e)
 }
 
