@@ -1,0 +1,10 @@
+pub mod Stepping
+pub mod Reach
+pub mod FoundPieces
+pub mod FoundPat
+pub mod LongerPat
+pub mod ReachPieces
+pub mod ReachSimple
+pub mod ReachPat
+pub mod LawsPat
+pub mod FormSteps
