@@ -5,3 +5,5 @@ pub mod PinWalks
 pub mod FirstWalks
 pub mod MatchWalks
 pub mod LinkAnswers
+pub mod Lasts
+pub mod LookAnswers

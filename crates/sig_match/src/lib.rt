@@ -3,7 +3,9 @@
 
 mod found;
 mod links;
+mod looks;
 mod matching;
 mod pinning;
 
 pub use links::{Matched, match_shapes, pin};
+pub use looks::{match_looks, pin_looks};
