@@ -1,5 +1,5 @@
 -- The last value that a test takes, in a list with one entry more.
-use Rattle.std.proofs.lemmas.List.{take_more}
+use Rattle.std.proofs.lemmas.List.{take_more, append-nil}
 use Rattle.std.proofs.Common.{◌≡◌, ℕ, suc, ◌+◌, ◌<◌, ◌≤◌, Bool, true, false, List, [], ◌∷◌, ◌++◌, length, take, get_or, Option, Some, None, refl, sym, ap, ◌∙◌, arith}
 use Rattle.rotor_base.specs.declared.place.Place.{Place}
 use Rattle.rotor_base.specs.declared.place.Goal.{Goal}
@@ -39,12 +39,8 @@ darker_if false s = refl
 pub darks_push : (list : List SharedEntry) (d : SharedEntry) → darks (entries_of (list ++ d ∷ [])) ≡ darks (entries_of list) ++ darks (and_then d none)
 darks_push list d = ap darks (entries_of-append list (d ∷ [])) ∙ darks-append (entries_of list) (and_then d none)
 
-nil_right : {A : Type 0} (a : List A) → a ++ [] ≡ a
-nil_right [] = refl
-nil_right (x ∷ a) = ap (λ l. x ∷ l) (nil_right a)
-
 same_darks : (list : List SharedEntry) (d : SharedEntry) → darks (and_then d none) ≡ [] → length (darks (entries_of (list ++ d ∷ []))) ≡ length (darks (entries_of list))
-same_darks list d h = ap length (darks_push list d ∙ ap (λ l. darks (entries_of list) ++ l) h ∙ nil_right (darks (entries_of list)))
+same_darks list d h = ap length (darks_push list d ∙ ap (λ l. darks (entries_of list) ++ l) h ∙ append-nil (darks (entries_of list)))
 
 length_push : {A : Type 0} (a : List A) (x : A) → length (a ++ x ∷ []) ≡ suc (length a)
 length_push [] x = refl
@@ -165,5 +161,5 @@ pub darks_still : (xs : List SharedEntry) (i : ℕ) (d : SharedEntry) (n n' : �
     → (n' ≡ length (darks (entries_of (take (i + 1) xs)))) × (m' ≡ last_place (darks (entries_of (take (i + 1) xs)))) × (n' ≤ i + 1)
 darks_still xs i d n n' m m' h k t a q b c f =
     let g : darks (entries_of (take (i + 1) xs)) ≡ darks (entries_of (take i xs)) =
-    now_darks xs i d h k ∙ ap (λ z. darks (entries_of (take i xs)) ++ z) t ∙ nil_right (darks (entries_of (take i xs))) in
+    now_darks xs i d h k ∙ ap (λ z. darks (entries_of (take i xs)) ++ z) t ∙ append-nil (darks (entries_of (take i xs))) in
     (c ∙ a ∙ ap length (sym g), f ∙ q ∙ ap last_place (sym g), omega (arith, b, c))

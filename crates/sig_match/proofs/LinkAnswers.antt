@@ -1,6 +1,6 @@
 -- Links of meetings, and the answers of walks.
 use Rattle.std.proofs.Common.{◌≡◌, ℕ, ◌+◌, ◌<◌, ◌≤◌, Bool, true, false, List, [], ◌∷◌, ◌++◌, map, length, take, get_or, Option, Some, None, refl, sym, ap, subst, ◌∙◌, arith}
-use Rattle.std.proofs.lemmas.List.{take_more}
+use Rattle.std.proofs.lemmas.List.{take_more, append-nil, map-append}
 use Rattle.std.specs.Prelude.{Result, Ok, Err, IfOk}
 use Rattle.rotor_base.specs.declared.place.Goal.{Goal}
 use Rattle.rotor_base.specs.declared.place.Goal.TheVariants.{Hidden}
@@ -78,14 +78,6 @@ pub hidden_source : (src : Option Entries) (es rest : Entries) (x : Name) (g s :
 hidden_source src es rest x g s b h k l m = m ∙ hidden_goal (last_of (vals rest) x) (source_of src x) b (k ∙ ap is_shown h) l
 
 -- the links of one meeting more
-map-append : {A B : Type 0} (f : A → B) (xs ys : List A) → map f (xs ++ ys) ≡ map f xs ++ map f ys
-map-append f [] ys = refl
-map-append f (x ∷ xs) ys = ap (λ l. f x ∷ l) (map-append f xs ys)
-
-nil_right : {A : Type 0} (a : List A) → a ++ [] ≡ a
-nil_right [] = refl
-nil_right (x ∷ a) = ap (λ l. x ∷ l) (nil_right a)
-
 more_links : (xs : List Meeting) (i : ℕ) (d : Meeting) → i < length xs → d ≡ get_or xs i d → map link_of (mets (take (i + 1) xs)) ≡ map link_of (mets (take i xs)) ++ map link_of (met_at d)
 more_links xs i d h k =
     ap (λ l. map link_of (mets l)) (take_more xs i d h)
@@ -98,7 +90,7 @@ pub links_some : (ls os : List Link) (l : Link) (xs : List Meeting) (i : ℕ) (d
 links_some ls os l xs i d h k a b e = e ∙ ap (λ z. z ++ l ∷ []) a ∙ ap (λ z. map link_of (mets (take i xs)) ++ z) b ∙ sym (more_links xs i d h k)
 
 pub links_none : (ls : List Link) (xs : List Meeting) (i : ℕ) (d : Meeting) → i < length xs → d ≡ get_or xs i d → ls ≡ map link_of (mets (take i xs)) → [] ≡ map link_of (met_at d) → ls ≡ map link_of (mets (take (i + 1) xs))
-links_none ls xs i d h k a b = a ∙ sym (nil_right (map link_of (mets (take i xs)))) ∙ ap (λ z. map link_of (mets (take i xs)) ++ z) b ∙ sym (more_links xs i d h k)
+links_none ls xs i d h k a b = a ∙ sym (append-nil (map link_of (mets (take i xs)))) ∙ ap (λ z. map link_of (mets (take i xs)) ++ z) b ∙ sym (more_links xs i d h k)
 
 -- a walk begins with nothing
 pub from_start : (r : Result Unit Stop) (room : ℕ) (ms : List Meeting) (u t : Trace Met) → ms ≡ [] → Walks r room (record { told = mets ms; work = 0 }) u t → Walks r room nothing u t

@@ -1,6 +1,6 @@
 -- Looks of meetings.
-use Rattle.std.proofs.Common.{◌≡◌, ℕ, suc, ◌+◌, ◌-◌, ◌<◌, ◌≤◌, List, [], ◌∷◌, ◌++◌, map, length, take, drop, get_or, Option, Some, None, refl, sym, ap, ◌∙◌, arith, length-append}
-use Rattle.std.proofs.lemmas.List.{take_more, length-drop}
+use Rattle.std.proofs.Common.{◌≡◌, ℕ, suc, ◌+◌, ◌-◌, ◌<◌, ◌≤◌, List, [], ◌∷◌, ◌++◌, map, length, take, drop, get_or, Option, Some, None, sym, ap, ◌∙◌, arith, length-append}
+use Rattle.std.proofs.lemmas.List.{take_more, length-drop, append-nil, map-append, length-map}
 use Rattle.std.proofs.Math.Seq.{take-length}
 use Rattle.std.specs.Prelude.{Result, Ok, Err}
 use Rattle.rotor_base.specs.declared.place.Goal.{Goal}
@@ -64,18 +64,6 @@ numbered-append n (Some l ∷ ls) ks =
     let e : suc n + length ls ≡ n + suc (length ls) = omega arith in
     ap (λ z. (record l { number = n }) ∷ z) (numbered-append (suc n) ls ks ∙ ap (λ m. numbered (suc n) ls ++ numbered m ks) e)
 
-map-append : {A B : Type 0} (f : A → B) (xs ys : List A) → map f (xs ++ ys) ≡ map f xs ++ map f ys
-map-append f [] ys = refl
-map-append f (x ∷ xs) ys = ap (λ l. f x ∷ l) (map-append f xs ys)
-
-length-map : {A B : Type 0} (f : A → B) (xs : List A) → length (map f xs) ≡ length xs
-length-map f [] = refl
-length-map f (x ∷ xs) = ap suc (length-map f xs)
-
-nil_right : {A : Type 0} (a : List A) → a ++ [] ≡ a
-nil_right [] = refl
-nil_right (x ∷ a) = ap (λ l. x ∷ l) (nil_right a)
-
 abbrev seen : Watch → List Meeting → List (Option LinkLook)
 seen w ms = map (look_of w) (mets ms)
 
@@ -94,7 +82,7 @@ looks_more w xs i d old new ls p c h k a q b l n t u =
     let g = seen_more w xs i d h k in
     let e = ap length g in
     let f = length-append (seen w (take i xs)) here in
-    let m = length-map (look_of w) (met_at d) in
+    let m = length-map (met_at d) (look_of w) in
     let z : length (seen w (take i xs)) ≡ 0 + length (seen w (take i xs)) = omega arith in (
       n ∙ ap (λ z. z ++ ls) a ∙ ap (λ z. numbered 0 (seen w (take i xs)) ++ z) (l ∙ ap (λ z. numbered z here) (q ∙ z)) ∙ sym (numbered-append 0 (seen w (take i xs)) here) ∙ ap (numbered 0) (sym g),
       omega (arith, e, f, m, q, t),
@@ -102,7 +90,7 @@ looks_more w xs i d old new ls p c h k a q b l n t u =
     )
 
 pub same_list : (ls : List LinkLook) → ls ≡ ls ++ []
-same_list ls = sym (nil_right ls)
+same_list ls = sym (append-nil ls)
 
 -- what a walk from nothing shows
 pub looked : (r : Result Unit Stop) (room : ℕ) (f : Found) (t : Trace Met) (w : Watch) (l : Looks) → Walks r room nothing (trace_of f) t → HasLooks r f w l → l ≡ looks.looks_of (map (look_of w) t.told)

@@ -1,4 +1,5 @@
 -- Walks, one after another.
+use Rattle.std.proofs.lemmas.List.{append-nil}
 use Rattle.std.proofs.Common.{◌≡◌, ℕ, ◌+◌, ◌<◌, ◌≤◌, List, [], ◌∷◌, ◌++◌, refl, sym, ap, subst, ◌∙◌, arith, append_assoc}
 use Rattle.std.specs.Prelude.{Result, Ok, Err}
 use Rattle.std.specs.Result.{IsErr, IsErrAnd}
@@ -35,14 +36,10 @@ walk_same r room t u a b e h = subst (λ z. Walks r room t u z) e h
 abbrev pub made : List Met → ℕ → Trace Met
 made l n = record { told = l; work = n }
 
-nil_right : {A : Type 0} (a : List A) → a ++ [] ≡ a
-nil_right [] = refl
-nil_right (x ∷ a) = ap (λ l. x ∷ l) (nil_right a)
-
 -- one unit of work, taken or refused
 pub step_taken : (l : List Met) (n : ℕ) → made l (n + 1) ≡ made l n & a_step
 unfolding ◌&◌
-step_taken l n = ap (λ z. made z (n + 1)) (sym (nil_right l))
+step_taken l n = ap (λ z. made z (n + 1)) (sym (append-nil l))
 
 pub step_refused : (room : ℕ) (l : List Met) (n : ℕ) → room ≤ n → room < (made l n & a_step).work
 unfolding ◌&◌
@@ -50,7 +47,7 @@ step_refused room l n h = omega (arith, h)
 
 -- one value more at one unit of work
 pub mets-push : (ms : List Meeting) (m : Meeting) → mets (ms ++ m ∷ []) ≡ mets ms ++ met_at m
-mets-push [] m = nil_right (met_at m)
+mets-push [] m = append-nil (met_at m)
 mets-push (a ∷ ms) m = ap (λ l. met_at a ++ l) (mets-push ms m) ∙ sym (append_assoc (met_at a) (mets ms) (met_at m))
 
 pub met_taken : (ms ns os : List Meeting) (m : Meeting) (n k : ℕ) → os ≡ ns ++ m ∷ [] → made (mets ns) k ≡ made (mets ms) n & a_step → made (mets os) k ≡ made (mets ms) n & told_once (met_at m)
@@ -59,7 +56,7 @@ met_taken ms ns os m n k o e =
     ap (λ l. made (mets l) k) o
     ∙ ap (λ l. made l k) (mets-push ns m)
     ∙ ap (λ z. made (z.told ++ met_at m) z.work) e
-    ∙ ap (λ l. made (l ++ met_at m) (n + 1)) (nil_right (mets ms))
+    ∙ ap (λ l. made (l ++ met_at m) (n + 1)) (append-nil (mets ms))
 
 pub met_refused : (e : Stop) (room : ℕ) (t u v : Trace Met) (l : List Met) → Walks (Err e) room t u a_step → Walks (Err e) room t v (told_once l)
 unfolding ◌&◌
