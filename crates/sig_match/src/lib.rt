@@ -1,0 +1,11 @@
+//! Links between shapes: a source is matched with a target, and a shape is pinned to the outside.
+#![tactic(auto)]
+
+mod found;
+mod links;
+mod looks;
+mod matching;
+mod pinning;
+
+pub use links::{Matched, match_shapes, pin};
+pub use looks::{match_looks, pin_looks};

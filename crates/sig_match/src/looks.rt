@@ -1,0 +1,311 @@
+//! Looks' part on the links of a match and of a pinning.
+
+ghost use Rattle.std.specs.Prelude.{◌≡◌, ◌≤◌, ◌<◌, ◌+◌, ◌^◌, ◌++◌, ◌∷◌, [], List, length, map, is_some, not, IfSome, IfOk};
+ghost use Rattle.shape_core.specs.declared.shared.SharedEntry.{SharedEntry};
+ghost use Rattle.std.specs.List.{list_any};
+ghost use Rattle.rotor_base.specs.Place.{same_place};
+ghost use Rattle.shape_core.specs.Shape as shapes;
+ghost use Rattle.shape_core.specs.Node.{entries_of};
+ghost use Rattle.shape_core.specs.Looks as pure;
+ghost use Rattle.sig_match.specs.Walk.{list_in, met_at, mets};
+ghost use Rattle.sig_match.specs.Matched.{listed};
+ghost use Rattle.sig_match.specs.Tests.{test_of, look_of, HasLooks};
+
+use crate::found::{Found, Meeting, Stop};
+use crate::matching::match_both;
+use crate::pinning::pin_shape;
+use rotor_base::{Goal, LinkLook, Looks, Memory, Place, Row, Watch};
+use shape_core::{Shared, SharedEntry, entries, make_struct};
+use std::alloc::Global;
+
+/// A test of a value by its name and its goal.
+#[derive(Clone, Copy)]
+enum Test {
+    /// Its goal is in the footprint.
+    InFoot,
+    /// It has the old name, and its goal is not in the footprint.
+    OtherOld,
+    /// It has the new name.
+    NamedNew,
+}
+
+/// A position in a list, the declaration there, and the number of Dark entries after it.
+type Spot = (u64, Place, u64);
+
+// Whether a goal is in the footprint.
+fn is_member(watch: &Watch, goal: Goal) -> bool
+    ensures { result ≡ pure.is_member watch.now goal }
+{
+    match goal {
+        Goal::Decl(place) => is_among(place, watch.foot.decls.as_slice()),
+        _ => false,
+    }
+}
+
+fn is_among(place: Place, places: &[Place]) -> bool
+    ensures { result ≡ list_any (same_place place) places.now }
+{
+    places.iter().any(|other| is_same(place, *other))
+}
+
+fn is_same(one: Place, other: Place) -> bool
+    ensures { result ≡ same_place one other }
+{
+    one.file == other.file && one.token == other.token
+}
+
+fn passes(test: Test, watch: &Watch, name: &[u8], goal: Goal) -> bool
+    ensures { result ≡ test_of test watch.now name.now goal }
+{
+    match test {
+        Test::InFoot => is_member(watch, goal),
+        Test::OtherOld => name == watch.old.as_bytes() && !is_member(watch, goal),
+        Test::NamedNew => name == watch.new.as_bytes(),
+    }
+}
+
+// The place of a declaration.
+fn place_of(goal: Goal) -> Place
+    ensures { result ≡ pure.some_place (shapes.decl_of goal) }
+{
+    match goal {
+        Goal::Decl(place) => place,
+        _ => Place { file: 0, token: 0 },
+    }
+}
+
+// The last value of a list that a test takes.
+fn last_where(test: Test, watch: &Watch, list: &[SharedEntry]) -> Option<Spot>
+    ensures { result ≡ pure.last_where (test_of test watch.now) (entries_of list.now) }
+{
+    let mut last = None;
+    for at in 0..list.len() {
+        last = with_entry(test, watch, at, &list[at], last);
+    }
+    last
+}
+
+// The last value of a list with one entry more, which stands at a position.
+fn with_entry(
+    test: Test,
+    watch: &Watch,
+    at: usize,
+    entry: &SharedEntry,
+    last: Option<Spot>,
+) -> Option<Spot>
+    requires at { at < 2 ^ 63 }
+    requires darks { IfSome last (λ spot. spot.2 ≤ at) }
+    ensures last { (list : List SharedEntry) → length list ≡ at → last ≡ pure.last_where (test_of test watch.now) (entries_of list) → result ≡ pure.last_where (test_of test watch.now) (entries_of (list ++ entry.now ∷ [])) }
+    ensures darks { IfSome result (λ spot. spot.2 ≤ at + 1) }
+{
+    match entry {
+        SharedEntry::Val(x, goal) => {
+            if passes(test, watch, x.as_bytes(), *goal) {
+                Some((at as u64, place_of(*goal), 0))
+            } else {
+                last
+            }
+        }
+        SharedEntry::Dark(_) => match last {
+            Some((position, decl, darks)) => Some((position, decl, darks + 1)),
+            None => None,
+        },
+        SharedEntry::Mod(_, _) => last,
+        SharedEntry::Mty(_, _) => last,
+    }
+}
+
+// The number of Dark entries of a list, and the place of the last one.
+fn darks_of(list: &[SharedEntry]) -> (u64, Option<Place>)
+    ensures number { result.0 ≡ length (shapes.darks (entries_of list.now)) }
+    ensures last { result.1 ≡ shapes.last_place (shapes.darks (entries_of list.now)) }
+{
+    let mut number = 0;
+    let mut last = None;
+    for entry in list {
+        match entry {
+            SharedEntry::Dark(at) => {
+                number += 1;
+                last = Some(*at);
+            }
+            SharedEntry::Val(_, _) => {}
+            SharedEntry::Mod(_, _) => {}
+            SharedEntry::Mty(_, _) => {}
+        }
+    }
+    (number, last)
+}
+
+// The last value of a source list that a test takes; nothing where the link is pinned.
+fn source_where(test: Test, watch: &Watch, source: Option<&Shared>) -> Option<Spot>
+    ensures { result ≡ pure.source_where (test_of test watch.now) (list_in source.entry) }
+{
+    match source {
+        Some(shape) => last_where(test, watch, entries(shape)),
+        None => None,
+    }
+}
+
+// The number of Dark entries of a source list and the place of the last one; none where the link is pinned.
+fn source_darks(source: Option<&Shared>) -> (u64, Option<Place>)
+    ensures number { result.0 ≡ length (pure.source_darks (list_in source.entry)) }
+    ensures last { result.1 ≡ shapes.last_place (pure.source_darks (list_in source.entry)) }
+{
+    match source {
+        Some(shape) => darks_of(entries(shape)),
+        None => (0, None),
+    }
+}
+
+fn is_later(test: Test, watch: &Watch, rest: &[SharedEntry]) -> bool
+    ensures { result ≡ is_some (pure.last_where (test_of test watch.now) (entries_of rest.now)) }
+{
+    match last_where(test, watch, rest) {
+        Some(_) => true,
+        None => false,
+    }
+}
+
+fn is_pinned(source: Option<&Shared>) -> bool
+    ensures { result ≡ not (is_some (list_in source.entry)) }
+{
+    match source {
+        Some(_) => false,
+        None => true,
+    }
+}
+
+// The look of the link of a value, where the value has the old or the new name.
+fn look_of_value(
+    name: &[u8],
+    goal: Goal,
+    rest: &[SharedEntry],
+    source: Option<&Shared>,
+    number: u64,
+    watch: &Watch,
+) -> Option<LinkLook>
+    ensures { listed result ≡ pure.numbered number (pure.look watch.now name.now goal (entries_of rest.now) (list_in source.entry) ∷ []) }
+{
+    let is_old = name == watch.old.as_bytes();
+    let is_new = name == watch.new.as_bytes();
+    if !(is_old || is_new) {
+        return None;
+    }
+    let (darks, by) = source_darks(source);
+    Some(LinkLook {
+        number,
+        item: place_of(goal),
+        is_new,
+        later_foot: is_later(Test::InFoot, watch, rest),
+        later_old: is_later(Test::OtherOld, watch, rest),
+        later_new: is_later(Test::NamedNew, watch, rest),
+        pinned: is_pinned(source),
+        darks,
+        by,
+        foot: source_where(Test::InFoot, watch, source),
+        old: source_where(Test::OtherOld, watch, source),
+        new: source_where(Test::NamedNew, watch, source),
+    })
+}
+
+// The look of a meeting.
+fn look_at(meeting: &Meeting, number: u64, watch: &Watch) -> Option<LinkLook>
+    ensures { listed result ≡ pure.numbered number (map (look_of watch.now) (met_at meeting.now)) }
+{
+    let list = entries(meeting.list);
+    if meeting.at >= list.len() {
+        return None;
+    }
+    let rest = &list[meeting.at + 1..];
+    match &list[meeting.at] {
+        SharedEntry::Val(x, goal) => {
+            look_of_value(x.as_bytes(), *goal, rest, meeting.source, number, watch)
+        }
+        SharedEntry::Mod(_, _) => None,
+        SharedEntry::Mty(_, _) => None,
+        SharedEntry::Dark(_) => None,
+    }
+}
+
+// The number of links of a meeting.
+fn count_at(meeting: &Meeting) -> u64
+    ensures number { result ≡ length (met_at meeting.now) }
+    ensures bound { result ≤ 1 }
+{
+    let list = entries(meeting.list);
+    if meeting.at >= list.len() {
+        return 0;
+    }
+    match &list[meeting.at] {
+        SharedEntry::Val(_, _) => 1,
+        SharedEntry::Mod(_, _) => 0,
+        SharedEntry::Mty(_, _) => 0,
+        SharedEntry::Dark(_) => 0,
+    }
+}
+
+fn looks_of(alloc: Global, meetings: &[Meeting], watch: &Watch) -> Result<Looks, Memory>
+    ensures { IfOk result (λ looks. looks ≡ pure.looks_of (map (look_of watch.now) (mets meetings.now))) }
+{
+    let mut links = Row::new(alloc);
+    let mut passed = 0;
+    for meeting in meetings {
+        match look_at(meeting, passed, watch) {
+            Some(look) => links.push(look)?,
+            None => {}
+        }
+        passed += count_at(meeting);
+    }
+    Ok(Looks {
+        refs: Row::new(alloc),
+        links,
+        passed,
+    })
+}
+
+// The looks after a walk, which has found all where it ended.
+fn looks_after(
+    alloc: Global,
+    walked: Result<(), Stop>,
+    found: &Found,
+    watch: &Watch,
+) -> Result<Looks, Memory>
+    ensures { IfOk result (HasLooks walked found.now watch.now) }
+{
+    match walked {
+        Ok(()) => looks_of(alloc, &found.meetings, watch),
+        Err(_) => Err(Memory),
+    }
+}
+
+/// Looks' part on the links of a source with a target, numbered from 0: what each look-up of the old or of the new
+/// name would find. `Memory` is the only error; it comes where there is none, and where the work of the match is more
+/// than 4,294,967,295.
+pub fn match_looks(
+    alloc: Global,
+    src: &Shared,
+    tgt: &Shared,
+    watch: &Watch,
+) -> Result<Looks, Memory>
+    ensures { IfOk result (λ looks. looks ≡ pure.match_looks watch.now src.now tgt.now) }
+{
+    let empty = make_struct(alloc, Vec::new(alloc))?;
+    let mut found = Found {
+        meetings: Vec::new(alloc),
+        work: 0,
+    };
+    let walked = match_both(src, tgt, &empty, u32::MAX, &mut found);
+    looks_after(alloc, walked, &found, watch)
+}
+
+/// Looks' part on the links of a shape that is pinned; numbers and errors as for [`match_looks`].
+pub fn pin_looks(alloc: Global, shape: &Shared, watch: &Watch) -> Result<Looks, Memory>
+    ensures { IfOk result (λ looks. looks ≡ pure.pin_looks watch.now shape.now) }
+{
+    let mut found = Found {
+        meetings: Vec::new(alloc),
+        work: 0,
+    };
+    let walked = pin_shape(shape, u32::MAX, &mut found);
+    looks_after(alloc, walked, &found, watch)
+}
