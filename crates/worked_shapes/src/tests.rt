@@ -1,3 +1,0 @@
-mod depth;
-mod lookups;
-mod two_includes;
