@@ -8,3 +8,10 @@ pub mod ReachSimple
 pub mod ReachPat
 pub mod LawsPat
 pub mod FormSteps
+pub mod Places
+pub mod Turns
+pub mod Operators
+pub mod Lone
+pub mod Ends
+pub mod RunTurns
+pub mod MarkSteps

@@ -2,4 +2,9 @@ pub mod Steps
 pub mod Pieces
 pub mod PatReading
 pub mod Longest
+pub mod Gives
+pub mod Rows
+pub mod RunRows
+pub mod Nesting
+pub mod Stops
 pub mod Forms

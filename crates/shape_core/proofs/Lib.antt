@@ -9,3 +9,4 @@ pub mod Founds
 pub mod Matches
 pub mod Spelled
 pub mod Retold
+pub mod Rows

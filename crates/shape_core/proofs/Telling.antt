@@ -1,5 +1,5 @@
 -- Tables after one entry more or less.
-use Rattle.std.proofs.Common.{◌≡◌, ℕ, ◌+◌, ◌<◌, ◌≤◌, ◌-◌, Bool, true, false, List, [], ◌∷◌, ◌++◌, length, take, drop, get_or, slice_get, Option, Some, None, refl, sym, ap, subst, ◌∙◌, arith, length-append, length-drop, true≢false}
+use Rattle.std.proofs.Common.{◌≡◌, ℕ, suc, ◌+◌, ◌<◌, ◌≤◌, ◌-◌, Bool, true, false, List, [], ◌∷◌, ◌++◌, length, take, drop, get_or, slice_get, Option, Some, None, refl, sym, ap, subst, ◌∙◌, arith, length-append, length-drop, true≢false}
 use Rattle.std.proofs.lemmas.Slice.Eq.{bytes_eq-Decides}
 use Rattle.std.proofs.Math.Seq.{take-append_seam}
 use Rattle.std.proofs.lemmas.List.{drop_all, take_more}
@@ -22,9 +22,9 @@ use Rattle.std.proofs.Common.{append_assoc}
 use Rattle.shape_core.specs.Names.{at}
 use Rattle.shape_core.specs.Node.{and_then, entries_of}
 use Rattle.shape_core.specs.Index.{last_spot, is_mod, is_mty, last_at, before_of, befores_from, Tells}
-use Rattle.shape_core.specs.Shape.{Name, Shape, Entries, none, ◌⊕◌, or_else, some_if, darks, passed, vals, last_of, last_place, find_val, seen, weights, depths}
+use Rattle.shape_core.specs.Shape.{Name, Shape, Entries, none, a_val, a_mod, a_mty, a_dark, ◌⊕◌, or_else, some_if, darks, passed, vals, last_of, last_place, find_val, seen, values_from, weights, depths}
 use Rattle.shape_core.proofs.Lists.{darks-append, weights-append, depths-append}
-use Rattle.shape_core.proofs.Shown.{spot, number_of, entries_of-append, spot_val, spot_still, last_at-push, befores-push, length-befores, told, Told, last_drop, last_get}
+use Rattle.shape_core.proofs.Shown.{number, spot, number_of, entries_of-append, spot_val, spot_still, last_at-push, befores-push, length-befores, told, Told, last_drop, last_get}
 
 nil_right : {A : Type 0} (a : List A) → a ++ [] ≡ a
 nil_right [] = refl
@@ -197,6 +197,36 @@ befores_less bs cs list d b k h = front_same cs (befores_from [] list) b (before
 pub some_before : (bs : Vec Before) (list : List SharedEntry) (d : SharedEntry) → bs.items ≡ befores_from [] (list ++ d ∷ []) → 0 < vec_len bs
 some_before bs list d h =
     let n = len_of bs ∙ ap length h ∙ length-befores [] (list ++ d ∷ []) ∙ length-append list (d ∷ []) in omega (arith, n)
+
+-- the positions of values, after one entry more or less
+pub values-append : (n : ℕ) (a b : Entries) → values_from n (a ⊕ b) ≡ values_from n a ++ values_from (n + number a) b
+values-append n none b = let e : n ≡ n + 0 = omega arith in ap (λ m. values_from m b) e
+values-append n (a_val x g a) b =
+    let e : suc n + number a ≡ n + suc (number a) = omega arith in
+    ap (λ l. n ∷ l) (values-append (suc n) a b ∙ ap (λ m. values_from (suc n) a ++ values_from m b) e)
+values-append n (a_mod x s a) b =
+    let e : suc n + number a ≡ n + suc (number a) = omega arith in
+    values-append (suc n) a b ∙ ap (λ m. values_from (suc n) a ++ values_from m b) e
+values-append n (a_mty x s a) b =
+    let e : suc n + number a ≡ n + suc (number a) = omega arith in
+    values-append (suc n) a b ∙ ap (λ m. values_from (suc n) a ++ values_from m b) e
+values-append n (a_dark at a) b =
+    let e : suc n + number a ≡ n + suc (number a) = omega arith in
+    values-append (suc n) a b ∙ ap (λ m. values_from (suc n) a ++ values_from m b) e
+
+pub values-split : (list : List SharedEntry) (d : SharedEntry) → values_from 0 (entries_of (list ++ d ∷ [])) ≡ values_from 0 (entries_of list) ++ values_from (length list) (and_then d none)
+values-split list d =
+    let e : 0 + number (entries_of list) ≡ length list = omega (arith, number_of list) in
+    ap (values_from 0) (entries_of-append list (d ∷ [])) ∙ values-append 0 (entries_of list) (and_then d none)
+    ∙ ap (λ m. values_from 0 (entries_of list) ++ values_from m (and_then d none)) e
+
+pub values_more : (vs ws : List ℕ) (list : List SharedEntry) (d : SharedEntry) (p : ℕ) → ws ≡ vs ++ values_from p (and_then d none) → vs ≡ values_from 0 (entries_of list) → length list ≡ p → ws ≡ values_from 0 (entries_of (list ++ d ∷ []))
+values_more vs ws list d p k h e =
+    k ∙ ap (λ l. l ++ values_from p (and_then d none)) h ∙ ap (λ m. values_from 0 (entries_of list) ++ values_from m (and_then d none)) (sym e) ∙ sym (values-split list d)
+
+-- the position of an entry taken out
+pub value_left : (ws front : List ℕ) (d : SharedEntry) (n : ℕ) → values_from n (and_then d none) ≡ [] → ws ≡ front ++ values_from n (and_then d none) → ws ≡ front
+value_left ws front d n h k = k ∙ ap (λ l. front ++ l) h ∙ nil_right front
 
 -- what a look-up of a value has seen
 pub sees_none : (es : Entries) (x : Name) (s : Seen) → last_spot es x ≡ None → s.found ≡ None → s.by ≡ last_place (darks es) → s.passed ≡ length (darks es) → Sees es x s

@@ -11,7 +11,7 @@ use Rattle.shape_core.specs.declared.index.Before.{Before}
 use Rattle.shape_core.specs.declared.index.Index.{Index}
 use Rattle.shape_core.specs.Names.{at}
 use Rattle.shape_core.specs.Node.{entries_of, shape_of}
-use Rattle.shape_core.specs.Shape.{Name, Shape, Entries, none, a_val, a_mod, a_mty, a_dark, or_else, some_if, darks, weight, depth, capped}
+use Rattle.shape_core.specs.Shape.{Name, Shape, Entries, none, a_val, a_mod, a_mty, a_dark, or_else, some_if, darks, values_from, weight, depth, capped}
 
 -- one entry more in front, and one Dark entry more
 abbrev pub moved : Option Spot → Option Spot
@@ -109,6 +109,7 @@ befores_from done (e ∷ es) = before_of done e ∷ befores_from (done ++ e ∷ 
 pub record IsIndexOf (ix : Index) (list : List SharedEntry) : Type 0 where
   pub tables : Tells ix.tables list
   pub befores : ix.befores.items ≡ befores_from [] list
+  pub values : ix.values.items ≡ values_from 0 (entries_of list)
 
 abbrev pub IsIndexed : Form → Type 0
 IsIndexed (f.Struct es ix) = IsIndexOf ix.value es.items

@@ -205,6 +205,14 @@ entries_from (suc n) (a_mod X s es) = entries_from n es
 entries_from (suc n) (a_mty S s es) = entries_from n es
 entries_from (suc n) (a_dark at es) = entries_from n es
 
+-- the positions of the values, where the first entry stands at a position
+abbrev pub values_from : ℕ → Entries → List ℕ
+values_from n none = []
+values_from n (a_val x g es) = n ∷ values_from (suc n) es
+values_from n (a_mod X s es) = values_from (suc n) es
+values_from n (a_mty S s es) = values_from (suc n) es
+values_from n (a_dark at es) = values_from (suc n) es
+
 -- Visible: the first entry of a list is hidden by none of its kind and name after it, and is not Dark
 abbrev pub is_shown : Entries → Bool
 is_shown none = false

@@ -1,9 +1,9 @@
 //! Where the last entry of each kind and name stands in a list of entries.
 
-ghost use Rattle.std.specs.Prelude.{◌≡◌, List, [], ◌∷◌, ◌++◌, IfOk, OnOk, OnErr, length, option_copied, slice_get, Some};
+ghost use Rattle.std.specs.Prelude.{◌≡◌, ℕ, List, [], ◌∷◌, ◌++◌, IfOk, OnOk, OnErr, length, option_copied, slice_get, Some};
 ghost use Rattle.shape_core.specs.Shape as pure;
 ghost use Rattle.shape_core.specs.declared.shared.SharedEntry.{SharedEntry};
-ghost use Rattle.shape_core.specs.Node.{entries_of};
+ghost use Rattle.shape_core.specs.Node.{entries_of, and_then};
 ghost use Rattle.shape_core.specs.View.{Sees};
 ghost use Rattle.shape_core.specs.Index.{Tells, IsIndexOf, before_of, there, mod_at, mty_at, position_is, position_of};
 
@@ -37,11 +37,12 @@ pub struct Before {
     pub position: Option<usize>,
 }
 
-/// The tables of a list, with what each of its entries changed in them.
+/// The tables of a list, with what each of its entries changed in them, and the positions of its values.
 #[derive(Drop)]
 pub struct Index {
     pub tables: Tables,
     pub befores: Vec<Before>,
+    pub values: Vec<usize>,
 }
 
 impl Tables {
@@ -123,6 +124,7 @@ impl Index {
         Index {
             tables,
             befores: Vec::new(alloc),
+            values: Vec::new(alloc),
         }
     }
 
@@ -134,7 +136,7 @@ impl Index {
     {
         let position = self.befores.len();
         let before = self.tables.note(alloc, entry, position)?;
-        match self.befores.push(before) {
+        match record(&mut self.befores, &mut self.values, entry, before, position) {
             Ok(()) => Ok(()),
             Err(_) => {
                 self.tables.forget(entry, before);
@@ -149,6 +151,7 @@ impl Index {
         ensures { (list : List SharedEntry) → IsIndexOf self.old (list ++ entry.now ∷ []) → IsIndexOf self.new list }
     {
         if let Some(before) = self.befores.pop() {
+            take_value_out(&mut self.values, entry);
             self.tables.forget(entry, before);
         }
     }
@@ -192,11 +195,68 @@ impl Index {
         }
     }
 
+    /// The positions of the values of the list, in order.
+    pub fn positions(&self) -> &[usize]
+        ensures { (list : List SharedEntry) → IsIndexOf self.now list → result.now ≡ pure.values_from 0 (entries_of list) }
+    {
+        &self.values
+    }
+
     /// What a look-up of a value gives.
     pub fn val(&self, name: &[u8]) -> Option<Goal>
         ensures { (list : List SharedEntry) → IsIndexOf self.now list → result ≡ pure.find_val (entries_of list) name.now }
     {
         self.tables.seen(name).goal()
+    }
+}
+
+// Adds what an entry changed, and its position where it is a value. An `Err` changes neither list.
+fn record(
+    befores: &mut Vec<Before>,
+    values: &mut Vec<usize>,
+    entry: &SharedEntry,
+    before: Before,
+    position: usize,
+) -> Result<(), Memory>
+    ensures befores { OnOk result (befores.new.items ≡ befores.old.items ++ before ∷ []) }
+    ensures values { OnOk result (values.new.items ≡ values.old.items ++ pure.values_from position (and_then entry.now pure.none)) }
+    ensures befores_kept { OnErr result (befores.new.items ≡ befores.old.items) }
+    ensures values_kept { OnErr result (values.new.items ≡ values.old.items) }
+{
+    add_value(values, entry, position)?;
+    match befores.push(before) {
+        Ok(()) => Ok(()),
+        Err(_) => {
+            take_value_out(values, entry);
+            Err(Memory)
+        }
+    }
+}
+
+// Adds the position of an entry that is a value. An `Err` changes nothing.
+fn add_value(values: &mut Vec<usize>, entry: &SharedEntry, position: usize) -> Result<(), Memory>
+    ensures added { OnOk result (values.new.items ≡ values.old.items ++ pure.values_from position (and_then entry.now pure.none)) }
+    ensures kept { OnErr result (values.new.items ≡ values.old.items) }
+{
+    match entry {
+        SharedEntry::Val(_, _) => Ok(values.push(position)?),
+        SharedEntry::Mod(_, _) => Ok(()),
+        SharedEntry::Mty(_, _) => Ok(()),
+        SharedEntry::Dark(_) => Ok(()),
+    }
+}
+
+// Takes the position of the last entry out, where that is a value.
+fn take_value_out(values: &mut Vec<usize>, entry: &SharedEntry)
+    ensures { (front : List ℕ) (position : ℕ) → values.old.items ≡ front ++ pure.values_from position (and_then entry.now pure.none) → values.new.items ≡ front }
+{
+    match entry {
+        SharedEntry::Val(_, _) => {
+            values.pop();
+        }
+        SharedEntry::Mod(_, _) => {}
+        SharedEntry::Mty(_, _) => {}
+        SharedEntry::Dark(_) => {}
     }
 }
 

@@ -18,6 +18,6 @@ pub use shape::{
 };
 pub use shared::{
     Shared, SharedEntry, entries, is_shown, kind, levels_of, make_functor, make_opaque,
-    make_struct, make_unitary, mod_of, mty_of, param, result, val_of, weight_of,
+    make_struct, make_unitary, mod_of, mty_of, param, result, val_of, value_positions, weight_of,
 };
 pub use sharing::{bring, share, share_again};

@@ -208,6 +208,18 @@ pub fn entries(shape: &Shared) -> &[SharedEntry]
     }
 }
 
+/// The positions of the values of a structure among its entries, in order; none of another shape. It takes no memory.
+pub fn value_positions(shape: &Shared) -> &[usize]
+    ensures { result.now ≡ pure.values_from 0 (pure.entries_in shape.now) }
+{
+    match &shape.node.form {
+        Form::Struct(_, index) => index.positions(),
+        Form::Functor(_, _) => &[],
+        Form::Unitary(_) => &[],
+        Form::Opaque => &[],
+    }
+}
+
 /// The parameter of a functor. It takes no memory.
 pub fn param(shape: &Shared) -> Option<&Shared>
     ensures { option_copied result ≡ pure.param_of shape.now }

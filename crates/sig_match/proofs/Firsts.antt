@@ -1,14 +1,13 @@
 -- The first entry of a list, and the entries after it.
 use Rattle.std.proofs.Common.{◌≡◌, ℕ, zero, suc, ◌+◌, ◌<◌, ◌≤◌, Bool, true, false, List, [], ◌∷◌, length, get_or, Option, Some, None, refl, sym, ap, ◌∙◌, arith}
-use Rattle.rotor_base.specs.declared.place.Place.{Place}
 use Rattle.shape_core.specs.declared.shared.SharedEntry.{SharedEntry}
 use Rattle.shape_core.specs.declared.shared.SharedEntry.TheVariants as e
 use Rattle.shape_core.specs.Node.{entries_of, and_then}
 use Rattle.shape_core.specs.Shape.{Name, Shape, Struct, Functor, Unitary, Opaque, Entries, none, a_mod, a_mty, entries_in, entries_from, param_of, result_of, find_mod, find_mty, unless_some, is_shown}
-use Rattle.shape_core.specs.Links.{Trace, ◌&◌, nothing, a_step, pin, pin_entries, pin_vals, match_entries, matched}
-use Rattle.shape_core.proofs.Matches.{then_nothing, nothing_then}
+use Rattle.shape_core.specs.Links.{Trace, ◌&◌, nothing, a_step, pin, pin_entries, match_entries, matched}
+use Rattle.shape_core.proofs.Matches.{then_nothing}
 use Rattle.sig_match.specs.Walk.{Met, met}
-use Rattle.sig_match.specs.Parts.{pin_part, pin_first, pin_value, match_first}
+use Rattle.sig_match.specs.Parts.{pin_part, pin_first, match_first}
 
 -- an entry at a position, and those after it
 pub from_at : (xs : List SharedEntry) (i : ℕ) (d : SharedEntry) → i < length xs → d ≡ get_or xs i d → entries_from i (entries_of xs) ≡ and_then d (entries_from (suc i) (entries_of xs))
@@ -39,12 +38,6 @@ pin_next (e.Mod x s) es = refl
 pin_next (e.Mty x s) es = refl
 pin_next (e.Dark at) es = refl
 
-pub value_next : (d : SharedEntry) (es : Entries) → pin_vals met (and_then d es) ≡ pin_value (and_then d es) & pin_vals met es
-value_next (e.Val x g) es = refl
-value_next (e.Mod x s) es = sym (nothing_then (pin_vals met es))
-value_next (e.Mty x s) es = sym (nothing_then (pin_vals met es))
-value_next (e.Dark at) es = sym (nothing_then (pin_vals met es))
-
 pub match_next : (src : Entries) (d : SharedEntry) (es : Entries) → match_entries met (matched met) src (and_then d es) ≡ match_first src (and_then d es) & match_entries met (matched met) src es
 match_next src (e.Val x g) es = refl
 match_next src (e.Mod x s) es = refl
@@ -64,17 +57,11 @@ end_in xs es i f h = ap (entries_from i) (sym f) ∙ from_end xs i h
 pub pin_rest : (es rest : Entries) (d : SharedEntry) → es ≡ and_then d rest → pin_entries met es ≡ pin_first es & pin_entries met rest
 pin_rest es rest d h = ap (pin_entries met) h ∙ pin_next d rest ∙ ap (λ z. pin_first z & pin_entries met rest) (sym h)
 
-pub value_rest : (es rest : Entries) (d : SharedEntry) → es ≡ and_then d rest → pin_vals met es ≡ pin_value es & pin_vals met rest
-value_rest es rest d h = ap (pin_vals met) h ∙ value_next d rest ∙ ap (λ z. pin_value z & pin_vals met rest) (sym h)
-
 pub match_rest : (src es rest : Entries) (d : SharedEntry) → es ≡ and_then d rest → match_entries met (matched met) src es ≡ match_first src es & match_entries met (matched met) src rest
 match_rest src es rest d h = ap (match_entries met (matched met) src) h ∙ match_next src d rest ∙ ap (λ z. match_first src z & match_entries met (matched met) src rest) (sym h)
 
 pub pin_over : (es : Entries) → es ≡ none → pin_entries met es ≡ nothing
 pin_over es h = ap (pin_entries met) h
-
-pub value_over : (es : Entries) → es ≡ none → pin_vals met es ≡ nothing
-value_over es h = ap (pin_vals met) h
 
 pub match_over : (src es : Entries) → es ≡ none → match_entries met (matched met) src es ≡ nothing
 match_over src es h = ap (match_entries met (matched met) src) h
@@ -102,16 +89,6 @@ hidden_mod es rest X s a b h k l = sym (then_nothing a_step) ∙ ap (λ z. a_ste
 
 pub hidden_mty : (es rest : Entries) (X : Name) (s : Shape) (a : Trace Met) (b : Bool) → es ≡ a_mty X s rest → b ≡ is_shown es → b ≡ false → a_step ≡ a_step & unless_some (find_mty rest X) a nothing
 hidden_mty es rest X s a b h k l = sym (then_nothing a_step) ∙ ap (λ z. a_step & z) (sym (hidden_part (find_mty rest X) a (sym (k ∙ ap is_shown h) ∙ l)))
-
--- the first entry, where it is no value
-pub value_mod : (d : SharedEntry) (at : ℕ) (es : Entries) (t : Trace Met) (x : Name) (s : Shape) → d ≡ e.Mod x s → entries_from at es ≡ and_then d (entries_from (at + 1) es) → t ≡ t & pin_value (entries_from at es)
-value_mod d at es t x s k h = sym (then_nothing t) ∙ ap (λ z. t & pin_value z) (sym (h ∙ ap (λ z. and_then z (entries_from (at + 1) es)) k))
-
-pub value_mty : (d : SharedEntry) (at : ℕ) (es : Entries) (t : Trace Met) (x : Name) (s : Shape) → d ≡ e.Mty x s → entries_from at es ≡ and_then d (entries_from (at + 1) es) → t ≡ t & pin_value (entries_from at es)
-value_mty d at es t x s k h = sym (then_nothing t) ∙ ap (λ z. t & pin_value z) (sym (h ∙ ap (λ z. and_then z (entries_from (at + 1) es)) k))
-
-pub value_dark : (d : SharedEntry) (at : ℕ) (es : Entries) (t : Trace Met) (p : Place) → d ≡ e.Dark p → entries_from at es ≡ and_then d (entries_from (at + 1) es) → t ≡ t & pin_value (entries_from at es)
-value_dark d at es t p k h = sym (then_nothing t) ∙ ap (λ z. t & pin_value z) (sym (h ∙ ap (λ z. and_then z (entries_from (at + 1) es)) k))
 
 -- a shape by its parts
 pub pin_parts : (s : Shape) → a_step & pin_entries met (entries_in s) & pin_part (param_of s) & pin_part (result_of s) ≡ pin met s

@@ -4,6 +4,7 @@ pub mod Depths
 pub mod PinWalks
 pub mod FirstWalks
 pub mod MatchWalks
+pub mod ValueWalks
 pub mod LinkAnswers
 pub mod Lasts
 pub mod LookAnswers

@@ -28,15 +28,13 @@ if_ok (Ok a) P Q h p = h a p
 if_ok (Err x) P Q h p = tt
 
 -- what a walk from nothing has found
-pub answered : (r : Result Unit Stop) (room : ℕ) (f : Found) (t : Trace Met) (l : Trace Link) (m : Matched) → mapped link_of t ≡ l → Walks r room nothing (trace_of f) t → IsAnswer r room f m → IsMatched room l m
+pub answered : (r : Result Unit Stop) (room : ℕ) (f : Found) (t : Trace Met) (l : Trace Link) (m : Matched) → mapped link_of t ≡ l → Walks r room nothing (trace_of f) t → IsAnswer r f m → IsMatched room l m
 answered (Ok u) room f t l (Whole ls n) k h a =
-    let g : mapped link_of (trace_of f) ≡ l = ap (mapped link_of) (h ∙ nothing_then t) ∙ k in
+    let g : mapped link_of (trace_of f) ≡ l = ap (mapped link_of) (h.0 ∙ nothing_then t) ∙ k in
     let w : f.work ≡ l.work = ap (λ z. z.work) g in
-    (a.0 ∙ ap (λ z. z.told) g, a.1 ∙ w, omega (arith, w, a.2))
-answered (Ok u) room f t l Over k h a =
-    let g : mapped link_of (trace_of f) ≡ l = ap (mapped link_of) (h ∙ nothing_then t) ∙ k in
-    let w : f.work ≡ l.work = ap (λ z. z.work) g in
-    omega (arith, w, a)
+    let b : f.work ≤ room = h.1 (omega arith) in
+    (a.0 ∙ ap (λ z. z.told) g, a.1 ∙ w, omega (arith, w, b))
+answered (Ok u) room f t l Over k h a = absurd a
 answered (Err stop.Over) room f t l (Whole ls n) k h a = absurd a
 answered (Err stop.Over) room f t l Over k h a =
     let g : mapped link_of (nothing & t) ≡ l = ap (mapped link_of) (nothing_then t) ∙ k in

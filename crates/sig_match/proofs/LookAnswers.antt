@@ -94,7 +94,7 @@ same_list ls = sym (append-nil ls)
 
 -- what a walk from nothing shows
 pub looked : (r : Result Unit Stop) (room : ℕ) (f : Found) (t : Trace Met) (w : Watch) (l : Looks) → Walks r room nothing (trace_of f) t → HasLooks r f w l → l ≡ looks.looks_of (map (look_of w) t.told)
-looked (Ok u) room f t w l h k = k ∙ ap (λ z. looks.looks_of (map (look_of w) z.told)) (h ∙ nothing_then t)
+looked (Ok u) room f t w l h k = k ∙ ap (λ z. looks.looks_of (map (look_of w) z.told)) (h.0 ∙ nothing_then t)
 looked (Err e) room f t w l h k = absurd k
 
 pub matched_looks : (w : Watch) (s t : Shape) → looks.looks_of (map (look_of w) (matched met s t).told) ≡ looks.match_looks w s t

@@ -5,9 +5,9 @@ use Rattle.shape_core.specs.Shape.{Shape, Struct, Functor, Unitary, Opaque, entr
 use Rattle.shape_core.specs.Links.{Trace, ◌&◌, nothing, a_step, pin, match_entries, matched}
 use Rattle.shape_core.proofs.Matches.{then_nothing, matched_is, matched_structs, matched_functors, matched_unitaries}
 use Rattle.sig_match.specs.declared.found.Stop.{Stop}
-use Rattle.sig_match.specs.Walk.{Met, met, Walks}
+use Rattle.sig_match.specs.Walk.{Met, met, Goes, Walks}
 use Rattle.sig_match.specs.Parts.{match_part, has_one_kind}
-use Rattle.sig_match.proofs.Walks.{walk_then, walk_stops, walk_same, joined}
+use Rattle.sig_match.proofs.Walks.{walk_then, walk_stops, walk_same, goes_same, joined}
 
 abbrev listed : Shape → Shape → Trace Met
 listed s t = match_entries met (matched met) (entries_in s) (entries_in t)
@@ -55,13 +55,13 @@ pin_parts Opaque (Unitary t) h = sym (matched_is met Opaque (Unitary t))
 pin_parts Opaque Opaque h = absurd cc
 
 -- shapes of two kinds
-pub pins_stop : (e : Stop) (room : ℕ) (t0 t1 u : Trace Met) (s t : Shape) → has_one_kind s t ≡ false → t1 ≡ t0 & a_step → Walks (Err e) room t1 u (pin met t) → Walks (Err e) room t0 u (matched met s t)
+pub pins_stop : (e : Stop) (room : ℕ) (t0 t1 u : Trace Met) (s t : Shape) → has_one_kind s t ≡ false → Goes room t0 t1 a_step → Walks (Err e) room t1 u (pin met t) → Walks (Err e) room t0 u (matched met s t)
 pins_stop e room t0 t1 u s t k a h =
     walk_same (Err e) room t0 u _ _ (pin_parts s t k) (walk_stops e room t0 u u (a_step & pin met t) (pin met s) (walk_then (Err e) room t0 t1 u a_step (pin met t) a h))
 
-pub pins_walk : (r : Result Unit Stop) (room : ℕ) (t0 t1 t2 u : Trace Met) (s t : Shape) → has_one_kind s t ≡ false → t1 ≡ t0 & a_step → t2 ≡ t1 & pin met t → Walks r room t2 u (pin met s) → Walks r room t0 u (matched met s t)
+pub pins_walk : (r : Result Unit Stop) (room : ℕ) (t0 t1 t2 u : Trace Met) (s t : Shape) → has_one_kind s t ≡ false → Goes room t0 t1 a_step → Goes room t1 t2 (pin met t) → Walks r room t2 u (pin met s) → Walks r room t0 u (matched met s t)
 pins_walk r room t0 t1 t2 u s t k a b h =
-    walk_same r room t0 u _ _ (pin_parts s t k) (walk_then r room t0 t2 u (a_step & pin met t) (pin met s) (joined t0 t1 t2 a_step (pin met t) a b) h)
+    walk_same r room t0 u _ _ (pin_parts s t k) (walk_then r room t0 t2 u (a_step & pin met t) (pin met s) (joined room t0 t1 t2 a_step (pin met t) a b) h)
 
 -- shapes of one kind
 first_stops : (e : Stop) (room : ℕ) (t0 u : Trace Met) (s t : Shape) (b : Bool) → has_one_kind s t ≡ b → Walks (Err e) room t0 u a_step → Walks (Err e) room t0 u (matched met s t)
@@ -75,24 +75,24 @@ first_stops e room t0 u s t false k h =
 pub match_stops_first : (e : Stop) (room : ℕ) (t0 u : Trace Met) (s t : Shape) → Walks (Err e) room t0 u a_step → Walks (Err e) room t0 u (matched met s t)
 match_stops_first e room t0 u s t h = first_stops e room t0 u s t (has_one_kind s t) refl h
 
-pub match_stops_list : (e : Stop) (room : ℕ) (t0 t1 u : Trace Met) (s t : Shape) → has_one_kind s t ≡ true → t1 ≡ t0 & a_step → Walks (Err e) room t1 u (listed s t) → Walks (Err e) room t0 u (matched met s t)
+pub match_stops_list : (e : Stop) (room : ℕ) (t0 t1 u : Trace Met) (s t : Shape) → has_one_kind s t ≡ true → Goes room t0 t1 a_step → Walks (Err e) room t1 u (listed s t) → Walks (Err e) room t0 u (matched met s t)
 match_stops_list e room t0 t1 u s t k a h =
     walk_same (Err e) room t0 u _ _ (match_parts s t k)
     (walk_stops e room t0 u u _ (results s t) (walk_stops e room t0 u u _ (params s t) (walk_then (Err e) room t0 t1 u a_step (listed s t) a h)))
 
-pub match_stops_params : (e : Stop) (room : ℕ) (t0 t1 t2 u : Trace Met) (s t : Shape) (o p : Option Shape) → has_one_kind s t ≡ true → o ≡ param_of t → p ≡ param_of s → t1 ≡ t0 & a_step → t2 ≡ t1 & listed s t
+pub match_stops_params : (e : Stop) (room : ℕ) (t0 t1 t2 u : Trace Met) (s t : Shape) (o p : Option Shape) → has_one_kind s t ≡ true → o ≡ param_of t → p ≡ param_of s → Goes room t0 t1 a_step → Goes room t1 t2 (listed s t)
     → Walks (Err e) room t2 u (match_part o p) → Walks (Err e) room t0 u (matched met s t)
 match_stops_params e room t0 t1 t2 u s t o p k f g a b h =
     walk_same (Err e) room t0 u _ _ (match_parts s t k)
     (walk_stops e room t0 u u _ (results s t)
-    (walk_then (Err e) room t0 t2 u (a_step & listed s t) (params s t) (joined t0 t1 t2 a_step (listed s t) a b)
+    (walk_then (Err e) room t0 t2 u (a_step & listed s t) (params s t) (joined room t0 t1 t2 a_step (listed s t) a b)
     (walk_same (Err e) room t2 u (match_part o p) (params s t) (ap (λ z. match_part z p) f ∙ ap (λ z. match_part (param_of t) z) g) h)))
 
 pub match_walks : (r : Result Unit Stop) (room : ℕ) (t0 t1 t2 t3 u : Trace Met) (s t : Shape) (o p o' p' : Option Shape) → has_one_kind s t ≡ true → o ≡ param_of t → p ≡ param_of s → o' ≡ result_of s → p' ≡ result_of t
-    → t1 ≡ t0 & a_step → t2 ≡ t1 & listed s t → t3 ≡ t2 & match_part o p → Walks r room t3 u (match_part o' p') → Walks r room t0 u (matched met s t)
+    → Goes room t0 t1 a_step → Goes room t1 t2 (listed s t) → Goes room t2 t3 (match_part o p) → Walks r room t3 u (match_part o' p') → Walks r room t0 u (matched met s t)
 match_walks r room t0 t1 t2 t3 u s t o p o' p' k f g f' g' a b c h =
     walk_same r room t0 u _ _ (match_parts s t k)
     (walk_then r room t0 t3 u (a_step & listed s t & params s t) (results s t)
-    (joined t0 t2 t3 (a_step & listed s t) (params s t) (joined t0 t1 t2 a_step (listed s t) a b)
-    (c ∙ ap (λ z. t2 & match_part z p) f ∙ ap (λ z. t2 & match_part (param_of t) z) g))
+    (joined room t0 t2 t3 (a_step & listed s t) (params s t) (joined room t0 t1 t2 a_step (listed s t) a b)
+    (goes_same room t2 t3 _ _ (ap (λ z. match_part z p) f ∙ ap (λ z. match_part (param_of t) z) g) c))
     (walk_same r room t3 u (match_part o' p') (results s t) (ap (λ z. match_part z p') f' ∙ ap (λ z. match_part (result_of s) z) g') h))

@@ -24,9 +24,9 @@ listed None = []
 listed (Some a) = a ∷ []
 
 -- the answer after a walk
-abbrev pub IsAnswer : Result Unit Stop → ℕ → Found → Matched → Type 0
-IsAnswer (Ok u) room found (Whole links work) = (links.items ≡ map link_of (mets found.meetings.items)) × (work ≡ found.work) × (found.work ≤ room)
-IsAnswer (Ok u) room found Over = room < found.work
-IsAnswer (Err stop.Over) room found (Whole links work) = ⊥
-IsAnswer (Err stop.Over) room found Over = Unit {0}
-IsAnswer (Err stop.Memory) room found m = ⊥
+abbrev pub IsAnswer : Result Unit Stop → Found → Matched → Type 0
+IsAnswer (Ok u) found (Whole links work) = (links.items ≡ map link_of (mets found.meetings.items)) × (work ≡ found.work)
+IsAnswer (Ok u) found Over = ⊥
+IsAnswer (Err stop.Over) found (Whole links work) = ⊥
+IsAnswer (Err stop.Over) found Over = Unit {0}
+IsAnswer (Err stop.Memory) found m = ⊥

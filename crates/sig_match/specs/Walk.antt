@@ -1,5 +1,5 @@
 -- What a walk over shapes finds: the traces of Match and Pin, kept as meetings.
-use Rattle.std.specs.Prelude.{◌≡◌, ℕ, ◌<◌, List, [], ◌∷◌, ◌++◌, Option, Some, None, Result, Ok, Err}
+use Rattle.std.specs.Prelude.{◌≡◌, ℕ, ◌<◌, ◌≤◌, List, [], ◌∷◌, ◌++◌, Option, Some, None, Result, Ok, Err}
 use Rattle.std.specs.Borrow.{Bor}
 use Rattle.rotor_base.specs.declared.place.Goal.{Goal}
 use Rattle.shape_core.specs.Shape.{Name, Shape, Entries, none, a_val, a_mod, a_mty, a_dark, entries_in, entries_from}
@@ -46,8 +46,12 @@ trace_of f = record { told = mets f.meetings.items; work = f.work }
 abbrev pub told_once : List Met → Trace Met
 told_once l = record { told = l; work = 1 }
 
+-- a part is added to a trace, and the work stays within the room
+abbrev pub Goes : ℕ → Trace Met → Trace Met → Trace Met → Type 0
+Goes room before after part = (after ≡ before & part) × (before.work ≤ room → after.work ≤ room)
+
 -- a walk from one trace to another adds a part to it, unless the work would be more than the room
 abbrev pub Walks : Result Unit Stop → ℕ → Trace Met → Trace Met → Trace Met → Type 0
-Walks (Ok u) room before after part = after ≡ before & part
+Walks (Ok u) room before after part = Goes room before after part
 Walks (Err Over) room before after part = room < (before & part).work
 Walks (Err Memory) room before after part = Unit {0}

@@ -5,10 +5,10 @@ ghost use Rattle.shape_core.specs.Shape.{entries_in, entries_from, none};
 ghost use Rattle.shape_core.specs.Node.{and_then};
 ghost use Rattle.shape_core.specs.Links as links;
 ghost use Rattle.sig_match.specs.Walk.{Walks, trace_of, met};
-ghost use Rattle.sig_match.specs.Parts.{pin_part, pin_first, pin_value};
+ghost use Rattle.sig_match.specs.Parts.{pin_part, pin_first};
 
 use crate::found::{Found, Meeting, Stop, meet, spend};
-use shape_core::{Shared, SharedEntry, entries, is_shown, param, result};
+use shape_core::{Shared, SharedEntry, entries, is_shown, param, result, value_positions};
 
 /// Pin of a shape.
 #[cycle(pinning)]
@@ -87,34 +87,14 @@ fn pin_entry<'a>(
 pub fn pin_values<'a>(shape: &'a Shared, room: u32, found: &mut Found<'a>) -> Result<(), Stop>
     ensures { Walks result room (trace_of found.old) (trace_of found.new) (links.pin_vals met (entries_in shape.now)) }
 {
-    let list = entries(shape);
-    for at in 0..list.len() {
-        pin_if_value(shape, at, &list[at], room, found)?;
+    let positions = value_positions(shape);
+    for at in positions {
+        let meeting = Meeting {
+            list: shape,
+            at: *at,
+            source: None,
+        };
+        meet(meeting, room, found)?;
     }
     Ok(())
-}
-
-fn pin_if_value<'a>(
-    shape: &'a Shared,
-    at: usize,
-    entry: &SharedEntry,
-    room: u32,
-    found: &mut Found<'a>,
-) -> Result<(), Stop>
-    requires { entries_from at (entries_in shape.now) ≡ and_then entry.now (entries_from (at + 1) (entries_in shape.now)) }
-    ensures { Walks result room (trace_of found.old) (trace_of found.new) (pin_value (entries_from at (entries_in shape.now))) }
-{
-    match entry {
-        SharedEntry::Val(_, _) => {
-            let meeting = Meeting {
-                list: shape,
-                at,
-                source: None,
-            };
-            meet(meeting, room, found)
-        }
-        SharedEntry::Mod(_, _) => Ok(()),
-        SharedEntry::Mty(_, _) => Ok(()),
-        SharedEntry::Dark(_) => Ok(()),
-    }
 }

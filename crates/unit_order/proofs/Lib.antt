@@ -1,3 +1,10 @@
 pub mod Locals
 pub mod Branches
+pub mod Chains
+pub mod Spread
+pub mod Stuck
+pub mod Table
+pub mod Taken
+pub mod Turns
+pub mod Named
 pub mod Rows

@@ -1,2 +1,6 @@
 pub mod Heads
 pub mod Order
+pub mod Positions
+pub mod Needs
+pub mod Turns
+pub mod Errors

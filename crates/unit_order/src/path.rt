@@ -9,7 +9,7 @@ use rotor_base::{Memory, Name};
 use std::alloc::Global;
 
 /// Whether a name is one of these.
-fn is_bound(bound: &[Name], name: &[u8]) -> bool
+pub fn is_bound(bound: &[Name], name: &[u8]) -> bool
     ensures { result ≡ is_among bound.now name.now }
 {
     bound.iter().any(|other| other.as_bytes() == name)

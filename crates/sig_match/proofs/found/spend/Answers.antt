@@ -6,4 +6,4 @@ pub returns-then-found-room : goal.returns-then-found-room
 returns-then-found-room c = step_refused c.args.room (mets c.args.found.now.meetings.items) c.args.found.now.work c.if-found-room.true
 
 pub returns : goal.returns
-returns c = step_taken (mets c.args.found.now.meetings.items) c.args.found.now.work
+returns c = step_taken c.args.room (mets c.args.found.now.meetings.items) c.args.found.now.work c.if-found-room.false

@@ -3,9 +3,8 @@ use Rattle.std.specs.Prelude.{option_copied}
 use Rattle.shape_core.specs.declared.shared.SharedEntry.TheVariants as e
 use Rattle.shape_core.specs.Shape.{entries_in, entries_from, find_mod, find_mty}
 use Rattle.shape_core.specs.Links as links
-use Rattle.shape_core.proofs.Matches.{then_nothing}
 use Rattle.sig_match.specs.Walk.{met, trace_of}
-use Rattle.sig_match.proofs.Walks.{left, walk_then, walk_stops, loop_stops, loop_turns, loop_ends}
+use Rattle.sig_match.proofs.Walks.{left, walk_then, walk_done, walk_stops, loop_stops, loop_turns, loop_ends}
 use Rattle.sig_match.proofs.Firsts.{from_in, end_in, match_rest, match_over, then_is}
 use Rattle.sig_match.proofs.FirstWalks.{target_mod_stops, target_mty_stops, target_dark_stops, target_mod_walks, target_mty_walks, target_mod_hidden, target_mty_hidden, target_dark_walks, no_source, no_target}
 use Rattle.sig_match.proofs.MatchWalks.{pins_stop, pins_walk, match_stops_first, match_stops_list, match_stops_params, match_walks}
@@ -63,7 +62,7 @@ match_entries-loop-at-preserved t c =
     let src = entries_in c.args.src.now in
     let es = entries_in c.args.tgt.now in
     let at = c.loop-at.at in
-    loop_turns (trace_of c.args.found.now) (trace_of c.loop-at.found) (trace_of c.match_entry.new.found) _ _ _ _ c.loop-at.invariant
+    loop_turns c.args.room (trace_of c.args.found.now) (trace_of c.loop-at.found) (trace_of c.match_entry.new.found) _ _ _ _ c.loop-at.invariant
     (match_rest src (entries_from at es) (entries_from (at + 1) es) c.index-list-at.result (from_in c.entries-list.result.now es at c.index-list-at.result c.entries-list.ensures c.loop-at-test.true c.index-list-at.is))
     c.in_ok-match_entry.ensures
 
@@ -71,7 +70,7 @@ pub match_entries-returns : goal.match_entries-returns
 match_entries-returns t c =
     let src = entries_in c.args.src.now in
     let es = entries_in c.args.tgt.now in
-    loop_ends (trace_of c.args.found.now) (trace_of c.loop-at.found) _ _ c.loop-at.invariant
+    loop_ends c.args.room (trace_of c.args.found.now) (trace_of c.loop-at.found) _ _ c.loop-at.invariant
     (match_over src (entries_from c.loop-at.at es) (end_in c.entries-list.result.now es c.loop-at.at c.entries-list.ensures c.loop-at-test.false))
 
 pub match_entry-returns-in_err-spend-in-Mod : goal.match_entry-returns-in_err-spend-in-Mod
@@ -113,7 +112,7 @@ match_entry-returns-then-is_shown t c =
 
 pub match_entry-returns-else-is_shown : goal.match_entry-returns-else-is_shown
 match_entry-returns-else-is_shown t c =
-    target_mod_hidden (trace_of c.args.found.now) (trace_of c.spend.new.found) (entries_in c.args.src.now) (entries_from c.args.at (entries_in c.args.tgt.now)) (entries_from (c.args.at + 1) (entries_in c.args.tgt.now)) c.in-Mod.x c.in-Mod.target c.is_shown.result
+    target_mod_hidden c.args.room (trace_of c.args.found.now) (trace_of c.spend.new.found) (entries_in c.args.src.now) (entries_from c.args.at (entries_in c.args.tgt.now)) (entries_from (c.args.at + 1) (entries_in c.args.tgt.now)) c.in-Mod.x c.in-Mod.target c.is_shown.result
     (then_is _ _ c.args.entry.now (e.Mod c.in-Mod.x c.in-Mod.target) c.requires.entry c.in-Mod.is) c.is_shown.ensures c.if-is_shown.false c.in_ok-spend-in-Mod.ensures
 
 pub match_entry-returns-then-is_shown-2 : goal.match_entry-returns-then-is_shown-2
@@ -125,7 +124,7 @@ match_entry-returns-then-is_shown-2 t c =
 
 pub match_entry-returns-else-is_shown-2 : goal.match_entry-returns-else-is_shown-2
 match_entry-returns-else-is_shown-2 t c =
-    target_mty_hidden (trace_of c.args.found.now) (trace_of c.spend-in-Mty.new.found) (entries_in c.args.src.now) (entries_from c.args.at (entries_in c.args.tgt.now)) (entries_from (c.args.at + 1) (entries_in c.args.tgt.now)) c.in-Mty.x c.in-Mty.target c.is_shown-in-Mty.result
+    target_mty_hidden c.args.room (trace_of c.args.found.now) (trace_of c.spend-in-Mty.new.found) (entries_in c.args.src.now) (entries_from c.args.at (entries_in c.args.tgt.now)) (entries_from (c.args.at + 1) (entries_in c.args.tgt.now)) c.in-Mty.x c.in-Mty.target c.is_shown-in-Mty.result
     (then_is _ _ c.args.entry.now (e.Mty c.in-Mty.x c.in-Mty.target) c.requires.entry c.in-Mty.is) c.is_shown-in-Mty.ensures c.if-is_shown-2.false c.in_ok-spend-in-Mty.ensures
 
 pub match_entry-returns-in_ok-spend-in-Dark : goal.match_entry-returns-in_ok-spend-in-Dark
@@ -135,11 +134,11 @@ match_entry-returns-in_ok-spend-in-Dark t c =
 
 pub match_options-returns-in-None-tgt : goal.match_options-returns-in-None-tgt
 match_options-returns-in-None-tgt t c =
-    sym (then_nothing (trace_of c.args.found.now)) ∙ ap (λ z. links.◌&◌ (trace_of c.args.found.now) z) (sym (no_target (option_copied c.args.src) (option_copied c.args.tgt) (ap option_copied c.in-None-tgt.is)))
+    walk_done c.args.room (trace_of c.args.found.now) _ (no_target (option_copied c.args.src) (option_copied c.args.tgt) (ap option_copied c.in-None-tgt.is))
 
 pub match_options-returns-in-None : goal.match_options-returns-in-None
 match_options-returns-in-None t c =
-    sym (then_nothing (trace_of c.args.found.now)) ∙ ap (λ z. links.◌&◌ (trace_of c.args.found.now) z) (sym (no_source (option_copied c.args.src) (option_copied c.args.tgt) (ap option_copied c.in-None.is)))
+    walk_done c.args.room (trace_of c.args.found.now) _ (no_source (option_copied c.args.src) (option_copied c.args.tgt) (ap option_copied c.in-None.is))
 
 pub match_ways-returns-in_err-match_both : goal.match_ways-returns-in_err-match_both
 match_ways-returns-in_err-match_both t c =

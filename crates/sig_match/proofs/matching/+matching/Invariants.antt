@@ -1,7 +1,8 @@
-use Rattle.std.proofs.Common.{◌≡◌, ◌+◌, ◌*◌}
+use Rattle.std.proofs.Common.{◌+◌, ◌*◌}
 use Rattle.shape_core.specs.Shape.{depth, entries_in, entries_from}
 use Rattle.shape_core.specs.Links as links
 use Rattle.sig_match.specs.Walk.{trace_of, met}
+use Rattle.sig_match.proofs.Walks.{Turns}
 use Rattle.sig_match.proofs.Depths.{depth_of_both}
 use Rattle.sig_match.proofs.matching.+matching.Given as goal
 
@@ -22,5 +23,6 @@ decreases-match_options l = depth_of_both l.src l.tgt
 
 abbrev pub invariant-match_entries-loop-at : goal.invariant-match_entries-loop-at
 invariant-match_entries-loop-at l =
-    links.◌&◌ (trace_of l.found) (links.match_entries met (links.matched met) (entries_in l.src) (entries_from l.at (entries_in l.tgt)))
-    ≡ links.◌&◌ (trace_of l.fn.found) (links.match_entries met (links.matched met) (entries_in l.src) (entries_in l.tgt))
+    Turns l.room (trace_of l.fn.found) (trace_of l.found)
+    (links.match_entries met (links.matched met) (entries_in l.src) (entries_in l.tgt))
+    (links.match_entries met (links.matched met) (entries_in l.src) (entries_from l.at (entries_in l.tgt)))

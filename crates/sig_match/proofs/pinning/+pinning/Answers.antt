@@ -3,10 +3,9 @@ use Rattle.std.specs.Prelude.{option_copied}
 use Rattle.shape_core.specs.declared.shared.SharedEntry.TheVariants as e
 use Rattle.shape_core.specs.Shape.{entries_in, entries_from}
 use Rattle.shape_core.specs.Links as links
-use Rattle.shape_core.proofs.Matches.{then_nothing}
 use Rattle.sig_match.specs.Walk.{met, trace_of}
 use Rattle.sig_match.specs.Parts.{pin_part, pin_first}
-use Rattle.sig_match.proofs.Walks.{left, walk_then, walk_same, loop_stops, loop_turns, loop_ends}
+use Rattle.sig_match.proofs.Walks.{left, walk_then, walk_done, walk_same, goes_same, loop_stops, loop_turns, loop_ends}
 use Rattle.sig_match.proofs.Firsts.{from_in, end_in, pin_rest, pin_over, then_is, shown_mod, shown_mty, hidden_mod, hidden_mty}
 use Rattle.sig_match.proofs.FirstWalks.{mod_stops, mty_stops}
 use Rattle.sig_match.proofs.PinWalks.{pin_stops_first, pin_stops_list, pin_stops_param, pin_walks}
@@ -29,14 +28,14 @@ pub pin_entries-loop-at-preserved : goal.pin_entries-loop-at-preserved
 pin_entries-loop-at-preserved t c =
     let es = entries_in c.args.shape.now in
     let at = c.loop-at.at in
-    loop_turns (trace_of c.args.found.now) (trace_of c.loop-at.found) (trace_of c.pin_entry.new.found) _ _ _ _ c.loop-at.invariant
+    loop_turns c.args.room (trace_of c.args.found.now) (trace_of c.loop-at.found) (trace_of c.pin_entry.new.found) _ _ _ _ c.loop-at.invariant
     (pin_rest (entries_from at es) (entries_from (at + 1) es) c.index-list-at.result (from_in c.entries-list.result.now es at c.index-list-at.result c.entries-list.ensures c.loop-at-test.true c.index-list-at.is))
     c.in_ok-pin_entry.ensures
 
 pub pin_entries-returns : goal.pin_entries-returns
 pin_entries-returns t c =
     let es = entries_in c.args.shape.now in
-    loop_ends (trace_of c.args.found.now) (trace_of c.loop-at.found) _ _ c.loop-at.invariant
+    loop_ends c.args.room (trace_of c.args.found.now) (trace_of c.loop-at.found) _ _ c.loop-at.invariant
     (pin_over (entries_from c.loop-at.at es) (end_in c.entries-list.result.now es c.loop-at.at c.entries-list.ensures c.loop-at-test.false))
 
 pub pin_entry-returns-in_err-spend-in-Mod : goal.pin_entry-returns-in_err-spend-in-Mod
@@ -71,8 +70,7 @@ pin_entry-returns-then-is_shown t c =
 pub pin_entry-returns-else-is_shown : goal.pin_entry-returns-else-is_shown
 pin_entry-returns-else-is_shown t c =
     let h = then_is _ _ _ _ c.requires c.in-Mod.is in
-    c.in_ok-spend-in-Mod.ensures
-    ∙ ap (λ z. links.◌&◌ (trace_of c.args.found.now) z) (hidden_mod _ _ _ _ (links.pin met c.in-Mod.part) _ h c.is_shown.ensures c.if-is_shown.false ∙ ap pin_first (sym h))
+    goes_same c.args.room (trace_of c.args.found.now) _ _ _ (hidden_mod _ _ _ _ (links.pin met c.in-Mod.part) _ h c.is_shown.ensures c.if-is_shown.false ∙ ap pin_first (sym h)) c.in_ok-spend-in-Mod.ensures
 
 pub pin_entry-returns-then-is_shown-2 : goal.pin_entry-returns-then-is_shown-2
 pin_entry-returns-then-is_shown-2 t c =
@@ -84,12 +82,11 @@ pin_entry-returns-then-is_shown-2 t c =
 pub pin_entry-returns-else-is_shown-2 : goal.pin_entry-returns-else-is_shown-2
 pin_entry-returns-else-is_shown-2 t c =
     let h = then_is _ _ _ _ c.requires c.in-Mty.is in
-    c.in_ok-spend-in-Mty.ensures
-    ∙ ap (λ z. links.◌&◌ (trace_of c.args.found.now) z) (hidden_mty _ _ _ _ (links.pin met c.in-Mty.part) _ h c.is_shown-in-Mty.ensures c.if-is_shown-2.false ∙ ap pin_first (sym h))
+    goes_same c.args.room (trace_of c.args.found.now) _ _ _ (hidden_mty _ _ _ _ (links.pin met c.in-Mty.part) _ h c.is_shown-in-Mty.ensures c.if-is_shown-2.false ∙ ap pin_first (sym h)) c.in_ok-spend-in-Mty.ensures
 
 pub pin_option-returns-in-None : goal.pin_option-returns-in-None
 pin_option-returns-in-None t c =
-    sym (then_nothing (trace_of c.args.found.now)) ∙ ap (λ o. links.◌&◌ (trace_of c.args.found.now) (pin_part (option_copied o))) (sym c.in-None.is)
+    walk_done c.args.room (trace_of c.args.found.now) _ (ap (λ o. pin_part (option_copied o)) c.in-None.is)
 
 pub pin_shape-returns-in_err-spend : goal.pin_shape-returns-in_err-spend
 pin_shape-returns-in_err-spend t c =

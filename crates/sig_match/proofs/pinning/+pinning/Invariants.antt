@@ -1,7 +1,8 @@
-use Rattle.std.proofs.Common.{◌≡◌, ◌+◌, ◌*◌}
+use Rattle.std.proofs.Common.{◌+◌, ◌*◌}
 use Rattle.shape_core.specs.Shape.{depth, entries_in, entries_from}
 use Rattle.shape_core.specs.Links as links
 use Rattle.sig_match.specs.Walk.{trace_of, met}
+use Rattle.sig_match.proofs.Walks.{Turns}
 use Rattle.sig_match.proofs.Depths.{depth_of_part}
 use Rattle.sig_match.proofs.pinning.+pinning.Given as goal
 
@@ -19,5 +20,4 @@ decreases-pin_option l = depth_of_part l.part
 
 abbrev pub invariant-pin_entries-loop-at : goal.invariant-pin_entries-loop-at
 invariant-pin_entries-loop-at l =
-    links.◌&◌ (trace_of l.found) (links.pin_entries met (entries_from l.at (entries_in l.shape)))
-    ≡ links.◌&◌ (trace_of l.fn.found) (links.pin_entries met (entries_in l.shape))
+    Turns l.room (trace_of l.fn.found) (trace_of l.found) (links.pin_entries met (entries_in l.shape)) (links.pin_entries met (entries_from l.at (entries_in l.shape)))

@@ -1,0 +1,17 @@
+use Rattle.std.proofs.Common.{◌≡◌, ◌-◌, ◌∷◌, [], List, Some, None, map, refl, ap, ◌∙◌}
+use Rattle.ml_syntax.specs.Tok.{Name}
+use Rattle.ml_syntax.specs.Tree as pure
+use Rattle.ml_syntax.specs.declared.fixed.Fixed.TheVariants as key
+use Rattle.ml_syntax.specs.View.{view_word, view_name, view_pat, view_pat_field}
+use Rattle.parse_base.specs.Steps.{many, always}
+use Rattle.parse_base.specs.Pieces.{dot_upper, upper_dot}
+use Rattle.parse_base.specs.PatReading as r
+use Rattle.parse_base.specs.PatReading.{read_pat}
+use Rattle.parse_base.specs.Gives.{from}
+use Rattle.parse_base.proofs.Turns.{Left}
+use Rattle.parse_base.proofs.names.more_uppers.Given as goal
+
+abbrev pub invariant-loop-turn : goal.invariant-loop-turn
+invariant-loop-turn l =
+    let part = dot_upper in
+    Left [] ◌∷◌ always part (map view_word l.found.items) (l.depth - l._turn) (from l.tokens l.at) (many [] ◌∷◌ always part l.depth (from l.tokens l.fn.at))

@@ -1,0 +1,13 @@
+use Rattle.std.proofs.Common.{◌≡◌, ◌+◌, ◌∙◌, sym, ap, arith}
+use Rattle.ml_syntax.specs.declared.fixed.Fixed.TheVariants as key
+use Rattle.parse_base.specs.Gives.{from, starts}
+use Rattle.parse_base.proofs.Operators.{operator_unclosed}
+use Rattle.parse_base.proofs.Places.{from_next}
+use Rattle.parse_base.proofs.names.operator.Goals as goal
+
+pub returns-then-not-is : goal.returns-then-not-is
+returns-then-not-is c =
+    let ts = c.args.tokens.now in
+    let e : c.args.at + 2 ≡ c.args.at + 1 + 1 = omega arith in
+    let x = from_next ts (c.args.at + 1) (c.is_operator.ensures.within c.if-not-is_operator.false) in
+    operator_unclosed (c.args.at + 1) (from ts (c.args.at + 1)) (from ts (c.args.at + 1 + 1)) x.0 x.1 (sym (ap (λ k. starts key.RightParen (from ts k)) e) ∙ sym c.is.ensures.value ∙ c.if-not-is.true)

@@ -1,0 +1,41 @@
+//! The longest pattern from a token.
+
+ghost use Rattle.std.specs.Prelude.{◌≡◌, ◌≤◌, length, Err, IfOk, IfErr};
+ghost use Rattle.ml_syntax.specs.View.{view_pat};
+ghost use Rattle.parse_base.specs.Longest.{IsLongestPat, BeginsNoPat};
+ghost use Rattle.parse_base.specs.Gives.{from, IsPlain};
+ghost use Rattle.parse_base.specs.declared.error.ParseError.TheVariants as refused;
+
+use crate::error::{ParseError, ReadError};
+use crate::patterns::pattern;
+use ml_syntax::Pat;
+use rotor_base::{MAX_LEVELS, Token};
+use std::alloc::Global;
+
+/// How often the form of a tree may nest in another: each such form stands for three of the levels that a tree may have.
+pub const MAX_NESTED: usize = MAX_LEVELS / 3;
+
+/// The longest pattern that begins at a token (the manual's chapter on patterns), and the place after it. Places are
+/// counted from 0, and there are at most 1,048,576 tokens. The Err is `Syntax` where no pattern begins there, or else
+/// `Memory`, which also stands for a pattern that nests past the bound on levels.
+pub fn parse_pat(
+    alloc: Global,
+    tokens: &[Token<'_>],
+    start: usize,
+) -> Result<(Pat, usize), ParseError>
+    requires within { start ≤ length tokens.now }
+    requires few { length tokens.now ≤ 1048576 }
+    // It has these words, no longer one begins there, and no other of its length does.
+    ensures found { IfOk result (λ x. IsLongestPat (from tokens.now start) (view_pat x.0) (from tokens.now x.1)) }
+    ensures end { IfOk result (λ x. x.1 ≤ length tokens.now) }
+    // No pattern begins there.
+    ensures none { result ≡ Err refused.Syntax → BeginsNoPat (from tokens.now start) }
+    // It is neither `Form` nor `Deep`.
+    ensures plain { IfErr result IsPlain }
+{
+    match pattern(alloc, tokens, tokens.len() + 1, MAX_NESTED, start) {
+        Ok((tree, end)) => Ok((tree, end.min(tokens.len()))),
+        Err(ReadError::Syntax) => Err(ParseError::Syntax),
+        Err(ReadError::Memory) => Err(ParseError::Memory),
+    }
+}

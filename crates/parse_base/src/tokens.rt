@@ -1,0 +1,142 @@
+//! The token at a place. Places are counted from 0, tokens from 1.
+
+ghost use Rattle.std.specs.Prelude.{◌≡◌, ◌≤◌, ◌<◌, ◌+◌, ◌∷◌, true, false, length, IfOk};
+ghost use Rattle.ml_syntax.specs.Tok.{fixed_at, is_placed, fixed_of, same};
+ghost use Rattle.ml_syntax.specs.View.{view_word, view_tok};
+ghost use Rattle.parse_base.specs.Steps.{expect as read_expect, expect_at as read_expect_at};
+ghost use Rattle.parse_base.specs.Gives.{from, text_at, name_at, kind_of, kind_or, Sees, IsThere, Gives, starts};
+
+use crate::error::ReadError;
+use ml_syntax::{Fixed, Word, fixed_word};
+use rotor_base::{Class, Memory, Name, Token};
+use std::alloc::Global;
+
+/// What stands at a place.
+#[derive(Clone, Copy, Debug, PartialEq, Eq)]
+pub enum Kind {
+    /// A keyword or a mark that the grammar fixes.
+    Fixed(Fixed),
+    /// A word with a text of its own, by its class.
+    Word(Class),
+    /// The end of the tokens.
+    End,
+}
+
+/// What a token is to the grammar.
+fn kind_of(token: &Token<'_>) -> Kind
+    ensures { result ≡ kind_of token.now.class token.now.bytes.now }
+{
+    match token.class {
+        Class::Keyword => fixed_or(Class::Keyword, token.bytes),
+        Class::Mark => fixed_or(Class::Mark, token.bytes),
+        class => Kind::Word(class),
+    }
+}
+
+/// The fixed word of these bytes, or else a word of this class.
+fn fixed_or(class: Class, bytes: &[u8]) -> Kind
+    ensures { result ≡ kind_or class (fixed_of bytes.now) }
+{
+    match fixed_word(bytes) {
+        Some(fixed) => Kind::Fixed(fixed),
+        None => Kind::Word(class),
+    }
+}
+
+/// What stands at a place, and `End` past the tokens.
+pub fn kind_at(tokens: &[Token<'_>], at: usize) -> Kind
+    ensures sees { Sees result (at + 1) (text_at tokens.now at) (from tokens.now at) (from tokens.now (at + 1)) }
+    ensures there { IsThere result at (length tokens.now) }
+{
+    if at < tokens.len() {
+        return kind_of(&tokens[at]);
+    }
+    Kind::End
+}
+
+/// The bytes of the token at a place.
+pub fn text<'a>(tokens: &[Token<'a>], at: usize) -> &'a [u8]
+    requires { at < length tokens.now }
+    ensures { result.now ≡ text_at tokens.now at }
+{
+    tokens[at].bytes
+}
+
+/// The number of the token at a place.
+pub fn number(at: usize) -> u32
+    requires { at < 1048576 }
+    ensures { result ≡ at + 1 }
+{
+    at as u32 + 1
+}
+
+/// The token at a place, as a word of a class.
+pub fn word(alloc: Global, tokens: &[Token<'_>], class: Class, at: usize) -> Result<Word, Memory>
+    requires within { at < length tokens.now }
+    requires few { length tokens.now ≤ 1048576 }
+    ensures name { IfOk result (λ w. view_word w ≡ name_at tokens.now at) }
+    ensures class { IfOk result (λ w. w.class ≡ class) }
+{
+    Ok(Word {
+        token: number(at),
+        class,
+        name: Name::new(alloc, text(tokens, at))?,
+    })
+}
+
+/// The token at a place, as a word that stands for itself: an operator, or a word of a run.
+pub fn token_word(alloc: Global, tokens: &[Token<'_>], at: usize) -> Result<Word, Memory>
+    requires within { at < length tokens.now }
+    requires few { length tokens.now ≤ 1048576 }
+    ensures { IfOk result (λ w. from tokens.now at ≡ view_tok w ∷ from tokens.now (at + 1)) }
+{
+    let token = tokens[at];
+    Ok(Word {
+        token: number(at),
+        class: token.class,
+        name: Name::new(alloc, token.bytes)?,
+    })
+}
+
+/// Whether two fixed words are one.
+pub(crate) fn is_same(a: Fixed, b: Fixed) -> bool
+    ensures { result ≡ same a b }
+{
+    a == b
+}
+
+/// Whether this fixed word stands at a place.
+pub fn is(tokens: &[Token<'_>], fixed: Fixed, at: usize) -> bool
+    ensures value { result ≡ starts fixed (from tokens.now at) }
+    ensures there { result ≡ true → from tokens.now at ≡ fixed_at (at + 1) fixed ∷ from tokens.now (at + 1) }
+    ensures within { result ≡ true → at < length tokens.now }
+{
+    match kind_at(tokens, at) {
+        Kind::Fixed(found) => is_same(found, fixed),
+        _ => false,
+    }
+}
+
+/// The place after this fixed word, whose token no tree keeps.
+pub fn expect(tokens: &[Token<'_>], fixed: Fixed, at: usize) -> Result<usize, ReadError>
+    requires plain { is_placed fixed ≡ false }
+    requires few { length tokens.now ≤ 1048576 }
+    ensures { Gives (λ next. from tokens.now next) result (read_expect fixed (from tokens.now at)) }
+{
+    if is(tokens, fixed, at) {
+        return Ok(at + 1);
+    }
+    Err(ReadError::Syntax)
+}
+
+/// The number of this fixed word, whose token trees keep, and the place after it.
+pub fn expect_at(tokens: &[Token<'_>], fixed: Fixed, at: usize) -> Result<(u32, usize), ReadError>
+    requires placed { is_placed fixed ≡ true }
+    requires few { length tokens.now ≤ 1048576 }
+    ensures { Gives (λ x. (x.0, from tokens.now x.1)) result (read_expect_at fixed (from tokens.now at)) }
+{
+    if is(tokens, fixed, at) {
+        return Ok((number(at), at + 1));
+    }
+    Err(ReadError::Syntax)
+}

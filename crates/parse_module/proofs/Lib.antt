@@ -1,0 +1,4 @@
+pub mod LongerMod
+pub mod FoundMod
+pub mod ReachMod
+pub mod LawsMod

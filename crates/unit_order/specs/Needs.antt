@@ -1,0 +1,21 @@
+-- The needs of the units of a list, as a table and as lists of positions.
+use Rattle.std.specs.Prelude.{◌≡◌, ℕ, ◌+◌, ◌<◌, List, [], ◌∷◌, Bool, All, cond, get_or, length, map, nat_eq}
+use Rattle.std.specs.List.{list_any}
+use Rattle.ml_syntax.specs.Tree.{UnitTree}
+use Rattle.unit_order.specs.Order.{needs_unit}
+use Rattle.unit_order.specs.Positions.{unit_at}
+
+-- for each unit a row, which says of each whether it is needed
+abbrev pub need_table : List UnitTree → List (List Bool)
+need_table units = map (λ u. map (λ v. needs_unit u v.name) units) units
+
+-- the positions at which a row says so, counted from one on
+abbrev pub positions_from : ℕ → List Bool → List ℕ
+positions_from at [] = []
+positions_from at (needed ∷ row) = cond needed (at ∷ positions_from (at + 1) row) (positions_from (at + 1) row)
+
+-- each of these lists has the positions of the units that one unit needs
+pub record AreNeeds (units : List UnitTree) (lists : List (List ℕ)) : Type 0 where
+  pub size : length lists ≡ length units
+  pub inside : All (All (λ at. at < length units)) lists
+  pub exact : (i j : ℕ) → i < length units → j < length units → list_any (nat_eq j) (get_or lists i []) ≡ needs_unit (unit_at units i) (unit_at units j).name

@@ -1,0 +1,9 @@
+//! Worked rows of patterns, refused forms and nesting, over the lexemes of sources.
+#![tactic(auto)]
+
+mod told;
+
+pub use told::{Told, depth_of, form_of, pattern_of};
+
+#[cfg(test)]
+mod tests;

@@ -1,0 +1,9 @@
+//! The worked rows of shapes: sketches of shapes as they stand in a table, and the tests.
+#![tactic(auto)]
+
+mod sketch;
+
+pub use sketch::{Piece, Sketch, decl, entries, place, plain};
+
+#[cfg(test)]
+mod tests;

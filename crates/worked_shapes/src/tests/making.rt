@@ -1,0 +1,82 @@
+// Shared shapes of tables, by the makers.
+use crate::{Piece, Sketch, decl, place};
+use rotor_base::{Memory, Name};
+use shape_core::{
+    Shared, SharedEntry, make_functor, make_opaque, make_struct, make_unitary, mod_of, mty_of,
+    param, result,
+};
+use std::alloc::Global;
+
+/// The shared shape of a sketch.
+#[cycle(making)]
+pub fn made(alloc: Global, sketch: &Sketch) -> Result<Shared, Memory> {
+    match sketch {
+        Sketch::Struct(pieces) => make_struct(alloc, made_entries(alloc, pieces)?),
+        Sketch::Functor(p, r) => {
+            let p = made(alloc, p)?;
+            let r = made(alloc, r)?;
+            make_functor(alloc, p, r)
+        }
+        Sketch::Unitary(r) => make_unitary(alloc, made(alloc, r)?),
+        Sketch::Opaque => make_opaque(alloc),
+    }
+}
+
+/// The shared entries of some pieces.
+#[cycle(making)]
+pub fn made_entries(alloc: Global, pieces: &[Piece]) -> Result<Vec<SharedEntry>, Memory> {
+    let mut made = Vec::new(alloc);
+    for piece in pieces {
+        made.push(made_entry(alloc, piece)?)?;
+    }
+    Ok(made)
+}
+
+#[cycle(making)]
+fn made_entry(alloc: Global, piece: &Piece) -> Result<SharedEntry, Memory> {
+    match piece {
+        Piece::Val(x, token) => {
+            Ok(SharedEntry::Val(Name::new(alloc, x.as_bytes())?, decl(*token)))
+        }
+        Piece::Mod(x, sketch) => module(alloc, x, made(alloc, sketch)?),
+        Piece::Mty(x, sketch) => module_type(alloc, x, made(alloc, sketch)?),
+        Piece::Dark(token) => Ok(SharedEntry::Dark(place(*token))),
+    }
+}
+
+/// A module of that name and shape.
+pub fn module(alloc: Global, name: &str, shape: Shared) -> Result<SharedEntry, Memory> {
+    Ok(SharedEntry::Mod(Name::new(alloc, name.as_bytes())?, shape))
+}
+
+/// A module type of that name and shape.
+pub fn module_type(alloc: Global, name: &str, shape: Shared) -> Result<SharedEntry, Memory> {
+    Ok(SharedEntry::Mty(Name::new(alloc, name.as_bytes())?, shape))
+}
+
+/// A step into a shape.
+#[derive(Clone, Copy)]
+pub enum Step {
+    Mod(&'static str),
+    Mty(&'static str),
+    Param,
+    Result,
+}
+
+/// The part of a shape behind some steps.
+pub fn part<'a>(shape: &'a Shared, steps: &[Step]) -> Option<&'a Shared> {
+    let mut part = shape;
+    for step in steps {
+        part = step_into(part, *step)?;
+    }
+    Some(part)
+}
+
+fn step_into(shape: &Shared, step: Step) -> Option<&Shared> {
+    match step {
+        Step::Mod(x) => mod_of(shape, x.as_bytes()),
+        Step::Mty(x) => mty_of(shape, x.as_bytes()),
+        Step::Param => param(shape),
+        Step::Result => result(shape),
+    }
+}
