@@ -3,7 +3,7 @@
 
 mod told;
 
-pub use told::{Told, depth_of, form_of, pattern_of};
+pub use told::{Told, declaration_of, depth_of, form_of, pattern_of, simple_pattern_of};
 
 #[cfg(test)]
 mod tests;

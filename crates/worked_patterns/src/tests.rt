@@ -1,5 +1,5 @@
 //! Rows: a source and its answer.
-use crate::told::{Told, depth_of, form_of, pattern_of};
+use crate::told::{Told, declaration_of, depth_of, form_of, pattern_of, simple_pattern_of};
 use rotor_base::FormKind;
 use std::alloc::{AllocError, Global};
 use std::test::Fail;
@@ -87,6 +87,57 @@ fn patterns(rt: HostRuntime) -> Result<(), Fail> {
     let open = repeated(rt.alloc(), "", "(", 1000, "x")?;
     let deeper = repeated(rt.alloc(), open.as_str(), ")", 1000, "")?;
     assert_eq!(rt; pattern_of(rt.alloc(), deeper.as_bytes()), Told::Memory);
+    Ok(())
+}
+
+#[test]
+fn simple_patterns(rt: HostRuntime) -> Result<(), Fail> {
+    let rows = [
+        ("x y", Told::Pattern("value", 1)),
+        ("A x", Told::Pattern("constructor", 1)),
+        ("A.B.C x", Told::Pattern("constructor", 5)),
+        ("`T x", Told::Pattern("tag", 1)),
+        ("(x, y) z", Told::Pattern("parentheses", 5)),
+        ("(x : t) y", Told::Pattern("typed", 5)),
+        ("'a' .. 'z' x", Told::Pattern("range", 3)),
+        ("{ x; _ } y", Told::Pattern("record", 5)),
+        ("[ x ] [ y ]", Told::Pattern("list", 3)),
+        ("M.(x) y", Told::Pattern("opened", 5)),
+        ("( + ) x", Told::Pattern("value", 3)),
+        ("- 1 2", Told::Pattern("negative", 2)),
+        ("x as y", Told::Pattern("value", 1)),
+        ("lazy x", Told::Syntax),
+        ("~x", Told::Syntax),
+        ("", Told::Syntax),
+    ];
+    for (source, told) in rows {
+        assert_eq!(rt; simple_pattern_of(rt.alloc(), source.as_bytes()), told);
+    }
+    Ok(())
+}
+
+#[test]
+fn declarations(rt: HostRuntime) -> Result<(), Fail> {
+    let rows = [
+        ("t = A of int | B", Told::Run(7, 7)),
+        ("t = { x : int; mutable y : int } let", Told::Run(12, 12)),
+        (
+            "'a t constraint 'a = int and u = private A type v",
+            Told::Run(11, 11),
+        ),
+        ("a [< `B ] ]", Told::Run(4, 4)),
+        ("t = A of (int ) ) x", Told::Run(7, 7)),
+        ("a (b", Told::Run(1, 1)),
+        ("a ( b ] c", Told::Run(1, 1)),
+        ("= ;; x", Told::Run(1, 1)),
+        ("t = ( let )", Told::Run(2, 2)),
+        ("let x", Told::Syntax),
+        ("(a", Told::Syntax),
+        ("", Told::Syntax),
+    ];
+    for (source, told) in rows {
+        assert_eq!(rt; declaration_of(rt.alloc(), source.as_bytes()), told);
+    }
     Ok(())
 }
 

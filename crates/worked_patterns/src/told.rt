@@ -1,9 +1,14 @@
 //! What a source is answered with.
 
+ghost use Rattle.std.specs.Prelude.{◌≤◌, length, IfOk};
+
 use ml_lexer::{LexError, lex};
 use ml_syntax::Pat;
-use parse_base::{ParseError, parse_pat, scan_depth, scan_forms};
-use rotor_base::FormKind;
+use parse_base::{
+    MAX_NESTED, ParseError, ReadError, declaration_run, parse_pat, scan_depth, scan_forms,
+    simple_pattern,
+};
+use rotor_base::{FormKind, Token};
 use std::alloc::Global;
 
 /// The answer of one reading, of at most 1,048,576 bytes.
@@ -11,6 +16,8 @@ use std::alloc::Global;
 pub enum Told {
     /// The production of the pattern, and the place after it.
     Pattern(&'static str, usize),
+    /// The number of the words of a run, and the place after it.
+    Run(usize, usize),
     /// The first refused form.
     Form(u32, FormKind),
     /// The first token that is nested too deep.
@@ -52,66 +59,88 @@ fn production(pat: &Pat) -> &'static str {
     }
 }
 
-/// The pattern that begins a source.
-pub fn pattern_of(alloc: Global, source: &[u8]) -> Told {
+/// The lexemes of a source.
+fn lexemes<'a>(alloc: Global, source: &'a [u8]) -> Result<Vec<Token<'a>>, Told>
+    ensures { IfOk result (λ tokens. length tokens.items ≤ 1048576) }
+{
     if source.len() > 1_048_576 {
-        return Told::NoLexemes;
+        return Err(Told::NoLexemes);
     }
     match lex(alloc, source) {
         Ok(tokens) => {
             if tokens.len() > 1_048_576 {
-                return Told::NoLexemes;
+                return Err(Told::NoLexemes);
             }
-            match parse_pat(alloc, &tokens, 0) {
-                Ok((pat, end)) => Told::Pattern(production(&pat), end),
-                Err(ParseError::Syntax) => Told::Syntax,
-                Err(ParseError::Memory) => Told::Memory,
-                Err(ParseError::Form { token, kind }) => Told::Form(token, kind),
-                Err(ParseError::Deep { token }) => Told::Deep(token),
-            }
+            Ok(tokens)
         }
-        Err(LexError::Memory) => Told::Memory,
-        Err(_) => Told::NoLexemes,
+        Err(LexError::Memory) => Err(Told::Memory),
+        Err(_) => Err(Told::NoLexemes),
+    }
+}
+
+/// The answer of a reader that read nothing.
+fn unread(error: ReadError) -> Told {
+    match error {
+        ReadError::Syntax => Told::Syntax,
+        ReadError::Memory => Told::Memory,
+    }
+}
+
+/// The pattern that begins a source.
+pub fn pattern_of(alloc: Global, source: &[u8]) -> Told {
+    match lexemes(alloc, source) {
+        Ok(tokens) => match parse_pat(alloc, &tokens, 0) {
+            Ok((pat, end)) => Told::Pattern(production(&pat), end),
+            Err(ParseError::Syntax) => Told::Syntax,
+            Err(ParseError::Memory) => Told::Memory,
+            Err(ParseError::Form { token, kind }) => Told::Form(token, kind),
+            Err(ParseError::Deep { token }) => Told::Deep(token),
+        },
+        Err(told) => told,
+    }
+}
+
+/// The Simple pattern that begins a source.
+pub fn simple_pattern_of(alloc: Global, source: &[u8]) -> Told {
+    match lexemes(alloc, source) {
+        Ok(tokens) => match simple_pattern(alloc, &tokens, tokens.len() + 1, MAX_NESTED, 0) {
+            Ok((pat, end)) => Told::Pattern(production(&pat), end),
+            Err(error) => unread(error),
+        },
+        Err(told) => told,
+    }
+}
+
+/// The declaration that begins a source.
+pub fn declaration_of(alloc: Global, source: &[u8]) -> Told {
+    match lexemes(alloc, source) {
+        Ok(tokens) => match declaration_run(alloc, &tokens, 0) {
+            Ok((run, end)) => Told::Run(run.words.len(), end),
+            Err(error) => unread(error),
+        },
+        Err(told) => told,
     }
 }
 
 /// The first refused form of a source.
 pub fn form_of(alloc: Global, source: &[u8]) -> Told {
-    if source.len() > 1_048_576 {
-        return Told::NoLexemes;
-    }
-    match lex(alloc, source) {
-        Ok(tokens) => {
-            if tokens.len() > 1_048_576 {
-                return Told::NoLexemes;
-            }
-            match scan_forms(&tokens) {
-                Some((token, kind)) => Told::Form(token, kind),
-                None => Told::Nothing,
-            }
-        }
-        Err(LexError::Memory) => Told::Memory,
-        Err(_) => Told::NoLexemes,
+    match lexemes(alloc, source) {
+        Ok(tokens) => match scan_forms(&tokens) {
+            Some((token, kind)) => Told::Form(token, kind),
+            None => Told::Nothing,
+        },
+        Err(told) => told,
     }
 }
 
 /// The first token of a source that is nested too deep.
 pub fn depth_of(alloc: Global, source: &[u8]) -> Told {
-    if source.len() > 1_048_576 {
-        return Told::NoLexemes;
-    }
-    match lex(alloc, source) {
-        Ok(tokens) => {
-            if tokens.len() > 1_048_576 {
-                return Told::NoLexemes;
-            }
-            match scan_depth(alloc, &tokens) {
-                Ok(Some(token)) => Told::Deep(token),
-                Ok(None) => Told::Nothing,
-                Err(_) => Told::Memory,
-            }
-        }
-        Err(LexError::Memory) => Told::Memory,
-        Err(_) => Told::NoLexemes,
+    match lexemes(alloc, source) {
+        Ok(tokens) => match scan_depth(alloc, &tokens) {
+            Ok(Some(token)) => Told::Deep(token),
+            Ok(None) => Told::Nothing,
+            Err(_) => Told::Memory,
+        },
+        Err(told) => told,
     }
 }
