@@ -4,7 +4,9 @@ pub mod Chains
 pub mod Spread
 pub mod Stuck
 pub mod Table
+pub mod Users
 pub mod Taken
+pub mod Cursor
 pub mod Turns
 pub mod Named
 pub mod Rows

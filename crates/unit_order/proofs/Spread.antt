@@ -163,3 +163,14 @@ marks_step marked xs k within lt all =
 pub still_at : (queue : List ℕ) (b : Bool) (next done : ℕ) → done < length queue → (done < length (cond b queue (queue ++ next ∷ []))) × (get_or (cond b queue (queue ++ next ∷ [])) done 0 ≡ get_or queue done 0)
 still_at queue true next done lt = (lt, refl)
 still_at queue false next done lt = (omega (arith, lt, length_push queue next), get_or_append_left queue (next ∷ []) 0 done lt)
+
+-- a unit that needs no other lies on no cycle
+pub no_cycle : (us : List UnitTree) (lists : List (List ℕ)) (start : ℕ) → AreNeeds us lists → start < length us → get_or lists start [] ≡ [] → Leads us start start → ⊥
+no_cycle us lists start needs lt empty chain = by chain.0 chain.1
+  where
+    no_need : (j : ℕ) → j < length us → needs_unit (unit_at us start) (unit_at us j).name ≡ true → ⊥
+    no_need j within need = true≢false (sym need ∙ sym (needs.exact start j lt within) ∙ ap (list_any (nat_eq j)) empty)
+
+    by : (n : ℕ) → leads_to n us (unit_at us start) (unit_at us start).name ≡ true → ⊥
+    by zero chain = no_need start lt chain
+    by (suc n) chain = let next = chain_second n us (unit_at us start) (unit_at us start).name chain in no_need next.0 next.1 next.2

@@ -19,6 +19,7 @@ use Rattle.unit_order.specs.declared.taking.Waiting.{Waiting}
 use Rattle.unit_order.specs.Heads.{is_among}
 use Rattle.unit_order.specs.Order.{needs_unit, is_ready, first_ready}
 use Rattle.unit_order.specs.Positions.{blank, unit_at}
+use Rattle.unit_order.specs.Turns.{is_free}
 
 -- units of different positions have different names
 abbrev pub AreApart : List UnitTree → Type 0
@@ -147,9 +148,6 @@ position_cons p x xs = ap (λ n. cond (nat_lt (cond (not (p x)) n 0) (suc (lengt
 -- a unit as it waits once these units are taken
 abbrev pub waiting_of : List (List ℕ) → List UnitTree → UnitTree → Waiting
 waiting_of taken units u = record { missing = open_needs taken units u; taken = is_among taken u.name }
-
-abbrev pub is_free : Waiting → Bool
-is_free unit = not unit.taken && unit.missing == 0
 
 named_at : (u d : UnitTree) (us : List UnitTree) (b : Bool) (o : Option ℕ) (r : Option (List ℕ)) → r ≡ option_map (λ k. (get_or us k d).name) o → cond b (Some u.name) r ≡ option_map (λ k. (get_or (u ∷ us) k d).name) (cond b (Some 0) (option_map suc o))
 named_at u d us true o r h = refl

@@ -12,10 +12,10 @@ use Rattle.unit_order.specs.declared.taking.Waiting.{Waiting}
 use Rattle.unit_order.specs.Heads.{is_among}
 use Rattle.unit_order.specs.Order.{needs_unit, first_ready, taking, derived_order, go_on}
 use Rattle.unit_order.specs.Positions.{blank, unit_at, names_at}
-use Rattle.unit_order.specs.Needs.{need_table}
-use Rattle.unit_order.specs.Turns.{waits_after}
-use Rattle.unit_order.proofs.Taken.{AreApart, left_of, open_needs, left_less_at, among_more, waiting_of, is_free, first_at}
-use Rattle.unit_order.proofs.Table.{map_through, table_entry}
+use Rattle.unit_order.specs.Needs.{need_table, positions_from}
+use Rattle.unit_order.specs.Turns.{waits_after, is_free}
+use Rattle.unit_order.proofs.Taken.{AreApart, left_of, open_needs, left_less_at, among_more, waiting_of, first_at}
+use Rattle.unit_order.proofs.Table.{map_through, positions_many}
 
 pub record Turns (us : List UnitTree) (order : List ℕ) (waiting : List Waiting) : Type 0 where
   pub inside : All (λ at. at < length us) order
@@ -43,15 +43,16 @@ none_taken u (v ∷ us) =
     ∙ ap (λ b. cond b 1 0 + open_needs [] us u) (and_true (needs_unit u v.name))
     ∙ sym (sum_by-cons (λ (w : UnitTree). cond (needs_unit u w.name && true) 1 0) v us)
 
--- how the units wait at first, from the rows of the table
-abbrev pub at_first : List Bool → Waiting
-at_first row = record { missing = count_by (λ needed. needed) row; taken = false }
+-- how the units wait at first, from the lists of their needs
+abbrev pub at_first : List ℕ → Waiting
+at_first list = record { missing = length list; taken = false }
 
-pub turns_start : {R : Type 0} (us : List UnitTree) (out : R → List Bool) (rows : List R) (waiting : List Waiting) → map out rows ≡ need_table us → waiting ≡ map (λ row. at_first (out row)) rows → Turns us [] waiting
-turns_start us out rows waiting table first = record {
+pub turns_start : {L : Type 0} (us : List UnitTree) (out : L → List ℕ) (lists : List L) (waiting : List Waiting) → map out lists ≡ map (positions_from 0) (need_table us) → waiting ≡ map (λ list. at_first (out list)) lists → Turns us [] waiting
+turns_start us out lists waiting needs first = record {
   inside = All-nil (λ at. at < length us);
-  waits = first ∙ sym (map_through at_first out (λ row. at_first (out row)) (λ row. refl) rows) ∙ ap (map at_first) table
-      ∙ map_through at_first (λ u. map (λ v. needs_unit u v.name) us) (waiting_of [] us) (λ u. ap (λ n. record { missing = n; taken = false }) (none_taken u us)) us;
+  waits = first ∙ sym (map_through at_first out (λ list. at_first (out list)) (λ list. refl) lists) ∙ ap (map at_first) needs
+      ∙ map_through at_first (positions_from 0) (λ row. at_first (positions_from 0 row)) (λ row. refl) (need_table us)
+      ∙ map_through (λ row. at_first (positions_from 0 row)) (λ u. map (λ v. needs_unit u v.name) us) (waiting_of [] us) (λ u. ap (λ n. record { missing = n; taken = false }) (positions_many 0 (map (λ v. needs_unit u v.name) us) ∙ none_taken u us)) us;
   left = omega (arith, count_all us);
   goes = ap (λ n. taking n us []) (nothing_off (length us));
 }
@@ -93,7 +94,7 @@ ready_name us order waiting found t is =
     ∙ ap (option_map (λ k. (unit_at us k).name)) is
 
 -- one turn
-pub turns_more : (us : List UnitTree) (order : List ℕ) (waiting later : List Waiting) (at : ℕ) → AreApart us → Turns us order waiting → position is_free waiting ≡ Some at → length later ≡ length waiting → ((k : ℕ) (d : Waiting) → k < length waiting → get_or later k d ≡ waits_after (get_or (get_or (need_table us) k []) at false) (nat_eq k at) (get_or waiting k d)) → Turns us (order ++ at ∷ []) later
+pub turns_more : (us : List UnitTree) (order : List ℕ) (waiting later : List Waiting) (at : ℕ) → AreApart us → Turns us order waiting → position is_free waiting ≡ Some at → length later ≡ length waiting → ((k : ℕ) (d : Waiting) → k < length waiting → get_or later k d ≡ waits_after (needs_unit (unit_at us k) (unit_at us at).name) (nat_eq k at) (get_or waiting k d)) → Turns us (order ++ at ∷ []) later
 turns_more us order waiting later at apart t free size each =
     let taken = names_at us order in
     let fresh = fresh_at us order waiting at t free in
@@ -108,7 +109,6 @@ turns_more us order waiting later at apart t free size each =
           (λ k d lt.
           let within : k < length us = omega (arith, lt, size, many) in
           each k d (omega (arith, lt, size))
-          ∙ ap (λ b. waits_after b (nat_eq k at) (get_or waiting k d)) (table_entry us k at within fresh.0)
           ∙ ap (waits_after (needs_unit (unit_at us k) name) (nat_eq k at)) (ap (λ l. get_or l k d) t.waits ∙ get_or-map (waiting_of taken us) us k blank d within)
           ∙ waits_then us taken at k apart fresh.0 within fresh.1
           ∙ sym (get_or-map (waiting_of (taken ++ name ∷ []) us) us k blank d within)));

@@ -1,5 +1,5 @@
 -- The needs of the units of a list, as a table and as lists of positions.
-use Rattle.std.specs.Prelude.{◌≡◌, ℕ, ◌+◌, ◌<◌, List, [], ◌∷◌, Bool, All, cond, get_or, length, map, nat_eq}
+use Rattle.std.specs.Prelude.{◌≡◌, ℕ, ◌+◌, ◌<◌, List, [], ◌∷◌, Bool, All, cond, count_by, get_or, length, map, nat_eq}
 use Rattle.std.specs.List.{list_any}
 use Rattle.ml_syntax.specs.Tree.{UnitTree}
 use Rattle.unit_order.specs.Order.{needs_unit}
@@ -19,3 +19,7 @@ pub record AreNeeds (units : List UnitTree) (lists : List (List ℕ)) : Type 0 w
   pub size : length lists ≡ length units
   pub inside : All (All (λ at. at < length units)) lists
   pub exact : (i j : ℕ) → i < length units → j < length units → list_any (nat_eq j) (get_or lists i []) ≡ needs_unit (unit_at units i) (unit_at units j).name
+
+-- how often a position stands in one of these lists
+abbrev pub times : List (List ℕ) → ℕ → ℕ → ℕ
+times lists list at = count_by (nat_eq at) (get_or lists list [])

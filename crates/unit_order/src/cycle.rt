@@ -2,7 +2,7 @@
 
 ghost use Rattle.std.specs.Prelude.{◌≡◌, ◌<◌, ◌++◌, ◌∷◌, [], OnOk, IfOk, IfSome, IfNone, IsTrue, All, map, take, length, slice_set, slice_index_or, true, false, if◌then◌else◌};
 ghost use Rattle.unit_order.specs.Positions.{views, unit_at};
-ghost use Rattle.unit_order.specs.Needs.{AreNeeds, need_table, positions_from};
+ghost use Rattle.unit_order.specs.Needs.{AreNeeds};
 ghost use Rattle.unit_order.specs.Order.{LiesOnCycle};
 
 use ml_syntax::UnitTree;
@@ -13,45 +13,20 @@ use std::alloc::Global;
 pub fn first_on_cycle(
     alloc: Global,
     units: &[UnitTree],
-    rows: &[Vec<bool>],
+    needs: &[Vec<usize>],
 ) -> Result<Option<usize>, Memory>
-    requires { map (λ row. row.items) rows.now ≡ need_table (views units.now) }
+    requires { AreNeeds (views units.now) (map (λ list. list.items) needs.now) }
     ensures inside { IfOk result (λ found. IfSome found (λ at. at < length units.now)) }
     ensures found { IfOk result (λ found. IfSome found (λ at. LiesOnCycle (views units.now) (unit_at (views units.now) at))) }
     ensures first { IfOk result (λ found. IfSome found (λ at. All (λ u. LiesOnCycle (views units.now) u → ⊥) (take at (views units.now)))) }
     ensures none { IfOk result (λ found. IfNone found (All (λ u. LiesOnCycle (views units.now) u → ⊥) (views units.now))) }
 {
-    let needs = need_lists(alloc, rows)?;
     for at in 0..units.len() {
-        if leads_back(alloc, units, &needs, at)? {
+        if leads_back(alloc, units, needs, at)? {
             return Ok(Some(at));
         }
     }
     Ok(None)
-}
-
-/// For each unit, the positions of those that it needs.
-fn need_lists(alloc: Global, rows: &[Vec<bool>]) -> Result<Vec<Vec<usize>>, Memory>
-    ensures { IfOk result (λ lists. map (λ list. list.items) lists.items ≡ map (λ row. positions_from 0 row.items) rows.now) }
-{
-    let mut lists = Vec::new(alloc);
-    for row in rows {
-        lists.push(positions(alloc, row)?)?;
-    }
-    Ok(lists)
-}
-
-/// The positions at which a row says so.
-fn positions(alloc: Global, row: &[bool]) -> Result<Vec<usize>, Memory>
-    ensures { IfOk result (λ list. list.items ≡ positions_from 0 row.now) }
-{
-    let mut list = Vec::new(alloc);
-    for at in 0..row.len() {
-        if row[at] {
-            list.push(at)?;
-        }
-    }
-    Ok(list)
 }
 
 /// Whether a chain of needs leads from a unit back to it.
@@ -66,6 +41,9 @@ fn leads_back(
     ensures yes { IfOk result (λ found. IsTrue found → LiesOnCycle (views units.now) (unit_at (views units.now) start)) }
     ensures no { IfOk result (λ found. LiesOnCycle (views units.now) (unit_at (views units.now) start) → IsTrue found) }
 {
+    if needs[start].is_empty() {
+        return Ok(false);
+    }
     let mut marked = vec![in alloc; false; units.len()]?;
     let mut queue = vec![in alloc; start]?;
     let mut done = 0;

@@ -7,7 +7,7 @@ mod link_order;
 mod listed;
 mod local_heads;
 mod module_heads;
-mod need_rows;
+mod need_lists;
 mod path;
 mod pattern_heads;
 mod taking;

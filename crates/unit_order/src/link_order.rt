@@ -11,7 +11,7 @@ ghost use Rattle.unit_order.specs.Errors.{IsOrderError};
 
 use crate::cycle::first_on_cycle;
 use crate::listed::listed;
-use crate::need_rows::need_rows;
+use crate::need_lists::need_lists;
 use crate::taking::take_ready;
 use ml_syntax::UnitTree;
 use rotor_base::{Memory, Name};
@@ -75,12 +75,12 @@ fn derived(alloc: Global, units: &[UnitTree]) -> Result<Vec<u32>, OrderError>
     ensures taken { OnOk result (takes_all (views units.now) ≡ true) }
     ensures refused { IfErr result (IsOrderError (views units.now) None) }
 {
-    let rows = need_rows(alloc, units)?;
-    let taken = take_ready(alloc, units, &rows)?;
+    let needs = need_lists(alloc, units)?;
+    let taken = take_ready(alloc, units, &needs)?;
     if taken.len() == units.len() {
         return Ok(taken);
     }
-    match first_on_cycle(alloc, units, &rows)? {
+    match first_on_cycle(alloc, units, &needs)? {
         Some(at) => Err(OrderError::Cycle {
             unit: Name::new(alloc, units[at].name.as_bytes())?,
         }),

@@ -1,18 +1,11 @@
-use Rattle.std.proofs.Common.{ℕ, map, sym, subst, ap, ◌∙◌, arith, Bool, Vec, Global}
+use Rattle.std.proofs.Common.{sym, ◌∙◌, arith}
 use Rattle.std.proofs.lemmas.Bool.{true≢false}
 use Rattle.std.proofs.lemmas.List.{take_all, length-map}
 use Rattle.std.proofs.lemmas.List.Elements.{All-more}
 use Rattle.unit_order.specs.Order.{LiesOnCycle}
 use Rattle.unit_order.specs.Positions.{views, blank}
-use Rattle.unit_order.specs.Needs.{AreNeeds}
 use Rattle.ml_syntax.specs.View.{view_unit}
-use Rattle.unit_order.proofs.Table.{table_needs}
 use Rattle.unit_order.proofs.cycle.first_on_cycle.Goals as goal
-
-pub leads_back-requires-clause-needs : goal.leads_back-requires-clause-needs
-leads_back-requires-clause-needs c =
-    subst (AreNeeds (views c.args.units.now)) (sym (ap (map (λ (list : Vec ℕ Global). list.items)) c.deref.ensures.value ∙ c.in_ok-needs.ensures))
-    (table_needs (views c.args.units.now) (λ (row : Vec Bool Global). row.items) c.args.rows.now c.requires)
 
 pub loop-at-preserved : goal.loop-at-preserved
 loop-at-preserved c =

@@ -1,8 +1,9 @@
-use Rattle.std.proofs.Common.{ℕ, ◌<◌, [], false, length, map, get_or, sym, subst, ap, ◌∙◌, arith, Vec, Global}
+use Rattle.std.proofs.Common.{ℕ, ◌<◌, [], false, ◌≡◌, length, map, get_or, refl, sym, subst, ap, ◌∙◌, arith, Vec, Global}
 use Rattle.std.proofs.lemmas.List.{take_all, length-map, get_or_default}
+use Rattle.std.proofs.lemmas.Grind.{common_steps}
 use Rattle.unit_order.specs.Positions.{views}
 use Rattle.ml_syntax.specs.View.{view_unit}
-use Rattle.unit_order.proofs.Spread.{AreMarked, list_is, next_inside, spread_step, marks_step, spread_next, spread_end, still_at}
+use Rattle.unit_order.proofs.Spread.{AreMarked, list_is, next_inside, spread_step, marks_step, spread_next, spread_end, still_at, no_cycle}
 use Rattle.unit_order.proofs.cycle.leads_back.Goals as goal
 
 pub mark-requires : goal.mark-requires
@@ -57,3 +58,13 @@ returns-clause-no c =
     let lt : c.args.start < length us = omega (arith, c.requires.inside, length-map c.args.units.now view_unit) in
     λ chain. c.index.ensures ∙ get_or_default c.loop-done.marked.items c.args.start c.index.result.now false (omega (arith, lt, s.size))
     ∙ spread_end us (map out c.args.needs.now) c.args.start c.loop-done.marked.items c.loop-done.queue.items c.loop-done.done c.requires.needs lt s (omega (arith, c.loop-done-test.false)) chain
+
+pub returns-then-is_empty-clause-no : goal.returns-then-is_empty-clause-no
+returns-then-is_empty-clause-no c =
+    let us = views c.args.units.now in
+    let out = λ (list : Vec ℕ Global). list.items in
+    let start = c.args.start in
+    let lt : start < length us = omega (arith, c.requires.inside, length-map c.args.units.now view_unit) in
+    let empty : c.index-needs-start.result.items ≡ [] = grind (arith, common_steps) in
+    let list = list_is out c.args.needs.now start c.index-needs-start.result c.index-needs-start.result.items (omega (arith, lt, c.requires.needs.size, length-map c.args.needs.now out)) c.index-needs-start.is refl in
+    λ chain. absurd (no_cycle us (map out c.args.needs.now) start c.requires.needs lt (sym list ∙ empty) chain)

@@ -1,12 +1,20 @@
-use Rattle.std.proofs.Common.{◌≡◌, ◌<◌, length, refl, sym, ap, ◌∙◌, arith}
+use Rattle.std.proofs.Common.{◌≡◌, ◌<◌, ℕ, Vec, Global, length, map, refl, sym, subst, ap, ◌∙◌, arith}
 use Rattle.std.proofs.lemmas.Bool.{ne_eqb}
 use Rattle.std.proofs.lemmas.List.{length-map}
 use Rattle.ml_syntax.specs.View.{view_unit}
 use Rattle.unit_order.specs.Positions.{views, names_at, unit_at}
 use Rattle.unit_order.specs.Order.{derived_order}
+use Rattle.unit_order.specs.Needs.{AreNeeds}
 use Rattle.unit_order.proofs.Stuck.{stuck_at, never_stuck}
 use Rattle.unit_order.proofs.Named.{name_of}
+use Rattle.unit_order.proofs.Table.{table_needs}
 use Rattle.unit_order.proofs.link_order.derived.Goals as goal
+
+pub first_on_cycle-requires : goal.first_on_cycle-requires
+first_on_cycle-requires c =
+    let us = views c.args.units.now in
+    let out = λ (list : Vec ℕ Global). list.items in
+    subst (AreNeeds us) (sym (ap (map out) c.deref-2.ensures.value ∙ c.in_ok-needs.ensures)) (table_needs us)
 
 pub returns-in-Some-clause-refused : goal.returns-in-Some-clause-refused
 returns-in-Some-clause-refused c =

@@ -1,5 +1,5 @@
-use Rattle.std.proofs.Common.{◌≡◌, false, count_by, map, take}
+use Rattle.std.proofs.Common.{◌≡◌, false, length, map, take}
 use Rattle.unit_order.proofs.taking.start_waiting.Given as goal
 
-abbrev pub invariant-loop-row : goal.invariant-loop-row
-invariant-loop-row l = l.waiting.items ≡ map (λ row. record { missing = count_by (λ needed. needed) row.items; taken = false }) (take l.row-index l.rows)
+abbrev pub invariant-loop-list : goal.invariant-loop-list
+invariant-loop-list l = l.waiting.items ≡ map (λ list. record { missing = length list.items; taken = false }) (take l.list-index l.needs)

@@ -1,12 +1,13 @@
--- The units so far wait as after the turn, and those behind as before it.
-use Rattle.std.proofs.Common.{◌≡◌, ◌<◌, ◌≤◌, ℕ, [], false, get_or, length, map, nat_eq}
-use Rattle.unit_order.specs.Turns.{waits_after}
+-- The users so far wait for one less, and no unit before the position can be taken.
+use Rattle.std.proofs.Common.{◌≡◌, ◌<◌, ◌≤◌, ◌-◌, ◌||◌, ℕ, count_by, get_or, length, nat_eq, take}
+use Rattle.unit_order.specs.Turns.{NoneFreeBefore}
 use Rattle.unit_order.specs.declared.taking.Waiting.{Waiting}
 use Rattle.unit_order.proofs.taking.take_unit.Given as goal
 
-abbrev pub invariant-loop-other : goal.invariant-loop-other
-invariant-loop-other l = record {
+abbrev pub invariant-loop-user : goal.invariant-loop-user
+invariant-loop-user l = record {
   size : length l.waiting ≡ length l.fn.waiting;
-  done : (k : ℕ) (d : Waiting) → k < l.other → get_or l.waiting k d ≡ waits_after (get_or (get_or (map (λ row. row.items) l.rows) k []) l.at false) (nat_eq k l.at) (get_or l.fn.waiting k d);
-  rest : (k : ℕ) (d : Waiting) → l.other ≤ k → get_or l.waiting k d ≡ get_or l.fn.waiting k d;
+  each : (k : ℕ) (d : Waiting) → k < length l.fn.waiting → get_or l.waiting k d ≡ record { missing = (get_or l.fn.waiting k d).missing - count_by (nat_eq k) (take l.user-index l.users); taken = (get_or l.fn.waiting k d).taken || nat_eq k l.at };
+  inside : l.from ≤ length l.waiting;
+  before : NoneFreeBefore l.from l.waiting;
 }
