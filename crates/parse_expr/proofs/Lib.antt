@@ -1,11 +1,3 @@
-pub mod LongerExpr
-pub mod AppendExpr
-pub mod FirstWord
-pub mod FoundExpr
-pub mod GoesExpr
-pub mod ReachParams
-pub mod ReachForms
-pub mod ReachAtoms
-pub mod ReachRecords
-pub mod ReachExpr
-pub mod LawsExpr
+pub mod Ends
+pub mod Lone
+pub mod Operands

@@ -1,8 +1,14 @@
 //! Sequence expressions.
 #![tactic(auto)]
 
-mod laws;
-mod wanted;
+mod applications;
+mod atoms;
+mod brackets;
+mod levels;
+mod parse;
+mod readers;
+mod reading;
+mod records;
 
-pub use laws::one_expr_reading;
-pub use wanted::Wanted;
+pub use parse::parse_seq;
+pub use reading::read;

@@ -4,7 +4,7 @@ use Rattle.rotor_base.specs.declared.token.Class.TheVariants as class
 use Rattle.ml_syntax.specs.declared.fixed.Fixed.{Fixed}
 use Rattle.ml_syntax.specs.declared.fixed.Fixed.TheVariants as key
 use Rattle.ml_syntax.specs.Tok.{Name, Tok, fixed, placed, word}
-use Rattle.parse_expr.specs.declared.wanted.Wanted.TheVariants as wanted
+use Rattle.expr_reading.specs.declared.wanted.Wanted.TheVariants as wanted
 use Rattle.ml_syntax.specs.Words.{path_then, name_then, optional_then, bang_then, module_name_then, constraint_then, constraints_then, withs_then, texts_then, external_then, mod_then, mod_argument_then, mod_arguments_then, functor_param_then, functor_params_then, mod_type_then, signature_then, items_then, sig_item_then, sig_items_then, words}
 use Rattle.ml_syntax.specs.Words.{item_then as item_then_words}
 use Rattle.ml_syntax.specs.Runs.{is_type_run}
@@ -14,8 +14,8 @@ use Rattle.parse_base.specs.Steps.{Read, ◌>>=◌, expect, expect_at, many, alw
 use Rattle.parse_base.specs.Pieces.{value_name, type_run, declaration_run}
 use Rattle.parse_base.proofs.Stepping.{from_some, bind_ok, expect_ok, expect_at_ok, many_ind}
 use Rattle.parse_base.proofs.FoundPieces.{name_found, type_run_found, declaration_run_found}
-use Rattle.parse_expr.specs.ExprReading.{optional_bang, upper_path, bindings, read_expr}
-use Rattle.parse_expr.proofs.FoundExpr.{bang_found, path_found, bindings_found, expr_reads}
+use Rattle.expr_reading.specs.ExprReading.{optional_bang, upper_path, bindings, read_expr}
+use Rattle.expr_reading.proofs.FoundExpr.{bang_found, path_found, bindings_found, expr_reads}
 use Rattle.parse_module.specs.ModReading.{grown_mod, module_name, text_word, constraint_sign, optional_private, constraint_rest, constraint, next_constraint, more_constraints, with_clause, with_clauses, External, external_end, external_rest, open_rest, some_bindings, value_rest, named_param, functor_param, functor_params, signature_of, module_rest, plain_item, expression_or, item_of, item_then, items_of, module_sig_rest, val_rest, sig_item, sig_items, mod_closed, simple_mod, argument_closed, mod_argument, mod_arguments, mod_apply, functor_end, mod_expr, simple_type, arrow_or, with_or, with_type, functor_type_end, param_or, mod_type, read_mod, read_type, whole_body, whole_face, read_body, read_face, External}
 
 abbrev key_then : Fixed → List Tok → List Tok

@@ -5,7 +5,7 @@ use Rattle.ml_syntax.specs.Tok.{Name, Tok, fixed, placed}
 use Rattle.ml_syntax.specs.Words.{path_then, optional_then, binding_then, bindings_then, module_name_then, constraint_then, constraints_then, withs_then, texts_then, external_then, open_item_then, mod_then, mod_argument_then, mod_arguments_then, functor_param_then, functor_params_then, mod_type_then, signature_then, item_then, items_then, sig_item_then, sig_items_then}
 use Rattle.ml_syntax.specs.Tree.{ValueName, ModuleName, UpperName, AnyName, Constraint, ConstraintOf, WithClause, WithOf, ModExpr, ModPath, Struct, Functor, ModApply, ModParen, Sealed, ModArgument, ModuleArgument, SealedArgument, NoArgument, ModArguments, no_mod_argument, more_mod_argument, FunctorParam, NamedParam, NoParam, FunctorParams, no_functor_param, more_functor_param, ModType, TypePath, Sig, TypeOf, TypeParen, With, FunctorType, ParamArrow, Arrow, MaybeType, no_type, some_type, Item, ExprItem, SeparatorItem, ValueItem, ExternalItem, TypeItem, ExceptionItem, ModuleItem, ModuleTypeItem, OpenItem, IncludeItem, Items, no_item, more_item, SigItem, SeparatorSig, ValSig, ExternalSig, TypeSig, ExceptionSig, ModuleSig, AliasSig, ModuleTypeSig, OpenSig, IncludeSig, SigItems, no_sig_item, more_sig_item}
 use Rattle.parse_base.proofs.LongerPat.{path_longer, name_longer, run_longer, optional_longer}
-use Rattle.parse_expr.proofs.LongerExpr.{expr_more, binding_more, bindings_more, bang_more}
+use Rattle.expr_reading.proofs.LongerExpr.{expr_more, binding_more, bindings_more, bang_more}
 
 pub module_name_more : (a : ModuleName) (k : List Tok) → length k ≤ length (module_name_then a k)
 module_name_more (UpperName x) k = omega arith

@@ -6,7 +6,7 @@ use Rattle.ml_syntax.specs.declared.fixed.Fixed.TheVariants as key
 use Rattle.ml_syntax.specs.declared.word.Bracket.{Bracket}
 use Rattle.ml_syntax.specs.declared.word.Bracket.TheVariants as bracket
 use Rattle.ml_syntax.specs.Tok.{Name, Tok, fixed, placed, word}
-use Rattle.parse_expr.specs.declared.wanted.Wanted.TheVariants as wanted
+use Rattle.expr_reading.specs.declared.wanted.Wanted.TheVariants as wanted
 use Rattle.ml_syntax.specs.Runs.{bracketing, after_bracket, beside_type, in_type, in_declaration, is_type_run}
 use Rattle.ml_syntax.specs.Words.{links_then, arguments_then, parts_then, opening, truth, path_then, qualified_then, name_then, optional_then, bang_then, expr_then, binding_then, bindings_then, module_name_then, constraint_then, constraints_then, withs_then, texts_then, external_then, mod_then, mod_argument_then, mod_arguments_then, functor_param_then, functor_params_then, mod_type_then, signature_then, items_then, sig_item_then, sig_items_then}
 use Rattle.ml_syntax.specs.Words.{item_then as item_then_words}
@@ -18,14 +18,14 @@ use Rattle.parse_base.proofs.Stepping.{some_is, from_some}
 use Rattle.parse_base.proofs.Reach.{Reach, stop, no_turn, more_turns}
 use Rattle.parse_base.proofs.LongerPat.{begins_pat, Opens, path_longer, name_longer, run_longer, optional_longer}
 use Rattle.parse_base.proofs.ReachPieces.{name_read, Blocked, NoColon, type_run_read, declaration_run_read}
-use Rattle.parse_expr.specs.ExprReading.{bindings, read_expr}
-use Rattle.parse_expr.proofs.LongerExpr.{bang_more, binding_more, bindings_more, path_strict, expr_longer}
-use Rattle.parse_expr.proofs.FirstWord.{begins_expr, Begins, expr_begins}
-use Rattle.parse_expr.proofs.FoundExpr.{expr_reads}
-use Rattle.parse_expr.proofs.GoesExpr.{grip, Holds, Begun, Headed, Goes, clash, fixed_begun, by_level, by_form, by_if, by_else, by_bar, by_more}
-use Rattle.parse_expr.proofs.ReachParams.{path_read}
-use Rattle.parse_expr.proofs.ReachForms.{bang_read, bindings_reach, in_exact, binding_opens, last_value}
-use Rattle.parse_expr.proofs.ReachExpr.{expr_reach, binding_good, bindings_good}
+use Rattle.expr_reading.specs.ExprReading.{bindings, read_expr}
+use Rattle.expr_reading.proofs.LongerExpr.{bang_more, binding_more, bindings_more, path_strict, expr_longer}
+use Rattle.expr_reading.proofs.FirstWord.{begins_expr, Begins, expr_begins}
+use Rattle.expr_reading.proofs.FoundExpr.{expr_reads}
+use Rattle.expr_reading.proofs.GoesExpr.{grip, Holds, Begun, Headed, Goes, clash, fixed_begun, by_level, by_form, by_if, by_else, by_bar, by_more}
+use Rattle.expr_reading.proofs.ReachParams.{path_read}
+use Rattle.expr_reading.proofs.ReachForms.{bang_read, bindings_reach, in_exact, binding_opens, last_value}
+use Rattle.expr_reading.proofs.ReachExpr.{expr_reach, binding_good, bindings_good}
 use Rattle.parse_module.specs.ModReading.{grown_mod, module_name, text_word, optional_private, constraint, next_constraint, more_constraints, with_clause, with_clauses, external_rest, open_rest, some_bindings, value_rest, named_param, functor_param, functor_params, signature_of, module_rest, plain_item, item_of, items_of, module_sig_rest, sig_item, sig_items, simple_mod, argument_closed, mod_argument, mod_arguments, mod_apply, mod_expr, simple_type, with_type, param_or, mod_type, read_mod, read_type, read_body, read_face}
 use Rattle.parse_module.proofs.LongerMod.{module_name_more, constraint_more, constraints_more, withs_more, texts_more, mod_more, mod_arguments_more, functor_params_more, mod_type_more, signature_more, item_more, items_more, sig_items_more}
 use Rattle.parse_module.proofs.FoundMod.{next_constraint_found, clause_found, simple_plain, functor_param_found, sig_item_found, mod_argument_found, mod_reads, type_reads}

@@ -7,8 +7,8 @@ use Rattle.ml_syntax.specs.WellFormed.{is_separator, is_constraint_sign}
 use Rattle.ml_syntax.specs.Tree.{ValueName, Expr, ModuleName, UpperName, AnyName, Constraint, ConstraintOf, WithClause, WithOf, ModExpr, ModPath, Struct, Functor, ModApply, ModParen, Sealed, ModArgument, ModuleArgument, SealedArgument, NoArgument, ModArguments, no_mod_argument, more_mod_argument, FunctorParam, NamedParam, NoParam, FunctorParams, no_functor_param, more_functor_param, ModType, TypePath, Sig, TypeOf, TypeParen, With, FunctorType, ParamArrow, Arrow, MaybeType, no_type, some_type, Item, ExprItem, SeparatorItem, ValueItem, ExternalItem, TypeItem, ExceptionItem, ModuleItem, ModuleTypeItem, OpenItem, IncludeItem, Items, no_item, more_item, SigItem, SeparatorSig, ValSig, ExternalSig, TypeSig, ExceptionSig, ModuleSig, AliasSig, ModuleTypeSig, OpenSig, IncludeSig, SigItems, no_sig_item, more_sig_item, FileTree, Body, Face}
 use Rattle.parse_base.specs.Steps.{Read, ◌>>=◌, expect, expect_at, many, always}
 use Rattle.parse_base.specs.Pieces.{value_name, type_run, declaration_run}
-use Rattle.parse_expr.specs.ExprReading.{optional_bang, upper_path, bindings, read_expr}
-use Rattle.parse_expr.specs.declared.wanted.Wanted.TheVariants as wanted
+use Rattle.expr_reading.specs.ExprReading.{optional_bang, upper_path, bindings, read_expr}
+use Rattle.expr_reading.specs.declared.wanted.Wanted.TheVariants as wanted
 
 -- ---- what is read, put together
 

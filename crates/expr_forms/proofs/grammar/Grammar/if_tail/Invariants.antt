@@ -1,0 +1,20 @@
+use Rattle.std.proofs.Common.{◌≡◌, ℕ, ◌-◌, ◌∷◌, ◌++◌, [], List, Bool, true, false, not, Some, None, map, refl, sym, ap, ◌∙◌}
+use Rattle.ml_syntax.specs.Tree as pure
+use Rattle.ml_syntax.specs.declared.fixed.Fixed.TheVariants as key
+use Rattle.ml_syntax.specs.Tok.{Name}
+use Rattle.ml_syntax.specs.View.{view, view_word, view_words, view_tok, view_binding, view_case, view_argument, view_param, view_part, view_field, tail, tail_before, links, ops, commas}
+use Rattle.parse_base.specs.Steps.{many, always}
+use Rattle.parse_base.specs.Pieces.{lower_word}
+use Rattle.parse_base.specs.Gives.{from}
+use Rattle.expr_reading.specs.declared.wanted.Wanted.TheVariants as wanted
+use Rattle.expr_reading.specs.ExprReading as r
+use Rattle.expr_reading.specs.ExprReading.{read_expr, read_local}
+use Rattle.expr_parts.specs.Rows.{branch_of}
+use Rattle.expr_forms.specs.Forms.{otherwise_of}
+use Rattle.parse_base.proofs.Turns.{Left}
+use Rattle.expr_forms.proofs.grammar.Grammar.if_tail.Given as goal
+
+abbrev pub invariant-loop-turn : goal.invariant-loop-turn
+invariant-loop-turn g l =
+    let part = r.else_branch (read_expr l.self.depth) l.self.depth in
+    Left pure.no_else r.cons_branch r.branch_ends part (map branch_of l.found.items) (l._turn-end - l._turn) (from l.tokens l.at) (many pure.no_else r.cons_branch r.branch_ends part l.self.depth (from l.tokens l.fn.at))

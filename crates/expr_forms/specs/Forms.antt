@@ -1,0 +1,49 @@
+-- The parts of forms, as the code reads them.
+use Rattle.std.specs.Prelude.{ℕ, List, ◌∷◌, Bool, Option, Some, None}
+use Rattle.rotor_base.specs.declared.token.Class.TheVariants as class
+use Rattle.ml_syntax.specs.declared.fixed.Fixed.TheVariants as key
+use Rattle.ml_syntax.specs.Tok.{Name, Tok, placed, word}
+use Rattle.ml_syntax.specs.Tree.{Pat, Expr, LetModule, Param, DefaultParam}
+use Rattle.ml_syntax.specs.View.{view}
+use Rattle.parse_base.specs.Steps.{Read, ◌>>=◌, expect, expect_at}
+use Rattle.parse_base.specs.Pieces.{lower_word, optional_type}
+use Rattle.expr_reading.specs.declared.wanted.Wanted.TheVariants as wanted
+use Rattle.expr_reading.specs.ExprReading.{Otherwise, last_branch, read_expr, read_local, wrapped_end}
+use Rattle.expr_forms.specs.declared.branches.Otherwise.{Otherwise as Behind}
+use Rattle.expr_forms.specs.declared.branches.Otherwise.TheVariants as behind
+use Rattle.expr_parts.specs.Rows.{branch_of}
+
+-- what stands behind an `else`, as the code holds it
+abbrev pub otherwise_of : Behind → Otherwise
+otherwise_of (behind.Last e) = last_branch (view e.value)
+otherwise_of (behind.If b) = branch_of b
+
+-- after the pattern of a default value and its type
+abbrev pub default_end : ℕ → Name → ℕ → Pat → Option (List Tok) → Read Param
+default_end d x at p run ts = do
+  q ← expect_at key.Equals ts
+  e ← read_expr d wanted.Expression q.1
+  r ← expect key.RightParen e.1
+  Some (DefaultParam x at p run q.0 e.0, r)
+
+-- after a `~` or a `?` and a `(`
+abbrev pub wrapped_label : ℕ → ℕ → Bool → ℕ → Read Param
+wrapped_label d at optional at' ts = lower_word ts >>= λ x. wrapped_end (read_expr d) d at optional at' x.0 (optional_type x.1).0 (optional_type x.1).1
+
+-- a name of class Upper
+abbrev pub upper_word : Read Name
+upper_word (word class.Upper x ∷ ts) = Some (x, ts)
+upper_word _ = None
+
+-- after the `=` of a `let module`
+abbrev pub module_in : ℕ → ℕ → ℕ → Name → ℕ → Read Expr
+module_in d at at' x q ts = do
+  m ← read_local d ts
+  r ← expect key.In m.1
+  e ← read_expr d wanted.Sequence r
+  Some (LetModule at at' x q m.0 e.0, e.1)
+
+-- after the name of a `let module`
+abbrev pub module_named : ℕ → ℕ → ℕ → Name → Read Expr
+module_named d at at' x (placed key.Equals q ∷ ts) = module_in d at at' x q ts
+module_named d at at' x _ = None

@@ -1,0 +1,212 @@
+//! Bindings.
+
+ghost use Rattle.std.specs.Prelude.{ℕ, ◌≡◌, ◌≤◌, ◌<◌, ◌+◌, ◌-◌, ◌∷◌, [], true, false, not, Bool, length, map, Some, None, if◌then◌else◌};
+ghost use Rattle.ml_syntax.specs.Tree as pure;
+ghost use Rattle.ml_syntax.specs.declared.fixed.Fixed.TheVariants as key;
+ghost use Rattle.ml_syntax.specs.View.{view, view_word, view_words, view_path, view_name, view_run, view_type, view_bang, view_variable, view_pat, view_tok, view_binding, view_case, view_argument, view_param, view_part, view_field, links, commas, ops, maybe, tail, bindings, cases, arguments, params, parts, fields, locals, view_local};
+ghost use Rattle.parse_base.specs.Steps.{many, many_if, always};
+ghost use Rattle.parse_base.specs.PatReading.{read_pat};
+ghost use Rattle.parse_base.specs.Gives.{from, name_at, text_at, Gives};
+ghost use Rattle.expr_reading.specs.declared.wanted.Wanted.TheVariants as wanted;
+ghost use Rattle.expr_reading.specs.ExprReading as r;
+ghost use Rattle.expr_reading.specs.ExprReading.{read_expr};
+ghost use Rattle.expr_forms.specs.Reads.{Nests};
+
+use crate::grammar::Grammar;
+use expr_reading::Wanted;
+use ml_syntax::{Binding, Expr, Fixed, Param, Pat, Run, ValueName};
+use parse_base::{ReadError, expect, expect_at, optional_type, value_name};
+use rotor_base::Token;
+use std::alloc::Global;
+
+impl<
+    F: Copy
+        + Fn(
+            Global,
+            &[Token<'_>],
+            usize,
+            usize,
+            Wanted,
+            usize,
+        ) -> Result<(Box<Expr>, usize), ReadError>,
+> Grammar<F> {
+    /// A type or none, `=` and an expression.
+    #[tactic(auto, unfolding(expr_reading::specs::ExprReading::bound))]
+    pub fn bound(
+        &self,
+        tokens: &[Token<'_>],
+        at: usize,
+    ) -> Result<((Option<Run>, u32, Box<Expr>), usize), ReadError>
+        requires nests { Nests self.now.depth (F.pre self.now.sub) (F.post self.now.sub) }
+        requires few { length tokens.now ≤ 1048576 }
+        ensures { Gives (λ x. ((view_type x.0.0, x.0.1, view x.0.2.value), from tokens.now x.1)) result (r.bound (read_expr self.now.depth) self.now.depth (from tokens.now at)) }
+    {
+        let (run, at) = optional_type(self.alloc, tokens, at)?;
+        let (equals, at) = expect_at(tokens, Fixed::Equals, at)?;
+        let (value, at) = self.sub(tokens, Wanted::Sequence, at)?;
+        Ok(((run, equals, value), at))
+    }
+
+    /// A pattern and what it is bound to.
+    #[tactic(auto, using(ml_syntax::proofs::Variants::binding_views))]
+    pub fn plain_binding(
+        &self,
+        tokens: &[Token<'_>],
+        at: usize,
+    ) -> Result<(Box<Binding>, usize), ReadError>
+        requires nests { Nests self.now.depth (F.pre self.now.sub) (F.post self.now.sub) }
+        requires few { length tokens.now ≤ 1048576 }
+        ensures { Gives (λ x. (view_binding x.0.value, from tokens.now x.1)) result (r.plain_binding (read_expr self.now.depth) self.now.depth (from tokens.now at)) }
+    {
+        let (pat, at) = self.pattern(tokens, at)?;
+        let ((run, equals, value), at) = self.bound(tokens, at)?;
+        Ok((plain(self.alloc, pat, run, equals, value)?, at))
+    }
+
+    /// After a name and the parameters behind it: what it is bound to, or, where there are none, the whole from `start`
+    /// with a pattern.
+    #[tactic(auto, using(crate::proofs::Lists::bound_names))]
+    fn named_binding(
+        &self,
+        tokens: &[Token<'_>],
+        start: usize,
+        name: ValueName,
+        given: Vec<Param>,
+        at: usize,
+    ) -> Result<(Box<Binding>, usize), ReadError>
+        requires nests { Nests self.now.depth (F.pre self.now.sub) (F.post self.now.sub) }
+        requires few { length tokens.now ≤ 1048576 }
+        ensures { Gives (λ x. (view_binding x.0.value, from tokens.now x.1)) result (r.named_binding (read_expr self.now.depth) self.now.depth (from tokens.now start) (view_name name) (params given.items) (from tokens.now at)) }
+    {
+        if given.len() == 0 {
+            return self.plain_binding(tokens, start);
+        }
+        let ((run, equals, value), at) = self.bound(tokens, at)?;
+        Ok((named(self.alloc, name, given, run, equals, value)?, at))
+    }
+
+    /// A binding.
+    #[tactic(auto, unfolding(expr_reading::specs::ExprReading::binding))]
+    pub fn binding(
+        &self,
+        tokens: &[Token<'_>],
+        at: usize,
+    ) -> Result<(Box<Binding>, usize), ReadError>
+        requires nests { Nests self.now.depth (F.pre self.now.sub) (F.post self.now.sub) }
+        requires few { length tokens.now ≤ 1048576 }
+        ensures { Gives (λ x. (view_binding x.0.value, from tokens.now x.1)) result (r.binding (read_expr self.now.depth) self.now.depth (from tokens.now at)) }
+    {
+        match value_name(self.alloc, tokens, at) {
+            Ok((name, after)) => {
+                let (given, after) = self.more_params(tokens, after)?;
+                self.named_binding(tokens, at, name, given, after)
+            }
+            Err(ReadError::Syntax) => self.plain_binding(tokens, at),
+            Err(ReadError::Memory) => Err(ReadError::Memory),
+        }
+    }
+
+    /// The next binding, behind its `and`.
+    pub fn next_binding(
+        &self,
+        tokens: &[Token<'_>],
+        at: usize,
+    ) -> Result<(Binding, usize), ReadError>
+        requires nests { Nests self.now.depth (F.pre self.now.sub) (F.post self.now.sub) }
+        requires few { length tokens.now ≤ 1048576 }
+        ensures { Gives (λ x. (view_binding x.0, from tokens.now x.1)) result (r.next_binding (read_expr self.now.depth) self.now.depth (from tokens.now at)) }
+    {
+        let at = expect(tokens, Fixed::And, at)?;
+        let (next, at) = self.binding(tokens, at)?;
+        Ok((Box::into_inner(next), at))
+    }
+
+    /// Further bindings, as long as each can be read whole.
+    pub fn more_bindings(
+        &self,
+        tokens: &[Token<'_>],
+        at: usize,
+    ) -> Result<(Vec<Binding>, usize), ReadError>
+        requires nests { Nests self.now.depth (F.pre self.now.sub) (F.post self.now.sub) }
+        requires few { length tokens.now ≤ 1048576 }
+        ensures { Gives (λ x. (bindings x.0.items, from tokens.now x.1)) result (Some (many pure.no_binding pure.more_binding always (r.next_binding (read_expr self.now.depth) self.now.depth) self.now.depth (from tokens.now at))) }
+    {
+        let mut found = Vec::new(self.alloc);
+        let mut at = at;
+        for _turn in 0..self.depth {
+            match self.next_binding(tokens, at) {
+                Ok((next, after)) => {
+                    found.push(next)?;
+                    at = after;
+                }
+                Err(ReadError::Syntax) => return Ok((found, at)),
+                Err(ReadError::Memory) => return Err(ReadError::Memory),
+            }
+        }
+        Ok((found, at))
+    }
+
+    /// Bindings between `and`.
+    #[tactic(auto, unfolding(expr_reading::specs::ExprReading::bindings))]
+    pub fn all_bindings(
+        &self,
+        tokens: &[Token<'_>],
+        at: usize,
+    ) -> Result<((Box<Binding>, Vec<Binding>), usize), ReadError>
+        requires nests { Nests self.now.depth (F.pre self.now.sub) (F.post self.now.sub) }
+        requires few { length tokens.now ≤ 1048576 }
+        ensures { Gives (λ x. ((view_binding x.0.0.value, bindings x.0.1.items), from tokens.now x.1)) result (r.bindings (read_expr self.now.depth) self.now.depth (from tokens.now at)) }
+    {
+        let (first, at) = self.binding(tokens, at)?;
+        let (rest, at) = self.more_bindings(tokens, at)?;
+        Ok(((first, rest), at))
+    }
+}
+
+/// A pattern and what it is bound to.
+#[tactic(auto, using(ml_syntax::proofs::Variants::binding_views))]
+fn plain(
+    alloc: Global,
+    pat: Pat,
+    run: Option<Run>,
+    equals: u32,
+    value: Box<Expr>,
+) -> Result<Box<Binding>, ReadError>
+    ensures { Gives (λ b. view_binding b.value) result (Some (pure.PlainBinding (view_pat pat) (view_type run) equals (view value.value))) }
+{
+    let value = Box::into_inner(value);
+    Ok(Box::new(
+        alloc,
+        Binding::Plain {
+            pat,
+            run,
+            equals,
+            value,
+        },
+    )?)
+}
+
+/// A name with parameters and what it is bound to.
+#[tactic(auto, using(ml_syntax::proofs::Variants::binding_views))]
+fn named(
+    alloc: Global,
+    name: ValueName,
+    given: Vec<Param>,
+    run: Option<Run>,
+    equals: u32,
+    value: Box<Expr>,
+) -> Result<Box<Binding>, ReadError>
+    ensures { Gives (λ b. view_binding b.value) result (Some (pure.AppliedBinding (view_name name) (params given.items) (view_type run) equals (view value.value))) }
+{
+    let value = Box::into_inner(value);
+    Ok(Box::new(
+        alloc,
+        Binding::Applied {
+            name,
+            params: given,
+            run,
+            equals,
+            value,
+        },
+    )?)
+}

@@ -1,0 +1,159 @@
+//! `if`.
+
+ghost use Rattle.std.specs.Prelude.{ℕ, ◌≡◌, ◌≤◌, ◌<◌, ◌+◌, ◌-◌, ◌∷◌, [], true, false, not, Bool, length, map, Some, None, if◌then◌else◌};
+ghost use Rattle.ml_syntax.specs.Tree as pure;
+ghost use Rattle.ml_syntax.specs.declared.fixed.Fixed.TheVariants as key;
+ghost use Rattle.ml_syntax.specs.View.{view, view_word, view_words, view_path, view_name, view_run, view_type, view_bang, view_variable, view_pat, view_tok, view_binding, view_case, view_argument, view_param, view_part, view_field, links, commas, ops, maybe, tail, bindings, cases, arguments, params, parts, fields, locals, view_local};
+ghost use Rattle.parse_base.specs.Steps.{many, many_if, always};
+ghost use Rattle.parse_base.specs.PatReading.{read_pat};
+ghost use Rattle.parse_base.specs.Gives.{from, name_at, text_at, Gives};
+ghost use Rattle.expr_reading.specs.declared.wanted.Wanted.TheVariants as wanted;
+ghost use Rattle.expr_reading.specs.ExprReading as r;
+ghost use Rattle.expr_reading.specs.ExprReading.{read_expr};
+ghost use Rattle.expr_forms.specs.Reads.{Nests};
+ghost use Rattle.expr_forms.specs.Forms.{otherwise_of};
+
+use crate::grammar::Grammar;
+use expr_parts::{Edge, on_edge};
+use expr_reading::Wanted;
+use ml_syntax::{Branch, Expr, Fixed};
+use parse_base::{ReadError, expect, is, number};
+use rotor_base::Token;
+use std::alloc::Global;
+
+/// What stands behind an `else`.
+#[derive(Drop)]
+pub enum Otherwise {
+    Last(Box<Expr>),
+    If(Branch),
+}
+
+impl<
+    F: Copy
+        + Fn(
+            Global,
+            &[Token<'_>],
+            usize,
+            usize,
+            Wanted,
+            usize,
+        ) -> Result<(Box<Expr>, usize), ReadError>,
+> Grammar<F> {
+    /// A condition, `then` and a branch.
+    #[tactic(auto, unfolding(expr_reading::specs::ExprReading::then_branch))]
+    pub fn then_branch(
+        &self,
+        tokens: &[Token<'_>],
+        at: usize,
+    ) -> Result<((Box<Expr>, Box<Expr>), usize), ReadError>
+        requires nests { Nests self.now.depth (F.pre self.now.sub) (F.post self.now.sub) }
+        requires few { length tokens.now ≤ 1048576 }
+        ensures { Gives (λ x. ((view x.0.0.value, view x.0.1.value), from tokens.now x.1)) result (r.then_branch (read_expr self.now.depth) self.now.depth (from tokens.now at)) }
+    {
+        let (test, at) = self.sub(tokens, Wanted::Sequence, at)?;
+        let at = expect(tokens, Fixed::Then, at)?;
+        let (then, at) = self.sub(tokens, Wanted::Expression, at)?;
+        Ok(((test, then), at))
+    }
+
+    /// An `else` and a branch, or an `else if`.
+    #[tactic(auto, unfolding(expr_reading::specs::ExprReading::else_branch))]
+    pub fn else_branch(
+        &self,
+        tokens: &[Token<'_>],
+        at: usize,
+    ) -> Result<(Otherwise, usize), ReadError>
+        requires nests { Nests self.now.depth (F.pre self.now.sub) (F.post self.now.sub) }
+        requires few { length tokens.now ≤ 1048576 }
+        ensures { Gives (λ x. (otherwise_of x.0, from tokens.now x.1)) result (r.else_branch (read_expr self.now.depth) self.now.depth (from tokens.now at)) }
+    {
+        let at = expect(tokens, Fixed::Else, at)?;
+        if is(tokens, Fixed::If, at) {
+            let ((test, then), after) = self.then_branch(tokens, at + 1)?;
+            let branch = Branch {
+                at: number(at),
+                test: Box::into_inner(test),
+                then: Box::into_inner(then),
+            };
+            return Ok((Otherwise::If(branch), after));
+        }
+        let (last, at) = self.sub(tokens, Wanted::Expression, at)?;
+        Ok((Otherwise::Last(last), at))
+    }
+
+    /// Each `else if`, and the last `else`.
+    pub fn if_tail(
+        &self,
+        tokens: &[Token<'_>],
+        at: usize,
+    ) -> Result<((Vec<Branch>, Option<Box<Expr>>), usize), ReadError>
+        requires nests { Nests self.now.depth (F.pre self.now.sub) (F.post self.now.sub) }
+        requires few { length tokens.now ≤ 1048576 }
+        ensures { Gives (λ x. (tail x.0.0.items x.0.1, from tokens.now x.1)) result (Some (many pure.no_else r.cons_branch r.branch_ends (r.else_branch (read_expr self.now.depth) self.now.depth) self.now.depth (from tokens.now at))) }
+    {
+        let mut found = Vec::new(self.alloc);
+        let mut at = at;
+        for _turn in 0..self.depth {
+            match self.else_branch(tokens, at) {
+                Ok((part, after)) => match part {
+                    Otherwise::Last(last) => {
+                        return Ok(((found, Some(last)), after));
+                    }
+                    Otherwise::If(next) => {
+                        let goes_on = !on_edge(Edge::OpenIf, &next.then);
+                        found.push(next)?;
+                        at = after;
+                        if !goes_on {
+                            return Ok(((found, None), at));
+                        }
+                    }
+                },
+                Err(ReadError::Syntax) => return Ok(((found, None), at)),
+                Err(ReadError::Memory) => return Err(ReadError::Memory),
+            }
+        }
+        Ok(((found, None), at))
+    }
+
+    /// The same behind a branch, where it can not take them.
+    pub fn rest_branches(
+        &self,
+        tokens: &[Token<'_>],
+        taken: &Expr,
+        at: usize,
+    ) -> Result<((Vec<Branch>, Option<Box<Expr>>), usize), ReadError>
+        requires nests { Nests self.now.depth (F.pre self.now.sub) (F.post self.now.sub) }
+        requires few { length tokens.now ≤ 1048576 }
+        ensures { Gives (λ x. (tail x.0.0.items x.0.1, from tokens.now x.1)) result (Some (r.if_tail (read_expr self.now.depth) self.now.depth (view taken.now) (from tokens.now at))) }
+    {
+        if on_edge(Edge::OpenIf, taken) {
+            return Ok(((Vec::new(self.alloc), None), at));
+        }
+        self.if_tail(tokens, at)
+    }
+
+    /// After the `if` at a place.
+    #[tactic(auto, unfolding(expr_reading::specs::ExprReading::if_expr), using(ml_syntax::proofs::Variants::expr_views))]
+    pub fn if_expr(&self, tokens: &[Token<'_>], at: usize) -> Result<(Box<Expr>, usize), ReadError>
+        requires nests { Nests self.now.depth (F.pre self.now.sub) (F.post self.now.sub) }
+        requires few { length tokens.now ≤ 1048576 }
+        requires within { at < length tokens.now }
+        ensures { Gives (λ x. (view x.0.value, from tokens.now x.1)) result (r.if_expr (read_expr self.now.depth) self.now.depth (at + 1) (from tokens.now (at + 1))) }
+    {
+        let ((test, then), after) = self.then_branch(tokens, at + 1)?;
+        let ((more, otherwise), after) = self.rest_branches(tokens, &then, after)?;
+        Ok((
+            Box::new(
+                self.alloc,
+                Expr::If {
+                    at: number(at),
+                    test,
+                    then,
+                    more,
+                    otherwise,
+                },
+            )?,
+            after,
+        ))
+    }
+}

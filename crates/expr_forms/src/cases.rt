@@ -1,0 +1,222 @@
+//! `function`, `match` and `try`.
+
+ghost use Rattle.std.specs.Prelude.{ℕ, ◌≡◌, ◌≤◌, ◌<◌, ◌+◌, ◌-◌, ◌∷◌, [], true, false, not, Bool, length, map, Some, None, if◌then◌else◌};
+ghost use Rattle.ml_syntax.specs.Tree as pure;
+ghost use Rattle.ml_syntax.specs.declared.fixed.Fixed.TheVariants as key;
+ghost use Rattle.ml_syntax.specs.View.{view, view_word, view_words, view_path, view_name, view_run, view_type, view_bang, view_variable, view_pat, view_tok, view_binding, view_case, view_argument, view_param, view_part, view_field, links, commas, ops, maybe, tail, bindings, cases, arguments, params, parts, fields, locals, view_local};
+ghost use Rattle.parse_base.specs.Steps.{many, many_if, always};
+ghost use Rattle.parse_base.specs.PatReading.{read_pat};
+ghost use Rattle.parse_base.specs.Gives.{from, name_at, text_at, Gives};
+ghost use Rattle.expr_reading.specs.declared.wanted.Wanted.TheVariants as wanted;
+ghost use Rattle.expr_reading.specs.ExprReading as r;
+ghost use Rattle.expr_reading.specs.ExprReading.{read_expr};
+ghost use Rattle.expr_forms.specs.Reads.{Nests};
+
+use crate::grammar::Grammar;
+use expr_parts::{Edge, first_bar, on_edge};
+use expr_reading::Wanted;
+use ml_syntax::{Case, Expr, Fixed};
+use parse_base::{Kind, ReadError, expect, kind_at, number};
+use rotor_base::Token;
+use std::alloc::Global;
+
+impl<
+    F: Copy
+        + Fn(
+            Global,
+            &[Token<'_>],
+            usize,
+            usize,
+            Wanted,
+            usize,
+        ) -> Result<(Box<Expr>, usize), ReadError>,
+> Grammar<F> {
+    /// A `when` and a guard, or none.
+    pub fn guard(
+        &self,
+        tokens: &[Token<'_>],
+        at: usize,
+    ) -> Result<(Option<Box<Expr>>, usize), ReadError>
+        requires nests { Nests self.now.depth (F.pre self.now.sub) (F.post self.now.sub) }
+        requires few { length tokens.now ≤ 1048576 }
+        ensures { Gives (λ x. (maybe x.0, from tokens.now x.1)) result (r.case_guard (read_expr self.now.depth) self.now.depth (from tokens.now at)) }
+    {
+        match kind_at(tokens, at) {
+            Kind::Fixed(Fixed::When) => {
+                let (guard, at) = self.sub(tokens, Wanted::Sequence, at + 1)?;
+                Ok((Some(guard), at))
+            }
+            _ => Ok((None, at)),
+        }
+    }
+
+    /// A case.
+    #[tactic(auto, unfolding(expr_reading::specs::ExprReading::one_case))]
+    pub fn case(&self, tokens: &[Token<'_>], at: usize) -> Result<(Case, usize), ReadError>
+        requires nests { Nests self.now.depth (F.pre self.now.sub) (F.post self.now.sub) }
+        requires few { length tokens.now ≤ 1048576 }
+        ensures { Gives (λ x. (view_case x.0, from tokens.now x.1)) result (r.one_case (read_expr self.now.depth) self.now.depth (from tokens.now at)) }
+    {
+        let (pat, at) = self.pattern(tokens, at)?;
+        let (guard, at) = self.guard(tokens, at)?;
+        let at = expect(tokens, Fixed::Arrow, at)?;
+        let (body, at) = self.value(tokens, Wanted::Sequence, at)?;
+        Ok((Case { pat, guard, body }, at))
+    }
+
+    /// The next case, behind its `|`.
+    pub fn next_case(&self, tokens: &[Token<'_>], at: usize) -> Result<(Case, usize), ReadError>
+        requires nests { Nests self.now.depth (F.pre self.now.sub) (F.post self.now.sub) }
+        requires few { length tokens.now ≤ 1048576 }
+        ensures { Gives (λ x. (view_case x.0, from tokens.now x.1)) result (r.next_case (read_expr self.now.depth) self.now.depth (from tokens.now at)) }
+    {
+        let at = expect(tokens, Fixed::Bar, at)?;
+        self.case(tokens, at)
+    }
+
+    /// Further cases, as long as each can be read whole and none of the last one could take them.
+    pub fn more_cases(
+        &self,
+        tokens: &[Token<'_>],
+        at: usize,
+    ) -> Result<(Vec<Case>, usize), ReadError>
+        requires nests { Nests self.now.depth (F.pre self.now.sub) (F.post self.now.sub) }
+        requires few { length tokens.now ≤ 1048576 }
+        ensures { Gives (λ x. (cases x.0.items, from tokens.now x.1)) result (Some (many pure.no_case pure.more_case r.no_cases (r.next_case (read_expr self.now.depth) self.now.depth) self.now.depth (from tokens.now at))) }
+    {
+        let mut found = Vec::new(self.alloc);
+        let mut at = at;
+        for _turn in 0..self.depth {
+            match self.next_case(tokens, at) {
+                Ok((next, after)) => {
+                    let goes_on = !on_edge(Edge::Cases, &next.body);
+                    found.push(next)?;
+                    at = after;
+                    if !goes_on {
+                        return Ok((found, at));
+                    }
+                }
+                Err(ReadError::Syntax) => return Ok((found, at)),
+                Err(ReadError::Memory) => return Err(ReadError::Memory),
+            }
+        }
+        Ok((found, at))
+    }
+
+    /// The cases behind the first, where it can not take them.
+    pub fn rest_cases(
+        &self,
+        tokens: &[Token<'_>],
+        first: &Case,
+        at: usize,
+    ) -> Result<(Vec<Case>, usize), ReadError>
+        requires nests { Nests self.now.depth (F.pre self.now.sub) (F.post self.now.sub) }
+        requires few { length tokens.now ≤ 1048576 }
+        ensures { Gives (λ x. (cases x.0.items, from tokens.now x.1)) result (Some (r.more_cases (read_expr self.now.depth) self.now.depth (view_case first.now) (from tokens.now at))) }
+    {
+        if on_edge(Edge::Cases, &first.body) {
+            return Ok((Vec::new(self.alloc), at));
+        }
+        self.more_cases(tokens, at)
+    }
+
+    /// Cases between `|`, and whether one stands before the first.
+    #[tactic(auto, unfolding(expr_reading::specs::ExprReading::all_cases))]
+    pub fn all_cases(
+        &self,
+        tokens: &[Token<'_>],
+        at: usize,
+    ) -> Result<((bool, Case, Vec<Case>), usize), ReadError>
+        requires nests { Nests self.now.depth (F.pre self.now.sub) (F.post self.now.sub) }
+        requires few { length tokens.now ≤ 1048576 }
+        ensures { (grown : Bool → pure.Case → pure.Cases → pure.Expr) → Gives (λ x. (grown x.0.0 (view_case x.0.1) (cases x.0.2.items), from tokens.now x.1)) result (r.all_cases (read_expr self.now.depth) self.now.depth grown (from tokens.now at)) }
+    {
+        let (bar, at) = first_bar(tokens, at);
+        let (first, at) = self.case(tokens, at)?;
+        let (rest, at) = self.rest_cases(tokens, &first, at)?;
+        Ok(((bar, first, rest), at))
+    }
+
+    /// After the `function` at a place.
+    #[tactic(auto, using(ml_syntax::proofs::Variants::expr_views))]
+    pub fn function_expr(
+        &self,
+        tokens: &[Token<'_>],
+        at: usize,
+    ) -> Result<(Box<Expr>, usize), ReadError>
+        requires nests { Nests self.now.depth (F.pre self.now.sub) (F.post self.now.sub) }
+        requires few { length tokens.now ≤ 1048576 }
+        requires within { at < length tokens.now }
+        ensures { Gives (λ x. (view x.0.value, from tokens.now x.1)) result (r.all_cases (read_expr self.now.depth) self.now.depth (pure.Function (at + 1)) (from tokens.now (at + 1))) }
+    {
+        let ((bar, first, rest), after) = self.all_cases(tokens, at + 1)?;
+        Ok((
+            Box::new(
+                self.alloc,
+                Expr::Function {
+                    at: number(at),
+                    bar,
+                    first: Box::new(self.alloc, first)?,
+                    rest,
+                },
+            )?,
+            after,
+        ))
+    }
+
+    /// After the `match` at a place.
+    #[tactic(auto, unfolding(expr_reading::specs::ExprReading::match_expr), using(ml_syntax::proofs::Variants::expr_views))]
+    pub fn match_expr(
+        &self,
+        tokens: &[Token<'_>],
+        at: usize,
+    ) -> Result<(Box<Expr>, usize), ReadError>
+        requires nests { Nests self.now.depth (F.pre self.now.sub) (F.post self.now.sub) }
+        requires few { length tokens.now ≤ 1048576 }
+        requires within { at < length tokens.now }
+        ensures { Gives (λ x. (view x.0.value, from tokens.now x.1)) result (r.match_expr (read_expr self.now.depth) self.now.depth (pure.Match (at + 1)) (from tokens.now (at + 1))) }
+    {
+        let (subject, after) = self.sub(tokens, Wanted::Sequence, at + 1)?;
+        let after = expect(tokens, Fixed::With, after)?;
+        let ((bar, first, rest), after) = self.all_cases(tokens, after)?;
+        Ok((
+            Box::new(
+                self.alloc,
+                Expr::Match {
+                    at: number(at),
+                    subject,
+                    bar,
+                    first: Box::new(self.alloc, first)?,
+                    rest,
+                },
+            )?,
+            after,
+        ))
+    }
+
+    /// After the `try` at a place.
+    #[tactic(auto, unfolding(expr_reading::specs::ExprReading::match_expr), using(ml_syntax::proofs::Variants::expr_views))]
+    pub fn try_expr(&self, tokens: &[Token<'_>], at: usize) -> Result<(Box<Expr>, usize), ReadError>
+        requires nests { Nests self.now.depth (F.pre self.now.sub) (F.post self.now.sub) }
+        requires few { length tokens.now ≤ 1048576 }
+        requires within { at < length tokens.now }
+        ensures { Gives (λ x. (view x.0.value, from tokens.now x.1)) result (r.match_expr (read_expr self.now.depth) self.now.depth (pure.Try (at + 1)) (from tokens.now (at + 1))) }
+    {
+        let (subject, after) = self.sub(tokens, Wanted::Sequence, at + 1)?;
+        let after = expect(tokens, Fixed::With, after)?;
+        let ((bar, first, rest), after) = self.all_cases(tokens, after)?;
+        Ok((
+            Box::new(
+                self.alloc,
+                Expr::Try {
+                    at: number(at),
+                    subject,
+                    bar,
+                    first: Box::new(self.alloc, first)?,
+                    rest,
+                },
+            )?,
+            after,
+        ))
+    }
+}

@@ -1,0 +1,228 @@
+//! `let` and `fun`.
+
+ghost use Rattle.std.specs.Prelude.{ℕ, ◌≡◌, ◌≤◌, ◌<◌, ◌+◌, ◌-◌, ◌∷◌, [], true, false, not, Bool, length, map, Some, None, if◌then◌else◌};
+ghost use Rattle.ml_syntax.specs.Tree as pure;
+ghost use Rattle.ml_syntax.specs.declared.fixed.Fixed.TheVariants as key;
+ghost use Rattle.ml_syntax.specs.View.{view, view_word, view_words, view_path, view_name, view_run, view_type, view_bang, view_variable, view_pat, view_tok, view_binding, view_case, view_argument, view_param, view_part, view_field, links, commas, ops, maybe, tail, bindings, cases, arguments, params, parts, fields, locals, view_local};
+ghost use Rattle.parse_base.specs.Steps.{many, many_if, always};
+ghost use Rattle.parse_base.specs.PatReading.{read_pat};
+ghost use Rattle.parse_base.specs.Gives.{from, name_at, text_at, Gives};
+ghost use Rattle.expr_reading.specs.declared.wanted.Wanted.TheVariants as wanted;
+ghost use Rattle.expr_reading.specs.ExprReading as r;
+ghost use Rattle.expr_reading.specs.ExprReading.{read_expr};
+ghost use Rattle.expr_forms.specs.Reads.{Nests};
+ghost use Rattle.expr_forms.specs.Forms.{module_in, module_named, upper_word};
+
+use crate::grammar::Grammar;
+use expr_parts::{bang, local_module, path};
+use expr_reading::Wanted;
+use ml_syntax::{Expr, Fixed, Param, Word};
+use parse_base::{Kind, ReadError, expect, kind_at, number, word};
+use rotor_base::{Class, Token};
+use std::alloc::Global;
+
+impl<
+    F: Copy
+        + Fn(
+            Global,
+            &[Token<'_>],
+            usize,
+            usize,
+            Wanted,
+            usize,
+        ) -> Result<(Box<Expr>, usize), ReadError>,
+> Grammar<F> {
+    /// The bindings and the body of the `let` at `start`.
+    #[tactic(auto, unfolding(expr_reading::specs::ExprReading::let_values), using(ml_syntax::proofs::Variants::expr_views))]
+    pub fn let_values(
+        &self,
+        tokens: &[Token<'_>],
+        start: usize,
+        recursive: bool,
+        at: usize,
+    ) -> Result<(Box<Expr>, usize), ReadError>
+        requires nests { Nests self.now.depth (F.pre self.now.sub) (F.post self.now.sub) }
+        requires few { length tokens.now ≤ 1048576 }
+        requires begun { start < length tokens.now }
+        ensures { Gives (λ x. (view x.0.value, from tokens.now x.1)) result (r.let_values (read_expr self.now.depth) self.now.depth (start + 1) recursive (from tokens.now at)) }
+    {
+        let ((first, rest), at) = self.all_bindings(tokens, at)?;
+        let at = expect(tokens, Fixed::In, at)?;
+        let (body, at) = self.sub(tokens, Wanted::Sequence, at)?;
+        let start = number(start);
+        let whole = Expr::Let {
+            at: start,
+            recursive,
+            first,
+            rest,
+            body,
+        };
+        Ok((Box::new(self.alloc, whole)?, at))
+    }
+
+    /// After the `let open` at `start`.
+    #[tactic(auto, unfolding(expr_reading::specs::ExprReading::let_open), using(ml_syntax::proofs::Variants::expr_views))]
+    pub fn let_open(
+        &self,
+        tokens: &[Token<'_>],
+        start: usize,
+        at: usize,
+    ) -> Result<(Box<Expr>, usize), ReadError>
+        requires nests { Nests self.now.depth (F.pre self.now.sub) (F.post self.now.sub) }
+        requires few { length tokens.now ≤ 1048576 }
+        requires begun { start + 1 < length tokens.now }
+        ensures { Gives (λ x. (view x.0.value, from tokens.now x.1)) result (r.let_open (read_expr self.now.depth) self.now.depth (start + 1) (start + 2) (from tokens.now at)) }
+    {
+        let (bang, at) = bang(self.alloc, tokens, at)?;
+        let (path, at) = path(self.alloc, tokens, self.depth, at)?;
+        let at = expect(tokens, Fixed::In, at)?;
+        let (body, at) = self.sub(tokens, Wanted::Sequence, at)?;
+        Ok((
+            Box::new(
+                self.alloc,
+                Expr::LetOpen {
+                    at: number(start),
+                    open: number(start + 1),
+                    bang,
+                    path,
+                    body,
+                },
+            )?,
+            at,
+        ))
+    }
+
+    /// After the `=` behind the name of a module that is bound at `start`.
+    #[tactic(auto, using(ml_syntax::proofs::Variants::expr_views))]
+    fn module_in(
+        &self,
+        tokens: &[Token<'_>],
+        start: usize,
+        name: Word,
+        equals: u32,
+        at: usize,
+    ) -> Result<(Box<Expr>, usize), ReadError>
+        requires nests { Nests self.now.depth (F.pre self.now.sub) (F.post self.now.sub) }
+        requires few { length tokens.now ≤ 1048576 }
+        requires begun { start + 1 < length tokens.now }
+        ensures { Gives (λ x. (view x.0.value, from tokens.now x.1)) result (module_in self.now.depth (start + 1) (start + 2) (view_word name) equals (from tokens.now at)) }
+    {
+        let (value, at) = local_module(self.alloc, tokens, self.depth, self.levels, at)?;
+        let at = expect(tokens, Fixed::In, at)?;
+        let (body, at) = self.sub(tokens, Wanted::Sequence, at)?;
+        let module = number(start + 1);
+        let start = number(start);
+        let whole = Expr::LetModule {
+            at: start,
+            module,
+            name,
+            equals,
+            value,
+            body,
+        };
+        Ok((Box::new(self.alloc, whole)?, at))
+    }
+
+    /// After the name of a module that is bound at `start`.
+    fn module_named(
+        &self,
+        tokens: &[Token<'_>],
+        start: usize,
+        name: Word,
+        at: usize,
+    ) -> Result<(Box<Expr>, usize), ReadError>
+        requires nests { Nests self.now.depth (F.pre self.now.sub) (F.post self.now.sub) }
+        requires few { length tokens.now ≤ 1048576 }
+        requires begun { start + 1 < length tokens.now }
+        ensures { Gives (λ x. (view x.0.value, from tokens.now x.1)) result (module_named self.now.depth (start + 1) (start + 2) (view_word name) (from tokens.now at)) }
+    {
+        match kind_at(tokens, at) {
+            Kind::Fixed(Fixed::Equals) => self.module_in(tokens, start, name, number(at), at + 1),
+            _ => Err(ReadError::Syntax),
+        }
+    }
+
+    /// After the `let module` at `start`.
+    #[tactic(auto, using(crate::proofs::Lists::module_by))]
+    fn let_module(
+        &self,
+        tokens: &[Token<'_>],
+        start: usize,
+        at: usize,
+    ) -> Result<(Box<Expr>, usize), ReadError>
+        requires nests { Nests self.now.depth (F.pre self.now.sub) (F.post self.now.sub) }
+        requires few { length tokens.now ≤ 1048576 }
+        requires begun { start + 1 < length tokens.now }
+        ensures { Gives (λ x. (view x.0.value, from tokens.now x.1)) result (r.let_module (read_expr self.now.depth) self.now.depth (start + 1) (start + 2) (from tokens.now at)) }
+    {
+        let (name, at) = upper_word(self.alloc, tokens, at)?;
+        self.module_named(tokens, start, name, at)
+    }
+
+    /// After the `let` at a place.
+    #[tactic(auto, unfolding(expr_reading::specs::ExprReading::let_expr))]
+    pub fn let_expr(&self, tokens: &[Token<'_>], at: usize) -> Result<(Box<Expr>, usize), ReadError>
+        requires nests { Nests self.now.depth (F.pre self.now.sub) (F.post self.now.sub) }
+        requires few { length tokens.now ≤ 1048576 }
+        requires within { at < length tokens.now }
+        ensures { Gives (λ x. (view x.0.value, from tokens.now x.1)) result (r.let_expr (read_expr self.now.depth) self.now.depth (at + 1) (from tokens.now (at + 1))) }
+    {
+        match kind_at(tokens, at + 1) {
+            Kind::Fixed(Fixed::Open) => self.let_open(tokens, at, at + 2),
+            Kind::Fixed(Fixed::Module) => self.let_module(tokens, at, at + 2),
+            Kind::Fixed(Fixed::Rec) => self.let_values(tokens, at, true, at + 2),
+            _ => self.let_values(tokens, at, false, at + 1),
+        }
+    }
+
+    /// After the parameters of the `fun` at `start`.
+    #[tactic(auto, using(crate::proofs::Lists::functions, ml_syntax::proofs::Variants::expr_views))]
+    fn fun_end(
+        &self,
+        tokens: &[Token<'_>],
+        start: usize,
+        given: Vec<Param>,
+        at: usize,
+    ) -> Result<(Box<Expr>, usize), ReadError>
+        requires nests { Nests self.now.depth (F.pre self.now.sub) (F.post self.now.sub) }
+        requires few { length tokens.now ≤ 1048576 }
+        requires begun { start < length tokens.now }
+        ensures { Gives (λ x. (view x.0.value, from tokens.now x.1)) result (r.fun_end (read_expr self.now.depth) self.now.depth (start + 1) (params given.items) (from tokens.now at)) }
+    {
+        if given.len() == 0 {
+            return Err(ReadError::Syntax);
+        }
+        let at = expect(tokens, Fixed::Arrow, at)?;
+        let (body, at) = self.sub(tokens, Wanted::Sequence, at)?;
+        let start = number(start);
+        let whole = Expr::Fun {
+            at: start,
+            params: given,
+            body,
+        };
+        Ok((Box::new(self.alloc, whole)?, at))
+    }
+
+    /// After the `fun` at a place.
+    #[tactic(auto, unfolding(expr_reading::specs::ExprReading::fun_expr))]
+    pub fn fun_expr(&self, tokens: &[Token<'_>], at: usize) -> Result<(Box<Expr>, usize), ReadError>
+        requires nests { Nests self.now.depth (F.pre self.now.sub) (F.post self.now.sub) }
+        requires few { length tokens.now ≤ 1048576 }
+        requires within { at < length tokens.now }
+        ensures { Gives (λ x. (view x.0.value, from tokens.now x.1)) result (r.fun_expr (read_expr self.now.depth) self.now.depth (at + 1) (from tokens.now (at + 1))) }
+    {
+        let (given, after) = self.more_params(tokens, at + 1)?;
+        self.fun_end(tokens, at, given, after)
+    }
+}
+
+/// A name of class Upper.
+fn upper_word(alloc: Global, tokens: &[Token<'_>], at: usize) -> Result<(Word, usize), ReadError>
+    requires { length tokens.now ≤ 1048576 }
+    ensures { Gives (λ x. (view_word x.0, from tokens.now x.1)) result (upper_word (from tokens.now at)) }
+{
+    match kind_at(tokens, at) {
+        Kind::Word(Class::Upper) => Ok((word(alloc, tokens, Class::Upper, at)?, at + 1)),
+        _ => Err(ReadError::Syntax),
+    }
+}

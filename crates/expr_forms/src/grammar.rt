@@ -1,0 +1,89 @@
+//! What the readers of expressions are lent.
+
+ghost use Rattle.std.specs.Prelude.{IfOk, IfErr, ℕ, ◌≡◌, ◌≤◌, ◌<◌, ◌+◌, ◌-◌, ◌∷◌, [], true, false, not, Bool, length, map, Some, None, if◌then◌else◌};
+ghost use Rattle.ml_syntax.specs.Tree as pure;
+ghost use Rattle.ml_syntax.specs.declared.fixed.Fixed.TheVariants as key;
+ghost use Rattle.ml_syntax.specs.View.{view, view_word, view_words, view_path, view_name, view_run, view_type, view_bang, view_variable, view_pat, view_tok, view_binding, view_case, view_argument, view_param, view_part, view_field, links, commas, ops, maybe, tail, bindings, cases, arguments, params, parts, fields, locals, view_local};
+ghost use Rattle.parse_base.specs.Steps.{many, many_if, always};
+ghost use Rattle.parse_base.specs.PatReading.{read_pat};
+ghost use Rattle.parse_base.specs.Gives.{from, name_at, text_at, Gives};
+ghost use Rattle.expr_reading.specs.declared.wanted.Wanted.TheVariants as wanted;
+ghost use Rattle.expr_reading.specs.ExprReading as r;
+ghost use Rattle.expr_reading.specs.ExprReading.{read_expr};
+ghost use Rattle.expr_forms.specs.Reads.{Nests};
+ghost use Rattle.parse_base.specs.declared.error.ReadError.TheVariants as unread;
+
+use expr_reading::Wanted;
+use ml_syntax::Expr;
+use parse_base::ReadError;
+use rotor_base::Token;
+use std::alloc::Global;
+
+/// What the readers of expressions are lent. Each takes the reader of what nests deeper from here, so that each is
+/// proved by itself.
+#[derive(Clone, Copy)]
+pub struct Grammar<F> {
+    pub alloc: Global,
+    /// More than the tokens that are left to the expressions within: how often a reader may go down, or a loop turn.
+    pub depth: usize,
+    /// How many levels expressions may still nest.
+    pub levels: usize,
+    pub sub: F,
+}
+
+impl<
+    F: Copy
+        + Fn(
+            Global,
+            &[Token<'_>],
+            usize,
+            usize,
+            Wanted,
+            usize,
+        ) -> Result<(Box<Expr>, usize), ReadError>,
+> Grammar<F> {
+    pub fn sub(
+        &self,
+        tokens: &[Token<'_>],
+        wanted: Wanted,
+        at: usize,
+    ) -> Result<(Box<Expr>, usize), ReadError>
+        requires nests { Nests self.now.depth (F.pre self.now.sub) (F.post self.now.sub) }
+        requires few { length tokens.now ≤ 1048576 }
+        ensures { Gives (λ x. (view x.0.value, from tokens.now x.1)) result (read_expr self.now.depth wanted (from tokens.now at)) }
+    {
+        (self.sub)(self.alloc, tokens, self.depth, self.levels, wanted, at)
+    }
+
+    /// The same, by value.
+    pub fn value(
+        &self,
+        tokens: &[Token<'_>],
+        wanted: Wanted,
+        at: usize,
+    ) -> Result<(Expr, usize), ReadError>
+        requires nests { Nests self.now.depth (F.pre self.now.sub) (F.post self.now.sub) }
+        requires few { length tokens.now ≤ 1048576 }
+        ensures { Gives (λ x. (view x.0, from tokens.now x.1)) result (read_expr self.now.depth wanted (from tokens.now at)) }
+    {
+        let (value, at) = self.sub(tokens, wanted, at)?;
+        Ok((Box::into_inner(value), at))
+    }
+
+    /// The same readers, one level deeper: an operand is deeper than its operator.
+    pub fn deeper(&self) -> Result<Grammar<F>, ReadError>
+        ensures depth { IfOk result (λ g. g.depth ≡ self.now.depth) }
+        ensures sub { IfOk result (λ g. g.sub ≡ self.now.sub) }
+        ensures memory { IfErr result (λ e. e ≡ unread.Memory) }
+    {
+        if self.levels == 0 {
+            return Err(ReadError::Memory);
+        }
+        Ok(Grammar {
+            alloc: self.alloc,
+            depth: self.depth,
+            levels: self.levels - 1,
+            sub: self.sub,
+        })
+    }
+}

@@ -1,0 +1,28 @@
+use Rattle.std.proofs.Common.{◌≡◌, ℕ, ◌-◌, ◌+◌, ◌*◌, ◌∷◌, [], List, Bool, true, false, not, Some, None, map, refl, sym, ap, ◌∙◌}
+use Rattle.ml_syntax.specs.Tree as pure
+use Rattle.ml_syntax.specs.declared.fixed.Fixed.TheVariants as key
+use Rattle.ml_syntax.specs.Tok.{Name}
+use Rattle.ml_syntax.specs.View.{view, view_word, view_words, view_tok, view_binding, view_case, view_argument, view_param, view_part, view_field, tail, tail_before, links, ops, commas}
+use Rattle.parse_base.specs.Steps.{many, always}
+use Rattle.parse_base.specs.Pieces.{lower_word}
+use Rattle.parse_base.specs.Gives.{from}
+use Rattle.expr_reading.specs.declared.wanted.Wanted.TheVariants as wanted
+use Rattle.expr_reading.specs.ExprReading as r
+use Rattle.expr_reading.specs.ExprReading.{read_expr, read_local}
+use Rattle.expr_parts.specs.Rows.{local_of, link_of, branch_of}
+use Rattle.parse_base.proofs.Turns.{Left}
+use Rattle.expr_parts.proofs.local.+local.Given as goal
+
+abbrev pub invariant-local_arguments-loop-turn : goal.invariant-local_arguments-loop-turn
+invariant-local_arguments-loop-turn l =
+    let part = r.local_part (read_local l.depth) in
+    Left pure.no_local r.cons_local always part (map local_of l.found.items) (l.depth - l._turn) (from l.tokens l.at) (many pure.no_local r.cons_local always part l.depth (from l.tokens l.fn.at))
+
+abbrev pub decreases-local_module : goal.decreases-local_module
+decreases-local_module l = 3 * l.depth
+
+abbrev pub decreases-local_argument : goal.decreases-local_argument
+decreases-local_argument l = 3 * l.depth + 1
+
+abbrev pub decreases-local_arguments : goal.decreases-local_arguments
+decreases-local_arguments l = 3 * l.depth + 2

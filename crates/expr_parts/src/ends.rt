@@ -1,0 +1,90 @@
+//! Small tests of expressions.
+
+ghost use Rattle.std.specs.Prelude.{ℕ, ◌≡◌, ◌≤◌, ◌<◌, ◌+◌, ◌-◌, ◌∷◌, [], true, false, not, Bool, length, map, Some, None, if◌then◌else◌};
+ghost use Rattle.ml_syntax.specs.Tree as pure;
+ghost use Rattle.ml_syntax.specs.declared.fixed.Fixed.TheVariants as key;
+ghost use Rattle.ml_syntax.specs.View.{view, view_word, view_words, view_path, view_name, view_run, view_type, view_bang, view_variable, view_pat, view_tok, view_binding, view_case, view_argument, view_param, view_part, view_field, links, commas, ops, maybe, tail, bindings, cases, arguments, params, parts, fields, locals, view_local};
+ghost use Rattle.parse_base.specs.Steps.{many, many_if, always};
+ghost use Rattle.parse_base.specs.PatReading.{read_pat};
+ghost use Rattle.parse_base.specs.Gives.{from, name_at, text_at, Gives};
+ghost use Rattle.expr_reading.specs.declared.wanted.Wanted.TheVariants as wanted;
+ghost use Rattle.expr_reading.specs.ExprReading as r;
+ghost use Rattle.expr_reading.specs.ExprReading.{read_expr};
+ghost use Rattle.ml_syntax.specs.WellFormed.{is_constr, is_bare, is_postfix};
+
+use crate::edge::{Edge, is_calm, on_edge};
+use ml_syntax::{Expr, Field, Fixed};
+use parse_base::{Kind, kind_at};
+use rotor_base::Token;
+
+/// Whether it is a constructor, alone or behind Prefix words.
+#[tactic(auto, unfolding(ml_syntax::specs::View::view))]
+pub fn is_constr(expr: &Expr) -> bool
+    ensures { result ≡ is_constr (view expr.now) }
+{
+    match expr {
+        Expr::Constr(_) => true,
+        Expr::Prefixed { operand, .. } => is_constr(operand),
+        _ => false,
+    }
+}
+
+/// Whether it is a constructor or a tag without an argument.
+#[tactic(auto, unfolding(ml_syntax::specs::View::view))]
+pub fn is_bare(expr: &Expr) -> bool
+    ensures { result ≡ is_bare (view expr.now) }
+{
+    matches!(expr, Expr::Constr(_) | Expr::Tag(_))
+}
+
+/// Whether it has parts behind it.
+#[tactic(auto, unfolding(ml_syntax::specs::View::view))]
+pub fn is_postfix(expr: &Expr) -> bool
+    ensures { result ≡ is_postfix (view expr.now) }
+{
+    match expr {
+        Expr::Postfix { .. } => true,
+        _ => false,
+    }
+}
+
+/// Whether the operator at a place may follow.
+pub fn goes_on(expr: &Expr, tokens: &[Token<'_>], at: usize) -> bool
+    ensures { result ≡ r.goes_on (view expr.now) (from tokens.now at) }
+{
+    match kind_at(tokens, at) {
+        Kind::Fixed(Fixed::LeftArrow) => is_calm(expr) && is_postfix(expr),
+        _ => is_calm(expr),
+    }
+}
+
+/// Whether a `;` may follow a field.
+#[tactic(auto, using(ml_syntax::proofs::Variants::field_views))]
+pub fn ends_field(field: &Field) -> bool
+    ensures { result ≡ r.ends_field (view_field field.now) }
+{
+    match field {
+        Field::FieldPun { .. } => true,
+        Field::Assigned { value, .. } => !on_edge(Edge::Form, value),
+    }
+}
+
+/// The same of the last of some fields.
+pub fn fields_end(first: &Field, rest: &[Field]) -> bool
+    ensures { result ≡ r.ends_field (r.last_field (view_field first.now) (fields rest.now)) }
+{
+    match rest.last() {
+        Some(field) => ends_field(field),
+        None => ends_field(first),
+    }
+}
+
+/// Whether a `;` may follow a row of expressions.
+pub fn row_ends(first: &Expr, rest: &[Expr]) -> bool
+    ensures { result ≡ r.no_form (r.last_of (view first.now) (links rest.now)) }
+{
+    match rest.last() {
+        Some(expr) => !on_edge(Edge::Form, expr),
+        None => !on_edge(Edge::Form, first),
+    }
+}

@@ -1,0 +1,116 @@
+//! A row and what stands before it, as one expression.
+
+ghost use Rattle.std.specs.Prelude.{ℕ, ◌≡◌, ◌≤◌, ◌<◌, ◌+◌, ◌-◌, ◌∷◌, [], true, false, not, Bool, length, map, Some, None, if◌then◌else◌};
+ghost use Rattle.ml_syntax.specs.Tree as pure;
+ghost use Rattle.ml_syntax.specs.declared.fixed.Fixed.TheVariants as key;
+ghost use Rattle.ml_syntax.specs.View.{view, view_word, view_words, view_path, view_name, view_run, view_type, view_bang, view_variable, view_pat, view_tok, view_binding, view_case, view_argument, view_param, view_part, view_field, links, commas, ops, maybe, tail, bindings, cases, arguments, params, parts, fields, locals, view_local};
+ghost use Rattle.parse_base.specs.Steps.{many, many_if, always};
+ghost use Rattle.parse_base.specs.PatReading.{read_pat};
+ghost use Rattle.parse_base.specs.Gives.{from, name_at, text_at, Gives};
+ghost use Rattle.expr_reading.specs.declared.wanted.Wanted.TheVariants as wanted;
+ghost use Rattle.expr_reading.specs.ExprReading as r;
+ghost use Rattle.expr_reading.specs.ExprReading.{read_expr};
+
+use ml_syntax::{Argument, Expr, Part, Word};
+use parse_base::ReadError;
+use std::alloc::Global;
+
+/// Expressions between `;`, and whether a last `;` stands behind them.
+#[tactic(auto, using(crate::proofs::Rows::grown, ml_syntax::proofs::Variants::expr_views))]
+pub fn grown_seq(
+    alloc: Global,
+    first: Box<Expr>,
+    rest: Vec<Expr>,
+    last: bool,
+) -> Result<Box<Expr>, ReadError>
+    ensures { Gives (λ e. view e.value) result (Some (r.grown_seq (view first.value) (links rest.items) last)) }
+{
+    if !last && rest.len() == 0 {
+        return Ok(first);
+    }
+    Ok(Box::new(alloc, Expr::Seq { first, rest, last })?)
+}
+
+/// Operands between `:=` or `<-`.
+#[tactic(auto, using(crate::proofs::Rows::grown, ml_syntax::proofs::Variants::expr_views))]
+pub fn grown_assign(
+    alloc: Global,
+    first: Box<Expr>,
+    rest: Vec<(Word, Expr)>,
+) -> Result<Box<Expr>, ReadError>
+    ensures { Gives (λ e. view e.value) result (Some (r.grown_chain 3 (view first.value) (ops rest.items))) }
+{
+    if rest.len() == 0 {
+        return Ok(first);
+    }
+    Ok(Box::new(alloc, Expr::Assign { first, rest })?)
+}
+
+/// Operands between `,`.
+#[tactic(auto, using(crate::proofs::Rows::grown, ml_syntax::proofs::Variants::expr_views))]
+pub fn grown_tuple(alloc: Global, first: Box<Expr>, rest: Vec<Expr>) -> Result<Box<Expr>, ReadError>
+    ensures { Gives (λ e. view e.value) result (Some (r.grown_chain 4 (view first.value) (commas rest.items))) }
+{
+    if rest.len() == 0 {
+        return Ok(first);
+    }
+    Ok(Box::new(alloc, Expr::Tuple { first, rest })?)
+}
+
+/// Operands between operators of one level.
+#[tactic(auto, using(crate::proofs::Rows::grown, ml_syntax::proofs::Variants::expr_views))]
+pub fn grown_chain(
+    alloc: Global,
+    first: Box<Expr>,
+    level: u32,
+    rest: Vec<(Word, Expr)>,
+) -> Result<Box<Expr>, ReadError>
+    ensures { Gives (λ e. view e.value) result (Some (r.grown_chain level (view first.value) (ops rest.items))) }
+{
+    if rest.len() == 0 {
+        return Ok(first);
+    }
+    Ok(Box::new(alloc, Expr::Chain { level, first, rest })?)
+}
+
+/// A function and its arguments.
+#[tactic(auto, using(crate::proofs::Rows::grown, ml_syntax::proofs::Variants::expr_views))]
+pub fn grown_apply(
+    alloc: Global,
+    first: Box<Expr>,
+    rest: Vec<Argument>,
+) -> Result<Box<Expr>, ReadError>
+    ensures { Gives (λ e. view e.value) result (Some (r.grown_apply (view first.value) (arguments rest.items))) }
+{
+    if rest.len() == 0 {
+        return Ok(first);
+    }
+    Ok(Box::new(
+        alloc,
+        Expr::Apply {
+            function: first,
+            arguments: rest,
+        },
+    )?)
+}
+
+/// An expression and the parts behind it.
+#[tactic(auto, using(crate::proofs::Rows::grown, ml_syntax::proofs::Variants::expr_views))]
+pub fn grown_postfix(
+    alloc: Global,
+    first: Box<Expr>,
+    rest: Vec<Part>,
+) -> Result<Box<Expr>, ReadError>
+    ensures { Gives (λ e. view e.value) result (Some (r.grown_postfix (view first.value) (parts rest.items))) }
+{
+    if rest.len() == 0 {
+        return Ok(first);
+    }
+    Ok(Box::new(
+        alloc,
+        Expr::Postfix {
+            base: first,
+            parts: rest,
+        },
+    )?)
+}

@@ -1,0 +1,19 @@
+//! Parts of expressions that are read, or looked at, without expressions inside them.
+#![tactic(auto)]
+
+mod edge;
+mod ends;
+mod grown;
+mod local;
+mod operators;
+mod pieces;
+
+pub use edge::{Edge, is_calm, on_edge};
+pub use ends::{ends_field, fields_end, goes_on, is_bare, is_constr, is_postfix, row_ends};
+pub use grown::{grown_apply, grown_assign, grown_chain, grown_postfix, grown_seq, grown_tuple};
+pub use local::local_module;
+pub use operators::level_at;
+pub use pieces::{
+    bang, closed, closing, direction, first_bar, has_colon, is_literal, is_optional, path,
+    semicolon_if, typed, variable,
+};

@@ -1,0 +1,101 @@
+//! The module of a `let module`: a path, and the arguments after it.
+
+ghost use Rattle.std.specs.Prelude.{ℕ, ◌≡◌, ◌≤◌, ◌<◌, ◌+◌, ◌-◌, ◌∷◌, [], true, false, not, Bool, length, map, Some, None, if◌then◌else◌};
+ghost use Rattle.ml_syntax.specs.Tree as pure;
+ghost use Rattle.ml_syntax.specs.declared.fixed.Fixed.TheVariants as key;
+ghost use Rattle.ml_syntax.specs.View.{view, view_word, view_words, view_path, view_name, view_run, view_type, view_bang, view_variable, view_pat, view_tok, view_binding, view_case, view_argument, view_param, view_part, view_field, links, commas, ops, maybe, tail, bindings, cases, arguments, params, parts, fields, locals, view_local};
+ghost use Rattle.parse_base.specs.Steps.{many, many_if, always};
+ghost use Rattle.parse_base.specs.PatReading.{read_pat};
+ghost use Rattle.parse_base.specs.Gives.{from, name_at, text_at, Gives};
+ghost use Rattle.expr_reading.specs.declared.wanted.Wanted.TheVariants as wanted;
+ghost use Rattle.expr_reading.specs.ExprReading as r;
+ghost use Rattle.expr_reading.specs.ExprReading.{read_expr};
+ghost use Rattle.expr_reading.specs.ExprReading.{read_local};
+ghost use Rattle.expr_parts.specs.Rows.{local_of};
+
+use crate::pieces::path;
+use ml_syntax::{Fixed, LocalArgument, LocalModule};
+use parse_base::{ReadError, expect, is, number};
+use rotor_base::Token;
+use std::alloc::Global;
+
+/// A module in parentheses, or `()`.
+#[cycle(local)]
+#[tactic(auto, using(crate::proofs::Rows::local_parts_of))]
+fn local_argument(
+    alloc: Global,
+    tokens: &[Token<'_>],
+    depth: usize,
+    levels: usize,
+    at: usize,
+) -> Result<(LocalArgument, usize), ReadError>
+    requires few { length tokens.now ≤ 1048576 }
+    ensures { Gives (λ x. (local_of x.0, from tokens.now x.1)) result (r.local_part (read_local depth) (from tokens.now at)) }
+{
+    if !is(tokens, Fixed::LeftParen, at) {
+        return Err(ReadError::Syntax);
+    }
+    if is(tokens, Fixed::RightParen, at + 1) {
+        return Ok((LocalArgument::Nothing { open: number(at) }, at + 2));
+    }
+    let (module, after) = local_module(alloc, tokens, depth, levels, at + 1)?;
+    let after = expect(tokens, Fixed::RightParen, after)?;
+    Ok((
+        LocalArgument::Module {
+            open: number(at),
+            module,
+        },
+        after,
+    ))
+}
+
+/// Arguments, as long as each can be read whole.
+#[cycle(local)]
+fn local_arguments(
+    alloc: Global,
+    tokens: &[Token<'_>],
+    depth: usize,
+    levels: usize,
+    at: usize,
+) -> Result<(Vec<LocalArgument>, usize), ReadError>
+    requires few { length tokens.now ≤ 1048576 }
+    ensures { Gives (λ x. (locals x.0.items, from tokens.now x.1)) result (Some (r.local_parts (read_local depth) depth (from tokens.now at))) }
+{
+    let mut found = Vec::new(alloc);
+    let mut at = at;
+    for _turn in 0..depth {
+        match local_argument(alloc, tokens, depth, levels, at) {
+            Ok((next, after)) => {
+                found.push(next)?;
+                at = after;
+            }
+            Err(ReadError::Syntax) => return Ok((found, at)),
+            Err(ReadError::Memory) => return Err(ReadError::Memory),
+        }
+    }
+    Ok((found, at))
+}
+
+/// The module of a `let module`, nested at most so deep and over at most so many levels.
+#[cycle(local)]
+#[tactic(auto, unfolding(expr_reading::specs::ExprReading::read_local, expr_reading::specs::ExprReading::local_module))]
+pub fn local_module(
+    alloc: Global,
+    tokens: &[Token<'_>],
+    depth: usize,
+    levels: usize,
+    at: usize,
+) -> Result<(LocalModule, usize), ReadError>
+    requires few { length tokens.now ≤ 1048576 }
+    ensures { Gives (λ x. (view_local x.0, from tokens.now x.1)) result (read_local depth (from tokens.now at)) }
+{
+    if depth == 0 {
+        return Err(ReadError::Syntax);
+    }
+    if levels == 0 {
+        return Err(ReadError::Memory);
+    }
+    let (path, at) = path(alloc, tokens, depth - 1, at)?;
+    let (arguments, at) = local_arguments(alloc, tokens, depth - 1, levels - 1, at)?;
+    Ok((LocalModule { path, arguments }, at))
+}

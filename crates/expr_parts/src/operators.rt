@@ -1,0 +1,85 @@
+//! The levels of operators.
+
+ghost use Rattle.std.specs.Prelude.{ℕ, ◌≡◌, ◌≤◌, ◌<◌, ◌+◌, ◌-◌, ◌∷◌, [], true, false, not, Bool, length, map, Some, None, if◌then◌else◌};
+ghost use Rattle.ml_syntax.specs.Tree as pure;
+ghost use Rattle.ml_syntax.specs.declared.fixed.Fixed.TheVariants as key;
+ghost use Rattle.ml_syntax.specs.View.{view, view_word, view_words, view_path, view_name, view_run, view_type, view_bang, view_variable, view_pat, view_tok, view_binding, view_case, view_argument, view_param, view_part, view_field, links, commas, ops, maybe, tail, bindings, cases, arguments, params, parts, fields, locals, view_local};
+ghost use Rattle.parse_base.specs.Steps.{many, many_if, always};
+ghost use Rattle.parse_base.specs.PatReading.{read_pat};
+ghost use Rattle.parse_base.specs.Gives.{from, name_at, text_at, Gives};
+ghost use Rattle.expr_reading.specs.declared.wanted.Wanted.TheVariants as wanted;
+ghost use Rattle.expr_reading.specs.ExprReading as r;
+ghost use Rattle.expr_reading.specs.ExprReading.{read_expr};
+ghost use Rattle.ml_syntax.specs.WellFormed.{keyword_level, infix_level};
+ghost use Rattle.expr_parts.specs.Rows.{first_level};
+
+use ml_syntax::Fixed;
+use parse_base::{Kind, kind_at, text};
+use rotor_base::{Class, Token};
+
+/// The level of a keyword that is an operator, or 0.
+fn keyword_level(bytes: &[u8]) -> u32
+    ensures { result ≡ keyword_level bytes.now }
+{
+    if bytes == b"mod".as_slice()
+        || bytes == b"land".as_slice()
+        || bytes == b"lor".as_slice()
+        || bytes == b"lxor".as_slice()
+    {
+        return 11;
+    }
+    if bytes == b"lsl".as_slice() || bytes == b"lsr".as_slice() || bytes == b"asr".as_slice() {
+        return 12;
+    }
+    0
+}
+
+/// The level of an operator by its first characters (the manual's chapter on expressions), or 0.
+#[tactic(auto, unfolding(ml_syntax::specs::WellFormed::infix_level))]
+fn infix_level(bytes: &[u8]) -> u32
+    ensures { result ≡ infix_level bytes.now }
+{
+    if bytes == b"||".as_slice() {
+        return 5;
+    }
+    if bytes == b"&&".as_slice() {
+        return 6;
+    }
+    if bytes == b"!=".as_slice() {
+        return 7;
+    }
+    match bytes.first() {
+        Some(b'=' | b'<' | b'>' | b'|' | b'&' | b'$') => 7,
+        Some(b'@' | b'^') => 8,
+        Some(b'+' | b'-') => 10,
+        Some(b'*') => {
+            if bytes.get(1) == Some(&b'*') {
+                return 12;
+            }
+            11
+        }
+        Some(b'/' | b'%') => 11,
+        _ => 0,
+    }
+}
+
+/// The level of the operator at a place, or 0.
+pub fn level_at(tokens: &[Token<'_>], at: usize) -> u32
+    ensures { result ≡ first_level (from tokens.now at) }
+{
+    match kind_at(tokens, at) {
+        Kind::Fixed(Fixed::LeftArrow) => 3,
+        Kind::Fixed(Fixed::Comma) => 4,
+        Kind::Fixed(Fixed::ColonColon) => 9,
+        Kind::Fixed(Fixed::Equals) => 7,
+        Kind::Word(Class::Mark) => {
+            if text(tokens, at) == b":=".as_slice() {
+                return 3;
+            }
+            0
+        }
+        Kind::Word(Class::Keyword) => keyword_level(text(tokens, at)),
+        Kind::Word(Class::Infix) => infix_level(text(tokens, at)),
+        _ => 0,
+    }
+}

@@ -1,0 +1,253 @@
+//! Small parts of expressions.
+
+ghost use Rattle.std.specs.Prelude.{ℕ, ◌≡◌, ◌≤◌, ◌<◌, ◌+◌, ◌-◌, ◌∷◌, [], true, false, not, Bool, length, map, Some, None, if◌then◌else◌};
+ghost use Rattle.ml_syntax.specs.Tree as pure;
+ghost use Rattle.ml_syntax.specs.declared.fixed.Fixed.TheVariants as key;
+ghost use Rattle.ml_syntax.specs.View.{view, view_word, view_words, view_path, view_name, view_run, view_type, view_bang, view_variable, view_pat, view_tok, view_binding, view_case, view_argument, view_param, view_part, view_field, links, commas, ops, maybe, tail, bindings, cases, arguments, params, parts, fields, locals, view_local};
+ghost use Rattle.parse_base.specs.Steps.{many, many_if, always};
+ghost use Rattle.parse_base.specs.PatReading.{read_pat};
+ghost use Rattle.parse_base.specs.Gives.{from, name_at, text_at, Gives};
+ghost use Rattle.expr_reading.specs.declared.wanted.Wanted.TheVariants as wanted;
+ghost use Rattle.expr_reading.specs.ExprReading as r;
+ghost use Rattle.expr_reading.specs.ExprReading.{read_expr};
+ghost use Rattle.ml_syntax.specs.WellFormed.{is_literal};
+ghost use Rattle.ml_syntax.specs.Words.{closing};
+ghost use Rattle.ml_syntax.specs.Tok.{is_placed};
+ghost use Rattle.ml_syntax.specs.Runs.{has_colon, is_optional};
+
+use ml_syntax::{Bracket, Expr, Fixed, Path, Run, Variable, Word};
+use parse_base::{Kind, ReadError, expect, is, kind_at, more_uppers, number, text, type_run, word};
+use rotor_base::{Class, Token};
+use std::alloc::Global;
+
+/// A last `;`, where it may follow, and the place after it.
+pub fn semicolon_if(tokens: &[Token<'_>], may: bool, at: usize) -> (bool, usize)
+    requires few { length tokens.now ≤ 1048576 }
+    ensures { (result.0, from tokens.now result.1) ≡ r.semicolon_if may (from tokens.now at) }
+{
+    if !may {
+        return (false, at);
+    }
+    match kind_at(tokens, at) {
+        Kind::Fixed(Fixed::Semicolon) => (true, at + 1),
+        _ => (false, at),
+    }
+}
+
+/// A `|` that may stand before the first case, and the place after it.
+pub fn first_bar(tokens: &[Token<'_>], at: usize) -> (bool, usize)
+    requires few { length tokens.now ≤ 1048576 }
+    ensures { (result.0, from tokens.now result.1) ≡ r.first_bar (from tokens.now at) }
+{
+    match kind_at(tokens, at) {
+        Kind::Fixed(Fixed::Bar) => (true, at + 1),
+        _ => (false, at),
+    }
+}
+
+/// A `!` that may stand behind `open`.
+pub fn bang(
+    alloc: Global,
+    tokens: &[Token<'_>],
+    at: usize,
+) -> Result<(Option<Word>, usize), ReadError>
+    requires few { length tokens.now ≤ 1048576 }
+    ensures { Gives (λ x. (view_bang x.0, from tokens.now x.1)) result (Some (r.optional_bang (from tokens.now at))) }
+{
+    match kind_at(tokens, at) {
+        Kind::Word(Class::Prefix) => {
+            if text(tokens, at) == b"!".as_slice() {
+                return Ok((Some(word(alloc, tokens, Class::Prefix, at)?), at + 1));
+            }
+            Ok((None, at))
+        }
+        _ => Ok((None, at)),
+    }
+}
+
+/// The path of a module.
+pub fn path(
+    alloc: Global,
+    tokens: &[Token<'_>],
+    depth: usize,
+    at: usize,
+) -> Result<(Path, usize), ReadError>
+    requires few { length tokens.now ≤ 1048576 }
+    ensures { Gives (λ x. (view_path x.0, from tokens.now x.1)) result (r.upper_path depth (from tokens.now at)) }
+{
+    match kind_at(tokens, at) {
+        Kind::Word(Class::Upper) => {
+            let first = word(alloc, tokens, Class::Upper, at)?;
+            let (mut words, after) = more_uppers(alloc, tokens, depth, at + 1)?;
+            words.insert(0, first)?;
+            Ok((Path { words }, after))
+        }
+        _ => Err(ReadError::Syntax),
+    }
+}
+
+/// The variable of a `for`.
+pub fn variable(
+    alloc: Global,
+    tokens: &[Token<'_>],
+    at: usize,
+) -> Result<(Variable, usize), ReadError>
+    requires few { length tokens.now ≤ 1048576 }
+    ensures { Gives (λ x. (view_variable x.0, from tokens.now x.1)) result (r.for_variable (from tokens.now at)) }
+{
+    match kind_at(tokens, at) {
+        Kind::Word(Class::Lower) => Ok((
+            Variable::Lower(word(alloc, tokens, Class::Lower, at)?),
+            at + 1,
+        )),
+        Kind::Fixed(Fixed::Underscore) => Ok((Variable::Any { at: number(at) }, at + 1)),
+        _ => Err(ReadError::Syntax),
+    }
+}
+
+/// Whether a `for` counts down.
+pub fn direction(tokens: &[Token<'_>], at: usize) -> Result<(bool, usize), ReadError>
+    requires few { length tokens.now ≤ 1048576 }
+    ensures { Gives (λ x. (x.0, from tokens.now x.1)) result (r.for_direction (from tokens.now at)) }
+{
+    match kind_at(tokens, at) {
+        Kind::Fixed(Fixed::To) => Ok((false, at + 1)),
+        Kind::Fixed(Fixed::Downto) => Ok((true, at + 1)),
+        _ => Err(ReadError::Syntax),
+    }
+}
+
+/// After an expression in parentheses and its type: a `)`, or `:>`, a type and a `)`. `paren` is the place of the `(`.
+#[tactic(auto, using(ml_syntax::proofs::Variants::expr_views))]
+pub fn typed(
+    alloc: Global,
+    tokens: &[Token<'_>],
+    paren: usize,
+    inner: Box<Expr>,
+    run: Run,
+    at: usize,
+) -> Result<(Box<Expr>, usize), ReadError>
+    requires within { paren < length tokens.now }
+    requires few { length tokens.now ≤ 1048576 }
+    ensures { Gives (λ x. (view x.0.value, from tokens.now x.1)) result (r.typed_by (paren + 1) (view inner.value) (view_run run) (from tokens.now at)) }
+{
+    match kind_at(tokens, at) {
+        Kind::Fixed(Fixed::RightParen) => Ok((
+            Box::new(
+                alloc,
+                Expr::Typed {
+                    at: number(paren),
+                    body: inner,
+                    run,
+                },
+            )?,
+            at + 1,
+        )),
+        Kind::Fixed(Fixed::ColonGreater) => {
+            let (to, at) = type_run(alloc, tokens, at + 1)?;
+            let at = expect(tokens, Fixed::RightParen, at)?;
+            Ok((
+                Box::new(
+                    alloc,
+                    Expr::Coerced {
+                        at: number(paren),
+                        body: inner,
+                        from: Some(run),
+                        to,
+                    },
+                )?,
+                at,
+            ))
+        }
+        _ => Err(ReadError::Syntax),
+    }
+}
+
+/// After an expression in parentheses: a `)`, or a type and a `)`. `paren` is the place of the `(`.
+#[tactic(auto, using(ml_syntax::proofs::Variants::expr_views))]
+pub fn closed(
+    alloc: Global,
+    tokens: &[Token<'_>],
+    paren: usize,
+    inner: Box<Expr>,
+    at: usize,
+) -> Result<(Box<Expr>, usize), ReadError>
+    requires within { paren < length tokens.now }
+    requires few { length tokens.now ≤ 1048576 }
+    ensures { Gives (λ x. (view x.0.value, from tokens.now x.1)) result (r.closed_by (paren + 1) (view inner.value) (from tokens.now at)) }
+{
+    match kind_at(tokens, at) {
+        Kind::Fixed(Fixed::RightParen) => Ok((
+            Box::new(
+                alloc,
+                Expr::Paren {
+                    at: number(paren),
+                    body: inner,
+                },
+            )?,
+            at + 1,
+        )),
+        Kind::Fixed(Fixed::Colon) => {
+            let (run, at) = type_run(alloc, tokens, at + 1)?;
+            typed(alloc, tokens, paren, inner, run, at)
+        }
+        Kind::Fixed(Fixed::ColonGreater) => {
+            let (to, at) = type_run(alloc, tokens, at + 1)?;
+            let at = expect(tokens, Fixed::RightParen, at)?;
+            Ok((
+                Box::new(
+                    alloc,
+                    Expr::Coerced {
+                        at: number(paren),
+                        body: inner,
+                        from: None,
+                        to,
+                    },
+                )?,
+                at,
+            ))
+        }
+        _ => Err(ReadError::Syntax),
+    }
+}
+
+/// Whether words of a class are numbers, characters or texts.
+pub fn is_literal(class: Class) -> bool
+    ensures { result ≡ is_literal class }
+{
+    matches!(
+        class,
+        Class::Int | Class::Float | Class::Char | Class::Text | Class::Quoted
+    )
+}
+
+/// Whether a label ends with a colon.
+pub fn has_colon(label: &[u8]) -> bool
+    ensures { result ≡ has_colon label.now }
+{
+    match label {
+        [_, ..] => label[label.len() - 1] == b':',
+        [] => false,
+    }
+}
+
+/// Whether a label begins with `?`.
+pub fn is_optional(label: &[u8]) -> bool
+    ensures { result ≡ is_optional label.now }
+{
+    match label {
+        [first, ..] => *first == b'?',
+        [] => false,
+    }
+}
+
+/// The word that closes a bracket.
+pub fn closing(bracket: Bracket) -> Fixed
+    ensures value { result ≡ closing bracket }
+    ensures plain { is_placed result ≡ false }
+{
+    match bracket {
+        Bracket::List => Fixed::RightBracket,
+        Bracket::Array => Fixed::RightArray,
+    }
+}

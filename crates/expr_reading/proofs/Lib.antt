@@ -1,0 +1,11 @@
+pub mod LongerExpr
+pub mod AppendExpr
+pub mod FirstWord
+pub mod FoundExpr
+pub mod GoesExpr
+pub mod ReachParams
+pub mod ReachForms
+pub mod ReachAtoms
+pub mod ReachRecords
+pub mod ReachExpr
+pub mod LawsExpr

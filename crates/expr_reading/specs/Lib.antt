@@ -1,0 +1,2 @@
+pub mod ExprReading
+pub mod Longest

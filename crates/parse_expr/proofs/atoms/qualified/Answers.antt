@@ -1,0 +1,21 @@
+use Rattle.std.proofs.Common.{◌≡◌, ℕ, List, Option, Some, length, sym, ap, ◌∙◌, arith}
+use Rattle.ml_syntax.specs.Tok.{Tok}
+use Rattle.ml_syntax.specs.Tree as pure
+use Rattle.ml_syntax.specs.View.{view, view_path, view_name, view_words}
+use Rattle.ml_syntax.proofs.Variants.{at_expr_value}
+use Rattle.parse_base.specs.Gives.{from}
+use Rattle.parse_base.proofs.Stepping.{some_is}
+use Rattle.expr_reading.specs.ExprReading.{opened_or, qualified}
+use Rattle.parse_expr.proofs.Lone.{plain_value}
+use Rattle.parse_expr.proofs.atoms.qualified.Goals as goal
+
+pub returns-then-len-eq0 : goal.returns-then-len-eq0
+returns-then-len-eq0 c =
+    let path = view_path c.args.path in
+    let here = from c.args.tokens.now c.args.at in
+    let after = from c.args.tokens.now c.args.after in
+    let x = view_name c.in-Value.name in
+    let seen : view c.args.inner.value ≡ pure.Value (view_words c.in-Value.names.items) x = ap view (sym c.into_inner.ensures ∙ c.in-Value.is) ∙ at_expr_value c.in-Value.names c.in-Value.name in
+    let empty : length c.in-Value.names.items ≡ 0 = omega (arith, c.len.ensures, c.if-len-eq0.true) in
+    let made : qualified path (view c.args.inner.value) after ≡ Some (pure.Value path x, after) = ap (λ (e : pure.Expr). qualified path e after) seen ∙ plain_value path after c.in-Value.names.items x empty in
+    ap (λ (o : Option (pure.Expr × List Tok)). Some (opened_or path here o)) made ∙ ap (λ (e : pure.Expr). Some (e, after)) (some_is c.in_ok-value_of-in-Value.ensures)

@@ -1,0 +1,23 @@
+use Rattle.std.proofs.Common.{◌≡◌, ◌+◌, None, Some, sym, ap, ◌∙◌}
+use Rattle.ml_syntax.specs.Tree as pure
+use Rattle.parse_base.proofs.Stepping.{some_is}
+use Rattle.ml_syntax.specs.View.{view, view_name}
+use Rattle.ml_syntax.proofs.Variants.{at_expr_value}
+use Rattle.parse_base.specs.Pieces.{operator_at}
+use Rattle.parse_base.specs.Gives.{from}
+use Rattle.expr_reading.specs.ExprReading.{read_expr}
+use Rattle.parse_expr.proofs.Lone.{paren_operator, paren_other}
+use Rattle.parse_expr.proofs.readers.Readers.parenthesized.Goals as goal
+
+pub returns-in-Err-Syntax : goal.returns-in-Err-Syntax
+returns-in-Err-Syntax g c =
+    let d = c.args.self.now.grammar.depth in
+    let here = from c.args.tokens.now (c.args.at + 1) in
+    let failed : operator_at (c.args.at + 1) here ≡ None = rw c.in-Err-Syntax.field-0-is at c.in-Err-Syntax.ensures in
+    rw (paren_other (read_expr d) d (c.args.at + 1) here (sym c.is.ensures.value ∙ c.if-is.false) failed) c.inner.ensures
+
+pub returns-in_ok-operator_value-in-Ok : goal.returns-in_ok-operator_value-in-Ok
+returns-in_ok-operator_value-in-Ok g c =
+    let d = c.args.self.now.grammar.depth in
+    let after = from c.args.tokens.now c.in-Ok.after in
+    paren_operator (read_expr d) d (c.args.at + 1) (from c.args.tokens.now (c.args.at + 1)) (view_name c.in-Ok.name) after c.in-Ok.ensures ∙ ap (λ (e : pure.Expr). Some (e, after)) (some_is c.in_ok-operator_value-in-Ok.ensures)

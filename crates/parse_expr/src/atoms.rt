@@ -1,0 +1,285 @@
+//! Names, constants, and what stands in brackets.
+
+ghost use Rattle.ml_syntax.specs.Tok.{Tok};
+ghost use Rattle.std.specs.Prelude.{List, ℕ, ◌≡◌, ◌≤◌, ◌<◌, ◌+◌, ◌-◌, ◌∷◌, [], true, false, not, Bool, length, map, Some, None, if◌then◌else◌};
+ghost use Rattle.ml_syntax.specs.Tree as pure;
+ghost use Rattle.ml_syntax.specs.declared.fixed.Fixed.TheVariants as key;
+ghost use Rattle.ml_syntax.specs.View.{view, view_word, view_words, view_path, view_name, view_run, view_type, view_bang, view_variable, view_pat, view_tok, view_binding, view_case, view_argument, view_param, view_part, view_field, links, commas, ops, maybe, tail, bindings, cases, arguments, params, parts, fields, locals, view_local};
+ghost use Rattle.parse_base.specs.Steps.{many, many_if, always};
+ghost use Rattle.parse_base.specs.PatReading.{read_pat};
+ghost use Rattle.parse_base.specs.Gives.{from, name_at, text_at, Gives};
+ghost use Rattle.expr_reading.specs.declared.wanted.Wanted.TheVariants as wanted;
+ghost use Rattle.expr_reading.specs.ExprReading as r;
+ghost use Rattle.expr_reading.specs.ExprReading.{read_expr};
+ghost use Rattle.expr_forms.specs.Reads.{Nests};
+ghost use Rattle.ml_syntax.specs.WellFormed.{is_bracketed};
+ghost use Rattle.parse_base.specs.Rows.{path_from};
+ghost use Rattle.expr_parts.specs.Rows.{dot_enclosed, wrapped_by};
+
+use crate::readers::Readers;
+use expr_parts::is_literal;
+use expr_reading::Wanted;
+use ml_syntax::{Bracket, Expr, Fixed, Path, ValueName};
+use parse_base::{Kind, ReadError, expect, kind_at, more_uppers, number, word};
+use rotor_base::{Class, Token};
+use std::alloc::Global;
+
+impl<
+    F: Copy
+        + Fn(
+            Global,
+            &[Token<'_>],
+            usize,
+            usize,
+            Wanted,
+            usize,
+        ) -> Result<(Box<Expr>, usize), ReadError>,
+> Readers<F> {
+    /// What may stand behind a module path and a `.` too.
+    #[tactic(auto, unfolding(expr_reading::specs::ExprReading::enclosed))]
+    pub(crate) fn enclosed(
+        &self,
+        tokens: &[Token<'_>],
+        at: usize,
+    ) -> Result<(Box<Expr>, usize), ReadError>
+        requires nests { Nests self.now.grammar.depth (F.pre self.now.grammar.sub) (F.post self.now.grammar.sub) }
+        requires few { length tokens.now ≤ 1048576 }
+        ensures { Gives (λ x. (view x.0.value, from tokens.now x.1)) result (r.enclosed (read_expr self.now.grammar.depth) self.now.grammar.depth (from tokens.now at)) }
+    {
+        match kind_at(tokens, at) {
+            Kind::Word(Class::Lower) => value(self.grammar.alloc, tokens, at),
+            Kind::Fixed(Fixed::LeftParen) => self.parenthesized(tokens, at),
+            Kind::Fixed(Fixed::LeftBracket) => self.bracketed(tokens, Bracket::List, at),
+            Kind::Fixed(Fixed::LeftArray) => self.bracketed(tokens, Bracket::Array, at),
+            Kind::Fixed(Fixed::LeftBrace) => self.record(tokens, at),
+            _ => Err(ReadError::Syntax),
+        }
+    }
+
+    /// The same behind a `.`.
+    pub(crate) fn behind_dot(
+        &self,
+        tokens: &[Token<'_>],
+        at: usize,
+    ) -> Result<(Box<Expr>, usize), ReadError>
+        requires nests { Nests self.now.grammar.depth (F.pre self.now.grammar.sub) (F.post self.now.grammar.sub) }
+        requires few { length tokens.now ≤ 1048576 }
+        ensures { Gives (λ x. (view x.0.value, from tokens.now x.1)) result (dot_enclosed self.now.grammar.depth (from tokens.now at)) }
+    {
+        let at = expect(tokens, Fixed::Dot, at)?;
+        self.enclosed(tokens, at)
+    }
+
+    /// After the name of a module or constructor at a place.
+    #[tactic(auto, unfolding(expr_reading::specs::ExprReading::upper_expr), using(ml_syntax::proofs::Variants::expr_views))]
+    pub(crate) fn upper(
+        &self,
+        tokens: &[Token<'_>],
+        at: usize,
+    ) -> Result<(Box<Expr>, usize), ReadError>
+        requires nests { Nests self.now.grammar.depth (F.pre self.now.grammar.sub) (F.post self.now.grammar.sub) }
+        requires few { length tokens.now ≤ 1048576 }
+        requires within { at < length tokens.now }
+        ensures { Gives (λ x. (view x.0.value, from tokens.now x.1)) result (r.upper_expr (read_expr self.now.grammar.depth) self.now.grammar.depth (name_at tokens.now at) (from tokens.now (at + 1))) }
+    {
+        let (path, at) = self.module_path(tokens, at)?;
+        match self.behind_dot(tokens, at) {
+            Ok((inner, after)) => qualified(self.grammar.alloc, tokens, path, at, inner, after),
+            Err(ReadError::Syntax) => Ok((Box::new(self.grammar.alloc, Expr::Constr(path))?, at)),
+            Err(ReadError::Memory) => Err(ReadError::Memory),
+        }
+    }
+
+    /// The path that begins with the name at a place.
+    pub(crate) fn module_path(
+        &self,
+        tokens: &[Token<'_>],
+        at: usize,
+    ) -> Result<(Path, usize), ReadError>
+        requires few { length tokens.now ≤ 1048576 }
+        requires within { at < length tokens.now }
+        ensures { Gives (λ x. (view_path x.0, from tokens.now x.1)) result (Some (path_from (name_at tokens.now at) self.now.grammar.depth (from tokens.now (at + 1)))) }
+    {
+        let first = word(self.grammar.alloc, tokens, Class::Upper, at)?;
+        let (mut words, after) = more_uppers(
+            self.grammar.alloc,
+            tokens,
+            self.grammar.depth,
+            at + 1,
+        )?;
+        words.insert(0, first)?;
+        Ok((Path { words }, after))
+    }
+
+    /// An expression of level 16 without Prefix words.
+    #[tactic(auto, unfolding(expr_reading::specs::ExprReading::atom))]
+    pub(crate) fn atom(
+        &self,
+        tokens: &[Token<'_>],
+        at: usize,
+    ) -> Result<(Box<Expr>, usize), ReadError>
+        requires nests { Nests self.now.grammar.depth (F.pre self.now.grammar.sub) (F.post self.now.grammar.sub) }
+        requires few { length tokens.now ≤ 1048576 }
+        ensures { Gives (λ x. (view x.0.value, from tokens.now x.1)) result (r.atom (read_expr self.now.grammar.depth) self.now.grammar.depth (from tokens.now at)) }
+    {
+        match kind_at(tokens, at) {
+            Kind::Fixed(Fixed::True) => boolean(self.grammar.alloc, tokens, true, at),
+            Kind::Fixed(Fixed::False) => boolean(self.grammar.alloc, tokens, false, at),
+            Kind::Fixed(Fixed::Begin) => self.begin(tokens, at),
+            Kind::Fixed(Fixed::While) => self.while_loop(tokens, at),
+            Kind::Fixed(Fixed::For) => self.for_loop(tokens, at),
+            Kind::Word(Class::Upper) => self.upper(tokens, at),
+            Kind::Word(Class::Tag) => tag(self.grammar.alloc, tokens, at),
+            Kind::Word(class) => {
+                if is_literal(class) {
+                    return literal(self.grammar.alloc, tokens, class, at);
+                }
+                self.enclosed(tokens, at)
+            }
+            _ => self.enclosed(tokens, at),
+        }
+    }
+
+    /// After the Prefix word at a place.
+    #[tactic(auto, using(ml_syntax::proofs::Variants::expr_views))]
+    fn operated(&self, tokens: &[Token<'_>], at: usize) -> Result<(Box<Expr>, usize), ReadError>
+        requires nests { Nests self.now.grammar.depth (F.pre self.now.grammar.sub) (F.post self.now.grammar.sub) }
+        requires few { length tokens.now ≤ 1048576 }
+        requires within { at < length tokens.now }
+        ensures { Gives (λ x. (view x.0.value, from tokens.now x.1)) result (wrapped_by (pure.Prefixed (name_at tokens.now at)) (read_expr self.now.grammar.depth wanted.Prefixed (from tokens.now (at + 1)))) }
+    {
+        let operator = word(self.grammar.alloc, tokens, Class::Prefix, at)?;
+        let (operand, after) = self.grammar.sub(tokens, Wanted::Prefixed, at + 1)?;
+        Ok((
+            Box::new(self.grammar.alloc, Expr::Prefixed { operator, operand })?,
+            after,
+        ))
+    }
+
+    /// An expression of level 16.
+    #[tactic(auto, unfolding(expr_reading::specs::ExprReading::prefixed))]
+    pub(crate) fn prefixed(
+        &self,
+        tokens: &[Token<'_>],
+        at: usize,
+    ) -> Result<(Box<Expr>, usize), ReadError>
+        requires nests { Nests self.now.grammar.depth (F.pre self.now.grammar.sub) (F.post self.now.grammar.sub) }
+        requires few { length tokens.now ≤ 1048576 }
+        ensures { Gives (λ x. (view x.0.value, from tokens.now x.1)) result (r.prefixed (read_expr self.now.grammar.depth) self.now.grammar.depth (from tokens.now at)) }
+    {
+        match kind_at(tokens, at) {
+            Kind::Word(Class::Prefix) => self.operated(tokens, at),
+            _ => self.atom(tokens, at),
+        }
+    }
+}
+
+/// The `true` or `false` at a place.
+#[tactic(auto, using(ml_syntax::proofs::Variants::expr_views))]
+fn boolean(
+    alloc: Global,
+    tokens: &[Token<'_>],
+    value: bool,
+    at: usize,
+) -> Result<(Box<Expr>, usize), ReadError>
+    requires within { at < length tokens.now }
+    requires few { length tokens.now ≤ 1048576 }
+    ensures { Gives {A = pure.Expr × List Tok} (λ x. (view x.0.value, from tokens.now x.1)) result (Some (pure.BoolExpr (at + 1) value, from tokens.now (at + 1))) }
+{
+    let after = at + 1;
+    let at = number(at);
+    Ok((Box::new(alloc, Expr::Bool { at, value })?, after))
+}
+
+/// The number, character or text at a place.
+#[tactic(auto, using(ml_syntax::proofs::Variants::expr_views))]
+fn literal(
+    alloc: Global,
+    tokens: &[Token<'_>],
+    class: Class,
+    at: usize,
+) -> Result<(Box<Expr>, usize), ReadError>
+    requires within { at < length tokens.now }
+    requires few { length tokens.now ≤ 1048576 }
+    ensures { Gives {A = pure.Expr × List Tok} (λ x. (view x.0.value, from tokens.now x.1)) result (Some (pure.Literal class (name_at tokens.now at), from tokens.now (at + 1))) }
+{
+    let literal = Expr::Literal(word(alloc, tokens, class, at)?);
+    Ok((Box::new(alloc, literal)?, at + 1))
+}
+
+/// The tag at a place.
+#[tactic(auto, using(ml_syntax::proofs::Variants::expr_views))]
+fn tag(alloc: Global, tokens: &[Token<'_>], at: usize) -> Result<(Box<Expr>, usize), ReadError>
+    requires within { at < length tokens.now }
+    requires few { length tokens.now ≤ 1048576 }
+    ensures { Gives {A = pure.Expr × List Tok} (λ x. (view x.0.value, from tokens.now x.1)) result (Some (pure.Tag (name_at tokens.now at), from tokens.now (at + 1))) }
+{
+    let tag = Expr::Tag(word(alloc, tokens, Class::Tag, at)?);
+    Ok((Box::new(alloc, tag)?, at + 1))
+}
+
+/// The name of a value.
+#[tactic(auto, using(ml_syntax::proofs::Variants::expr_views))]
+fn value(alloc: Global, tokens: &[Token<'_>], at: usize) -> Result<(Box<Expr>, usize), ReadError>
+    requires within { at < length tokens.now }
+    requires few { length tokens.now ≤ 1048576 }
+    ensures { Gives {A = pure.Expr × List Tok} (λ x. (view x.0.value, from tokens.now x.1)) result (Some (pure.Value [] (pure.PlainName (name_at tokens.now at)), from tokens.now (at + 1))) }
+{
+    let path = Vec::new(alloc);
+    let name = ValueName::Lower(word(alloc, tokens, Class::Lower, at)?);
+    Ok((Box::new(alloc, Expr::Value { path, name })?, at + 1))
+}
+
+/// A module path, and what stands behind it and a `.`, where it may stand there: else the path is a constructor.
+#[tactic(auto, using(crate::proofs::Lone::qualifications, ml_syntax::proofs::Variants::expr_views))]
+fn qualified(
+    alloc: Global,
+    tokens: &[Token<'_>],
+    path: Path,
+    at: usize,
+    inner: Box<Expr>,
+    after: usize,
+) -> Result<(Box<Expr>, usize), ReadError>
+    requires few { length tokens.now ≤ 1048576 }
+    ensures { Gives (λ x. (view x.0.value, from tokens.now x.1)) result (Some (r.opened_or (view_path path) (from tokens.now at) (r.qualified (view_path path) (view inner.value) (from tokens.now after)))) }
+{
+    match Box::into_inner(inner) {
+        Expr::Value { path: names, name } => {
+            if names.len() == 0 {
+                return Ok((value_of(alloc, path, name)?, after));
+            }
+            Ok((Box::new(alloc, Expr::Constr(path))?, at))
+        }
+        inner => {
+            if !is_bracketed(&inner) {
+                return Ok((Box::new(alloc, Expr::Constr(path))?, at));
+            }
+            let body = Box::new(alloc, inner)?;
+            Ok((Box::new(alloc, Expr::Opened { path, body })?, after))
+        }
+    }
+}
+
+/// A value of a module.
+#[tactic(auto, using(ml_syntax::proofs::Variants::expr_views))]
+fn value_of(alloc: Global, path: Path, name: ValueName) -> Result<Box<Expr>, ReadError>
+    ensures { Gives (λ e. view e.value) result (Some (pure.Value (view_path path) (view_name name))) }
+{
+    let path = path.words;
+    Ok(Box::new(alloc, Expr::Value { path, name })?)
+}
+
+/// Whether a module path and a `.` may stand before it.
+#[tactic(auto, unfolding(ml_syntax::specs::View::view))]
+fn is_bracketed(expr: &Expr) -> bool
+    ensures { result ≡ is_bracketed (view expr.now) }
+{
+    match expr {
+        Expr::Unit { .. } => true,
+        Expr::Paren { .. } => true,
+        Expr::Empty { .. } => true,
+        Expr::List { .. } => true,
+        Expr::Record { .. } => true,
+        _ => false,
+    }
+}

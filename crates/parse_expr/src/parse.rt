@@ -1,0 +1,49 @@
+//! The longest sequence expression from a token.
+
+ghost use Rattle.std.specs.Prelude.{◌≡◌, ◌≤◌, length, Err, IfOk, IfErr};
+ghost use Rattle.ml_syntax.specs.View.{view};
+ghost use Rattle.parse_base.specs.Gives.{from, IsPlain};
+ghost use Rattle.parse_base.specs.declared.error.ParseError.TheVariants as refused;
+ghost use Rattle.expr_reading.specs.Longest.{IsLongestExpr, BeginsNoExpr};
+
+use crate::reading::read;
+use expr_reading::Wanted;
+use ml_syntax::Expr;
+use parse_base::{MAX_NESTED, ParseError, ReadError};
+use rotor_base::Token;
+use std::alloc::Global;
+
+/// How often expressions may nest: each level may take 15 KiB of the stack, and this many leave 3 MiB of 8.
+const MAX_DEEPER: usize = MAX_NESTED / 3;
+
+/// The longest sequence expression that begins at a token (the manual's chapter on expressions), and the place after
+/// it. Places are counted from 0, and there are at most 1,048,576 tokens. The Err is `Syntax` where no expression
+/// begins there, or else `Memory`, which also stands for an expression that nests past the bound on levels.
+pub fn parse_seq(
+    alloc: Global,
+    tokens: &[Token<'_>],
+    start: usize,
+) -> Result<(Expr, usize), ParseError>
+    requires within { start ≤ length tokens.now }
+    requires few { length tokens.now ≤ 1048576 }
+    // It has these words, no longer one begins there, and no other of its length does.
+    ensures found { IfOk result (λ x. IsLongestExpr (from tokens.now start) (view x.0) (from tokens.now x.1)) }
+    ensures end { IfOk result (λ x. x.1 ≤ length tokens.now) }
+    // No expression begins there.
+    ensures none { result ≡ Err refused.Syntax → BeginsNoExpr (from tokens.now start) }
+    // It is neither `Form` nor `Deep`.
+    ensures plain { IfErr result IsPlain }
+{
+    match read(
+        alloc,
+        tokens,
+        tokens.len() + 1,
+        MAX_DEEPER,
+        Wanted::Sequence,
+        start,
+    ) {
+        Ok((tree, end)) => Ok((Box::into_inner(tree), end.min(tokens.len()))),
+        Err(ReadError::Syntax) => Err(ParseError::Syntax),
+        Err(ReadError::Memory) => Err(ParseError::Memory),
+    }
+}

@@ -1,0 +1,40 @@
+//! The readers of expressions.
+
+ghost use Rattle.std.specs.Prelude.{◌≡◌, IfOk, IfErr};
+ghost use Rattle.parse_base.specs.declared.error.ReadError.TheVariants as unread;
+
+use expr_forms::Grammar;
+use expr_reading::Wanted;
+use ml_syntax::Expr;
+use parse_base::ReadError;
+use rotor_base::Token;
+use std::alloc::Global;
+
+/// The readers of expressions, over what they are lent.
+#[derive(Clone, Copy)]
+pub struct Readers<F> {
+    pub grammar: Grammar<F>,
+}
+
+impl<
+    F: Copy
+        + Fn(
+            Global,
+            &[Token<'_>],
+            usize,
+            usize,
+            Wanted,
+            usize,
+        ) -> Result<(Box<Expr>, usize), ReadError>,
+> Readers<F> {
+    /// The same readers, one level deeper.
+    pub(crate) fn deeper(&self) -> Result<Readers<F>, ReadError>
+        ensures depth { IfOk result (λ r. r.grammar.depth ≡ self.now.grammar.depth) }
+        ensures sub { IfOk result (λ r. r.grammar.sub ≡ self.now.grammar.sub) }
+        ensures memory { IfErr result (λ e. e ≡ unread.Memory) }
+    {
+        Ok(Readers {
+            grammar: self.grammar.deeper()?,
+        })
+    }
+}

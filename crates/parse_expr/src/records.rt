@@ -1,0 +1,186 @@
+//! Records.
+
+ghost use Rattle.std.specs.Prelude.{ℕ, ◌≡◌, ◌≤◌, ◌<◌, ◌+◌, ◌-◌, ◌∷◌, [], true, false, not, Bool, length, map, Some, None, if◌then◌else◌};
+ghost use Rattle.ml_syntax.specs.Tree as pure;
+ghost use Rattle.ml_syntax.specs.declared.fixed.Fixed.TheVariants as key;
+ghost use Rattle.ml_syntax.specs.View.{view, view_word, view_words, view_path, view_name, view_run, view_type, view_bang, view_variable, view_pat, view_tok, view_binding, view_case, view_argument, view_param, view_part, view_field, links, commas, ops, maybe, tail, bindings, cases, arguments, params, parts, fields, locals, view_local};
+ghost use Rattle.parse_base.specs.Steps.{many, many_if, always};
+ghost use Rattle.parse_base.specs.PatReading.{read_pat};
+ghost use Rattle.parse_base.specs.Gives.{from, name_at, text_at, Gives};
+ghost use Rattle.expr_reading.specs.declared.wanted.Wanted.TheVariants as wanted;
+ghost use Rattle.expr_reading.specs.ExprReading as r;
+ghost use Rattle.expr_reading.specs.ExprReading.{read_expr};
+ghost use Rattle.expr_forms.specs.Reads.{Nests};
+ghost use Rattle.expr_parts.specs.Rows.{fields_rest, base_with};
+
+use crate::readers::Readers;
+use expr_parts::{ends_field, fields_end, semicolon_if};
+use expr_reading::Wanted;
+use ml_syntax::{Expr, Field, Fixed};
+use parse_base::{ReadError, expect, lower_word, number, optional_type, qualifiers};
+use rotor_base::Token;
+use std::alloc::Global;
+
+impl<
+    F: Copy
+        + Fn(
+            Global,
+            &[Token<'_>],
+            usize,
+            usize,
+            Wanted,
+            usize,
+        ) -> Result<(Box<Expr>, usize), ReadError>,
+> Readers<F> {
+    /// A field of a record.
+    #[tactic(auto, unfolding(expr_reading::specs::ExprReading::field_expr), using(ml_syntax::proofs::Variants::field_views))]
+    pub(crate) fn field(&self, tokens: &[Token<'_>], at: usize) -> Result<(Field, usize), ReadError>
+        requires nests { Nests self.now.grammar.depth (F.pre self.now.grammar.sub) (F.post self.now.grammar.sub) }
+        requires few { length tokens.now ≤ 1048576 }
+        ensures { Gives (λ x. (view_field x.0, from tokens.now x.1)) result (r.field_expr (read_expr self.now.grammar.depth) self.now.grammar.depth (from tokens.now at)) }
+    {
+        let (path, at) = qualifiers(self.grammar.alloc, tokens, self.grammar.depth, at)?;
+        let (label, at) = lower_word(self.grammar.alloc, tokens, at)?;
+        let (run, at) = optional_type(self.grammar.alloc, tokens, at)?;
+        match self.grammar.equals_value(tokens, at) {
+            Ok(((equals, value), after)) => Ok((
+                Field::Assigned {
+                    path,
+                    label,
+                    run,
+                    equals,
+                    value,
+                },
+                after,
+            )),
+            Err(ReadError::Syntax) => Ok((Field::FieldPun { path, label, run }, at)),
+            Err(ReadError::Memory) => Err(ReadError::Memory),
+        }
+    }
+
+    /// The next field, behind its `;`.
+    pub(crate) fn next_field(
+        &self,
+        tokens: &[Token<'_>],
+        at: usize,
+    ) -> Result<(Field, usize), ReadError>
+        requires nests { Nests self.now.grammar.depth (F.pre self.now.grammar.sub) (F.post self.now.grammar.sub) }
+        requires few { length tokens.now ≤ 1048576 }
+        ensures { Gives (λ x. (view_field x.0, from tokens.now x.1)) result (r.next_field (read_expr self.now.grammar.depth) self.now.grammar.depth (from tokens.now at)) }
+    {
+        let at = expect(tokens, Fixed::Semicolon, at)?;
+        self.field(tokens, at)
+    }
+
+    /// Further fields, as long as each can be read whole and a `;` may follow the last.
+    pub(crate) fn more_fields(
+        &self,
+        tokens: &[Token<'_>],
+        at: usize,
+    ) -> Result<(Vec<Field>, usize), ReadError>
+        requires nests { Nests self.now.grammar.depth (F.pre self.now.grammar.sub) (F.post self.now.grammar.sub) }
+        requires few { length tokens.now ≤ 1048576 }
+        ensures { Gives (λ x. (fields x.0.items, from tokens.now x.1)) result (Some (many pure.no_field pure.more_field r.ends_field (r.next_field (read_expr self.now.grammar.depth) self.now.grammar.depth) self.now.grammar.depth (from tokens.now at))) }
+    {
+        let mut found = Vec::new(self.grammar.alloc);
+        let mut at = at;
+        for _turn in 0..self.grammar.depth {
+            match self.next_field(tokens, at) {
+                Ok((next, after)) => {
+                    let goes_on = ends_field(&next);
+                    found.push(next)?;
+                    at = after;
+                    if !goes_on {
+                        return Ok((found, at));
+                    }
+                }
+                Err(ReadError::Syntax) => return Ok((found, at)),
+                Err(ReadError::Memory) => return Err(ReadError::Memory),
+            }
+        }
+        Ok((found, at))
+    }
+
+    /// What stands behind the first field: further ones, and whether a last `;` does.
+    pub(crate) fn rest_of_fields(
+        &self,
+        tokens: &[Token<'_>],
+        first: &Field,
+        at: usize,
+    ) -> Result<((Vec<Field>, bool), usize), ReadError>
+        requires nests { Nests self.now.grammar.depth (F.pre self.now.grammar.sub) (F.post self.now.grammar.sub) }
+        requires few { length tokens.now ≤ 1048576 }
+        ensures { Gives (λ x. ((fields x.0.0.items, x.0.1), from tokens.now x.1)) result (Some (fields_rest self.now.grammar.depth (view_field first.now) (from tokens.now at))) }
+    {
+        if !ends_field(first) {
+            return Ok(((Vec::new(self.grammar.alloc), false), at));
+        }
+        let (rest, at) = self.more_fields(tokens, at)?;
+        let may = fields_end(first, &rest);
+        let (last, at) = semicolon_if(tokens, may, at);
+        Ok(((rest, last), at))
+    }
+
+    /// An expression and `with`.
+    pub(crate) fn base_with(
+        &self,
+        tokens: &[Token<'_>],
+        at: usize,
+    ) -> Result<(Box<Expr>, usize), ReadError>
+        requires nests { Nests self.now.grammar.depth (F.pre self.now.grammar.sub) (F.post self.now.grammar.sub) }
+        requires few { length tokens.now ≤ 1048576 }
+        ensures { Gives (λ x. (view x.0.value, from tokens.now x.1)) result (base_with (read_expr self.now.grammar.depth wanted.Postfix (from tokens.now at))) }
+    {
+        let (base, at) = self.grammar.sub(tokens, Wanted::Postfix, at)?;
+        let at = expect(tokens, Fixed::With, at)?;
+        Ok((base, at))
+    }
+
+    /// An expression and `with`, or none.
+    pub(crate) fn base(
+        &self,
+        tokens: &[Token<'_>],
+        at: usize,
+    ) -> Result<(Option<Box<Expr>>, usize), ReadError>
+        requires nests { Nests self.now.grammar.depth (F.pre self.now.grammar.sub) (F.post self.now.grammar.sub) }
+        requires few { length tokens.now ≤ 1048576 }
+        ensures { Gives (λ x. (maybe x.0, from tokens.now x.1)) result (Some (r.base_part (read_expr self.now.grammar.depth) self.now.grammar.depth (from tokens.now at))) }
+    {
+        match self.base_with(tokens, at) {
+            Ok((base, after)) => Ok((Some(base), after)),
+            Err(ReadError::Syntax) => Ok((None, at)),
+            Err(ReadError::Memory) => Err(ReadError::Memory),
+        }
+    }
+
+    /// After the `{` at a place.
+    #[tactic(auto, unfolding(expr_reading::specs::ExprReading::brace_expr), using(ml_syntax::proofs::Variants::expr_views))]
+    pub(crate) fn record(
+        &self,
+        tokens: &[Token<'_>],
+        at: usize,
+    ) -> Result<(Box<Expr>, usize), ReadError>
+        requires nests { Nests self.now.grammar.depth (F.pre self.now.grammar.sub) (F.post self.now.grammar.sub) }
+        requires few { length tokens.now ≤ 1048576 }
+        requires within { at < length tokens.now }
+        ensures { Gives (λ x. (view x.0.value, from tokens.now x.1)) result (r.brace_expr (read_expr self.now.grammar.depth) self.now.grammar.depth (at + 1) (from tokens.now (at + 1))) }
+    {
+        let (base, after) = self.base(tokens, at + 1)?;
+        let (first, after) = self.field(tokens, after)?;
+        let ((rest, last), after) = self.rest_of_fields(tokens, &first, after)?;
+        let after = expect(tokens, Fixed::RightBrace, after)?;
+        Ok((
+            Box::new(
+                self.grammar.alloc,
+                Expr::Record {
+                    at: number(at),
+                    base,
+                    first: Box::new(self.grammar.alloc, first)?,
+                    rest,
+                    last,
+                },
+            )?,
+            after,
+        ))
+    }
+}
