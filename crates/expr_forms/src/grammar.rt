@@ -42,6 +42,7 @@ impl<
             usize,
         ) -> Result<(Box<Expr>, usize), ReadError>,
 > Grammar<F> {
+    /// What is wanted at a place, read by what is lent, and the place after it.
     pub fn sub(
         &self,
         tokens: &[Token<'_>],

@@ -25,9 +25,11 @@ unfoldable pub local_of : LocalArgument → LocalPart
 local_of (l.Module' at path _ ms) = given_module at (LocalPath (view_path path) (view_locals ms))
 local_of (l.Nothing at) = given_none at
 
+-- an expression behind a `;`
 abbrev pub link_of : Source → Tok × Expr
 link_of e = (fixed key.Semicolon, view e)
 
+-- an `else if`
 abbrev pub branch_of : Branch → Otherwise
 branch_of b = if_branch b.at (view b.test) (view b.then)
 
@@ -68,6 +70,7 @@ dot_enclosed d ts = expect key.Dot ts >>= λ r. enclosed (read_expr d) d r
 abbrev pub operand_of : Word × Source → Tok × Expr × Bool
 operand_of x = (view_tok x.0, view x.1, true)
 
+-- an expression behind a `,` behind which more was read
 abbrev pub comma_of : Source → Tok × Expr × Bool
 comma_of e = (fixed key.Comma, view e, true)
 
