@@ -2,3 +2,6 @@ pub mod LongerMod
 pub mod FoundMod
 pub mod ReachMod
 pub mod LawsMod
+mod Rows
+mod ItemTurns
+mod Whole

@@ -1,2 +1,4 @@
 pub mod ModReading
+pub mod Parts
+pub mod Reads
 pub mod Whole

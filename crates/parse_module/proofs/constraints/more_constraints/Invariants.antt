@@ -1,0 +1,13 @@
+use Rattle.std.proofs.Common.{◌≡◌, ◌-◌, ◌∷◌, [], List, Some, None, map, refl, ap, ◌∙◌}
+use Rattle.ml_syntax.specs.Tree.{Constraint}
+use Rattle.ml_syntax.specs.View.{view_constraint}
+use Rattle.parse_module.specs.ModReading.{next_constraint}
+use Rattle.parse_base.specs.Steps.{many, always}
+use Rattle.parse_base.specs.Gives.{from}
+use Rattle.parse_base.proofs.Turns.{Left}
+use Rattle.parse_module.proofs.constraints.more_constraints.Given as goal
+
+abbrev pub invariant-loop-turn : goal.invariant-loop-turn
+invariant-loop-turn l =
+    let part = next_constraint in
+    Left [] ◌∷◌ always part (map view_constraint l.found.items) (l.depth - l._turn) (from l.tokens l.at) (many [] ◌∷◌ always part l.depth (from l.tokens l.fn.at))

@@ -1,0 +1,10 @@
+use Rattle.std.proofs.Common.{◌≡◌, ◌-◌, List, Bool, true, Some, None, map, refl, ap, ◌∙◌}
+use Rattle.ml_syntax.specs.Tree as pure
+use Rattle.ml_syntax.specs.View.{view_item}
+use Rattle.parse_base.specs.Gives.{from}
+use Rattle.parse_module.specs.ModReading.{read_mod, read_type, items_of, item_of}
+use Rattle.parse_module.proofs.ItemTurns.{LeftItems}
+use Rattle.parse_module.proofs.modules.Modules.items.Given as goal
+
+abbrev pub invariant-loop-turn : goal.invariant-loop-turn
+invariant-loop-turn g l = LeftItems l.self.depth (map view_item l.found.items) (l._turn-end - l._turn) l.fresh (from l.tokens l.at) (items_of (read_mod l.self.depth) (read_type l.self.depth) l.self.depth l.self.depth true (from l.tokens l.fn.at))

@@ -1,0 +1,13 @@
+use Rattle.std.proofs.Common.{◌≡◌, ◌-◌, ◌∷◌, [], List, Some, None, map, refl, ap, ◌∙◌}
+use Rattle.ml_syntax.specs.Tok.{Name}
+use Rattle.ml_syntax.specs.View.{view_word}
+use Rattle.parse_module.specs.ModReading.{text_word}
+use Rattle.parse_base.specs.Steps.{many, always}
+use Rattle.parse_base.specs.Gives.{from}
+use Rattle.parse_base.proofs.Turns.{Left}
+use Rattle.parse_module.proofs.names.more_texts.Given as goal
+
+abbrev pub invariant-loop-turn : goal.invariant-loop-turn
+invariant-loop-turn l =
+    let part = text_word in
+    Left [] ◌∷◌ always part (map view_word l.found.items) (l.depth - l._turn) (from l.tokens l.at) (many [] ◌∷◌ always part l.depth (from l.tokens l.fn.at))

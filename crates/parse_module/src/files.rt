@@ -1,0 +1,114 @@
+//! A file's tokens as its tree.
+
+ghost use Rattle.std.specs.Prelude.{◌≡◌, ◌≢◌, ◌≤◌, ◌+◌, length, Err, None, IfOk};
+ghost use Rattle.ml_syntax.specs.View.{view_file};
+ghost use Rattle.parse_base.specs.Forms.{first_form};
+ghost use Rattle.parse_base.specs.Gives.{from, Gives};
+ghost use Rattle.parse_base.specs.Nesting.{DeepIs};
+ghost use Rattle.parse_base.specs.declared.error.ParseError.TheVariants as refused;
+ghost use Rattle.parse_module.specs.ModReading.{read_body, read_face};
+ghost use Rattle.parse_module.specs.Parts.{read_file};
+ghost use Rattle.parse_module.specs.Whole.{IsTreeOf, HasNoTree, told_form, told_deep};
+
+use crate::modules::Modules;
+use crate::reading::{read_module, read_module_type};
+use ml_syntax::FileTree;
+use parse_base::{MAX_NESTED, ParseError, ReadError, scan_depth, scan_forms};
+use rotor_base::{Memory, Token};
+use std::alloc::Global;
+
+/// What a source is: the body of a unit (`.ml`) or its interface (`.mli`).
+#[derive(Clone, Copy, Debug, PartialEq, Eq)]
+pub enum FileKind {
+    Body,
+    Face,
+}
+
+/// The tree of a body, with the number of its file.
+fn body(alloc: Global, tokens: &[Token<'_>], file: u32) -> Result<FileTree, ReadError>
+    requires { length tokens.now ≤ 1048576 }
+    ensures { Gives view_file result (read_body file (length tokens.now + 1) (from tokens.now 0)) }
+{
+    let readers = Modules {
+        alloc,
+        depth: tokens.len() + 1,
+        levels: MAX_NESTED,
+        modules: read_module,
+        types: read_module_type,
+    };
+    let (items, end) = readers.items(tokens, 0)?;
+    if end < tokens.len() {
+        return Err(ReadError::Syntax);
+    }
+    Ok(FileTree::Body(file, items))
+}
+
+/// The tree of an interface, with the number of its file.
+fn face(alloc: Global, tokens: &[Token<'_>], file: u32) -> Result<FileTree, ReadError>
+    requires { length tokens.now ≤ 1048576 }
+    ensures { Gives view_file result (read_face file (length tokens.now + 1) (from tokens.now 0)) }
+{
+    let readers = Modules {
+        alloc,
+        depth: tokens.len() + 1,
+        levels: MAX_NESTED,
+        modules: read_module,
+        types: read_module_type,
+    };
+    let (items, after) = readers.sig_items(tokens, 0)?;
+    if after < tokens.len() {
+        return Err(ReadError::Syntax);
+    }
+    Ok(FileTree::Face(file, items))
+}
+
+/// The tree of a body or of an interface.
+fn whole(
+    alloc: Global,
+    tokens: &[Token<'_>],
+    file: u32,
+    kind: FileKind,
+) -> Result<FileTree, ReadError>
+    requires { length tokens.now ≤ 1048576 }
+    ensures { Gives view_file result (read_file kind file (length tokens.now + 1) (from tokens.now 0)) }
+{
+    match kind {
+        FileKind::Body => body(alloc, tokens, file),
+        FileKind::Face => face(alloc, tokens, file),
+    }
+}
+
+/// The tree of a whole file (the manual's chapter on compilation units), with the file's number. There are at most
+/// 1,048,576 tokens. The Err is `Form` with the first refused form, or else `Deep` with the first token after which the
+/// nesting is over 256, or else `Syntax` where no file of this kind has these tokens, or `Memory`, which also stands for
+/// a file that nests past the bound on levels.
+pub fn parse_file(
+    alloc: Global,
+    tokens: &[Token<'_>],
+    file: u32,
+    kind: FileKind,
+) -> Result<FileTree, ParseError>
+    requires few { length tokens.now ≤ 1048576 }
+    // It is well-formed, has these words, and no other file of this kind and number has them.
+    ensures found { IfOk result (λ tree. IsTreeOf kind file (from tokens.now 0) (view_file tree)) }
+    // The first refused form is told, and where there is none, none is.
+    ensures form { result ≢ Err refused.Memory → first_form 1 tokens.now ≡ told_form result }
+    // Where there is none, the first token after which the nesting is over 256 is told, or it never is.
+    ensures deep { result ≢ Err refused.Memory → first_form 1 tokens.now ≡ None → DeepIs tokens.now (told_deep result) }
+    // No file of this kind has these words.
+    ensures none { result ≡ Err refused.Syntax → HasNoTree kind file (from tokens.now 0) }
+{
+    if let Some((token, kind)) = scan_forms(tokens) {
+        return Err(ParseError::Form { token, kind });
+    }
+    match scan_depth(alloc, tokens) {
+        Ok(None) => {}
+        Ok(Some(token)) => return Err(ParseError::Deep { token }),
+        Err(Memory) => return Err(ParseError::Memory),
+    }
+    match whole(alloc, tokens, file, kind) {
+        Ok(tree) => Ok(tree),
+        Err(ReadError::Syntax) => Err(ParseError::Syntax),
+        Err(ReadError::Memory) => Err(ParseError::Memory),
+    }
+}

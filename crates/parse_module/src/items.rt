@@ -1,0 +1,198 @@
+//! Items of structures.
+
+ghost use Rattle.std.specs.Prelude.{ℕ, ◌≡◌, ◌≤◌, ◌<◌, ◌+◌, ◌∷◌, true, length, Some};
+ghost use Rattle.ml_syntax.specs.declared.fixed.Fixed.TheVariants as key;
+ghost use Rattle.ml_syntax.specs.Tok.{placed};
+ghost use Rattle.ml_syntax.specs.WellFormed.{is_separator as separates};
+ghost use Rattle.ml_syntax.specs.View as v;
+ghost use Rattle.parse_base.specs.Gives.{from, name_at, Gives};
+ghost use Rattle.parse_module.specs.ModReading as r;
+ghost use Rattle.parse_module.specs.ModReading.{read_mod, read_type};
+ghost use Rattle.parse_module.specs.Parts as p;
+ghost use Rattle.parse_module.specs.Reads.{ReadsModules, ReadsTypes};
+
+use crate::modules::Modules;
+use crate::names::{external, module_name, opened, upper_word};
+use crate::values::{sequence, value_item};
+use ml_syntax::{Fixed, Item, ModExpr, ModType, Open};
+use parse_base::{Kind, ReadError, declaration_run, expect_at, is, kind_at, number};
+use rotor_base::Token;
+use std::alloc::Global;
+
+/// Whether an item is `;;`.
+#[tactic(auto, unfolding(ml_syntax::specs::View::view_mod))]
+fn is_separator(item: &Item) -> bool
+    ensures { result ≡ separates (v.view_item item.now) }
+{
+    match item {
+        Item::Separator => true,
+        _ => false,
+    }
+}
+
+impl<
+    F: Copy + Fn(Global, &[Token<'_>], usize, usize, usize) -> Result<(ModExpr, usize), ReadError>,
+    G: Copy + Fn(Global, &[Token<'_>], usize, usize, usize) -> Result<(ModType, usize), ReadError>,
+> Modules<F, G> {
+    /// After the `module` at `start`: a name, parameters, a module type or none, `=` and a module.
+    #[tactic(auto, using(ml_syntax::proofs::Variants::item_views))]
+    #[inline(never)]
+    fn module_rest(
+        &self,
+        tokens: &[Token<'_>],
+        start: usize,
+        at: usize,
+    ) -> Result<(Item, usize), ReadError>
+        requires modules { ReadsModules self.now.depth (F.pre self.now.modules) (F.post self.now.modules) }
+        requires types { ReadsTypes self.now.depth (G.pre self.now.types) (G.post self.now.types) }
+        requires few { length tokens.now ≤ 1048576 }
+        requires begun { start < length tokens.now }
+        ensures { Gives (λ x. (v.view_item x.0, from tokens.now x.1)) result (r.module_rest (read_mod self.now.depth) (read_type self.now.depth) self.now.depth (start + 1) (from tokens.now at)) }
+    {
+        let (name, at) = module_name(self.alloc, tokens, at)?;
+        let (params, at) = self.functor_params(tokens, at)?;
+        let (signature, at) = self.signature(tokens, at)?;
+        let (equals, at) = expect_at(tokens, Fixed::Equals, at)?;
+        let (body, at) = self.sub_module(tokens, at)?;
+        let item = Item::Module {
+            at: number(start),
+            name,
+            params,
+            signature,
+            equals,
+            body,
+        };
+        Ok((item, at))
+    }
+
+    /// After the `module type` at `start`: a name, `=` and a module type.
+    #[tactic(auto, using(ml_syntax::proofs::Variants::item_views))]
+    #[inline(never)]
+    fn module_type_item(
+        &self,
+        tokens: &[Token<'_>],
+        start: usize,
+        at: usize,
+    ) -> Result<(Item, usize), ReadError>
+        requires modules { ReadsModules self.now.depth (F.pre self.now.modules) (F.post self.now.modules) }
+        requires types { ReadsTypes self.now.depth (G.pre self.now.types) (G.post self.now.types) }
+        requires few { length tokens.now ≤ 1048576 }
+        requires begun { start < length tokens.now }
+        ensures { Gives (λ x. (v.view_item x.0, from tokens.now x.1)) result (p.module_type_item self.now.depth (start + 1) (from tokens.now at)) }
+    {
+        let (name, at) = upper_word(self.alloc, tokens, at)?;
+        let (equals, at) = expect_at(tokens, Fixed::Equals, at)?;
+        let (signature, at) = self.sub_type(tokens, at)?;
+        let item = Item::ModuleType {
+            at: number(start),
+            name,
+            equals,
+            signature,
+        };
+        Ok((item, at))
+    }
+
+    /// The item that the `module` at a place begins.
+    #[tactic(auto, using(crate::proofs::Rows::module_items))]
+    #[inline(never)]
+    fn module_item(&self, tokens: &[Token<'_>], at: usize) -> Result<(Item, usize), ReadError>
+        requires modules { ReadsModules self.now.depth (F.pre self.now.modules) (F.post self.now.modules) }
+        requires types { ReadsTypes self.now.depth (G.pre self.now.types) (G.post self.now.types) }
+        requires few { length tokens.now ≤ 1048576 }
+        requires within { at < length tokens.now }
+        ensures { Gives (λ x. (v.view_item x.0, from tokens.now x.1)) result (r.plain_item (read_mod self.now.depth) (read_type self.now.depth) self.now.depth (placed key.Module (at + 1) ∷ from tokens.now (at + 1))) }
+    {
+        if is(tokens, Fixed::Type, at + 1) {
+            return self.module_type_item(tokens, at, at + 2);
+        }
+        self.module_rest(tokens, at, at + 1)
+    }
+
+    /// An item that is no expression.
+    #[tactic(auto, unfolding(crate::specs::ModReading::plain_item), using(ml_syntax::proofs::Variants::item_views))]
+    #[inline(never)]
+    fn plain_item(&self, tokens: &[Token<'_>], at: usize) -> Result<(Item, usize), ReadError>
+        requires modules { ReadsModules self.now.depth (F.pre self.now.modules) (F.post self.now.modules) }
+        requires types { ReadsTypes self.now.depth (G.pre self.now.types) (G.post self.now.types) }
+        requires few { length tokens.now ≤ 1048576 }
+        ensures { Gives (λ x. (v.view_item x.0, from tokens.now x.1)) result (r.plain_item (read_mod self.now.depth) (read_type self.now.depth) self.now.depth (from tokens.now at)) }
+    {
+        match kind_at(tokens, at) {
+            Kind::Fixed(Fixed::Let) => value_item(self.alloc, tokens, self.depth, self.levels, at),
+            Kind::Fixed(Fixed::DoubleSemicolon) => Ok((Item::Separator, at + 1)),
+            Kind::Fixed(Fixed::External) => {
+                let (external, after) = external(self.alloc, tokens, self.depth, at + 1)?;
+                Ok((Item::External(external), after))
+            }
+            Kind::Fixed(Fixed::Type) => {
+                let (run, after) = declaration_run(self.alloc, tokens, at + 1)?;
+                Ok((Item::Type(run), after))
+            }
+            Kind::Fixed(Fixed::Exception) => {
+                let (run, after) = declaration_run(self.alloc, tokens, at + 1)?;
+                let at = number(at);
+                Ok((Item::Exception { at, run }, after))
+            }
+            Kind::Fixed(Fixed::Module) => self.module_item(tokens, at),
+            Kind::Fixed(Fixed::Open) => {
+                let ((bang, path), after) = opened(self.alloc, tokens, self.depth, at + 1)?;
+                let at = number(at);
+                Ok((Item::Open(Open { at, bang, path }), after))
+            }
+            Kind::Fixed(Fixed::Include) => {
+                let (module, after) = self.sub_module(tokens, at + 1)?;
+                let at = number(at);
+                Ok((Item::Include { at, module }, after))
+            }
+            _ => Err(ReadError::Syntax),
+        }
+    }
+
+    /// An item. Where it is `fresh`, an expression may stand, and is tried first.
+    #[tactic(auto, unfolding(crate::specs::ModReading::item_of), using(ml_syntax::proofs::Variants::item_views))]
+    #[inline(never)]
+    fn item(&self, tokens: &[Token<'_>], fresh: bool, at: usize) -> Result<(Item, usize), ReadError>
+        requires modules { ReadsModules self.now.depth (F.pre self.now.modules) (F.post self.now.modules) }
+        requires types { ReadsTypes self.now.depth (G.pre self.now.types) (G.post self.now.types) }
+        requires few { length tokens.now ≤ 1048576 }
+        ensures { Gives (λ x. (v.view_item x.0, from tokens.now x.1)) result (r.item_of (read_mod self.now.depth) (read_type self.now.depth) self.now.depth fresh (from tokens.now at)) }
+    {
+        if !fresh {
+            return self.plain_item(tokens, at);
+        }
+        match sequence(self.alloc, tokens, self.depth, self.levels, at) {
+            Ok((tree, after)) => Ok((Item::Expression(tree), after)),
+            Err(ReadError::Syntax) => self.plain_item(tokens, at),
+            Err(ReadError::Memory) => Err(ReadError::Memory),
+        }
+    }
+
+    /// Items, as long as each can be read whole. An expression may stand first and behind `;;`.
+    #[inline(never)]
+    pub(crate) fn items(
+        &self,
+        tokens: &[Token<'_>],
+        at: usize,
+    ) -> Result<(Vec<Item>, usize), ReadError>
+        requires modules { ReadsModules self.now.depth (F.pre self.now.modules) (F.post self.now.modules) }
+        requires types { ReadsTypes self.now.depth (G.pre self.now.types) (G.post self.now.types) }
+        requires few { length tokens.now ≤ 1048576 }
+        ensures { Gives (λ x. (v.items x.0.items, from tokens.now x.1)) result (Some (r.items_of (read_mod self.now.depth) (read_type self.now.depth) self.now.depth self.now.depth true (from tokens.now at))) }
+    {
+        let mut found = Vec::new(self.alloc);
+        let mut at = at;
+        let mut fresh = true;
+        for _turn in 0..self.depth {
+            match self.item(tokens, fresh, at) {
+                Ok((next, after)) => {
+                    fresh = is_separator(&next);
+                    found.push(next)?;
+                    at = after;
+                }
+                Err(ReadError::Syntax) => return Ok((found, at)),
+                Err(ReadError::Memory) => return Err(ReadError::Memory),
+            }
+        }
+        Ok((found, at))
+    }
+}

@@ -1,0 +1,268 @@
+//! Module expressions.
+
+ghost use Rattle.std.specs.Prelude.{ℕ, ◌≡◌, ◌≤◌, ◌<◌, ◌+◌, true, length, Some};
+ghost use Rattle.ml_syntax.specs.Tree as pure;
+ghost use Rattle.ml_syntax.specs.View as v;
+ghost use Rattle.parse_base.specs.Gives.{from, name_at, Gives};
+ghost use Rattle.parse_module.specs.ModReading as r;
+ghost use Rattle.parse_module.specs.ModReading.{read_mod, read_type};
+ghost use Rattle.parse_base.specs.Steps.{many, always};
+ghost use Rattle.parse_module.specs.Reads.{ReadsModules, ReadsTypes};
+
+use crate::modules::Modules;
+use expr_parts::path;
+use ml_syntax::{Fixed, FunctorParam, ModArgument, ModExpr, ModType};
+use parse_base::{Kind, ReadError, expect, is, kind_at, number};
+use rotor_base::{Class, Token};
+use std::alloc::Global;
+
+/// A module and what is given to it, where anything is.
+#[tactic(auto, using(crate::proofs::Rows::applications, ml_syntax::proofs::Variants::mod_expr_views))]
+#[inline(never)]
+fn grown(
+    alloc: Global,
+    function: ModExpr,
+    arguments: Vec<ModArgument>,
+) -> Result<ModExpr, ReadError>
+    ensures { Gives v.view_mod result (Some (r.grown_mod (v.view_mod function) (v.mod_arguments arguments.items))) }
+{
+    if arguments.len() == 0 {
+        return Ok(function);
+    }
+    let function = Box::new(alloc, function)?;
+    Ok(ModExpr::Apply {
+        function,
+        arguments,
+    })
+}
+
+impl<
+    F: Copy + Fn(Global, &[Token<'_>], usize, usize, usize) -> Result<(ModExpr, usize), ReadError>,
+    G: Copy + Fn(Global, &[Token<'_>], usize, usize, usize) -> Result<(ModType, usize), ReadError>,
+> Modules<F, G> {
+    /// After a module behind the `(` at `start`: a `)`, or `:`, a module type and a `)`.
+    #[tactic(auto, using(ml_syntax::proofs::Variants::mod_expr_views))]
+    #[inline(never)]
+    fn closed(
+        &self,
+        tokens: &[Token<'_>],
+        start: usize,
+        body: ModExpr,
+        at: usize,
+    ) -> Result<(ModExpr, usize), ReadError>
+        requires modules { ReadsModules self.now.depth (F.pre self.now.modules) (F.post self.now.modules) }
+        requires types { ReadsTypes self.now.depth (G.pre self.now.types) (G.post self.now.types) }
+        requires few { length tokens.now ≤ 1048576 }
+        requires begun { start < length tokens.now }
+        ensures { Gives (λ x. (v.view_mod x.0, from tokens.now x.1)) result (r.mod_closed (read_mod self.now.depth) (read_type self.now.depth) self.now.depth (start + 1) (v.view_mod body) (from tokens.now at)) }
+    {
+        match kind_at(tokens, at) {
+            Kind::Fixed(Fixed::RightParen) => {
+                let body = Box::new(self.alloc, body)?;
+                let start = number(start);
+                Ok((ModExpr::Paren { at: start, body }, at + 1))
+            }
+            Kind::Fixed(Fixed::Colon) => {
+                let (signature, at) = self.sub_type(tokens, at + 1)?;
+                let at = expect(tokens, Fixed::RightParen, at)?;
+                let body = Box::new(self.alloc, body)?;
+                let signature = Box::new(self.alloc, signature)?;
+                let sealed = ModExpr::Sealed {
+                    at: number(start),
+                    body,
+                    signature,
+                };
+                Ok((sealed, at))
+            }
+            _ => Err(ReadError::Syntax),
+        }
+    }
+
+    /// A path, a structure, or a module in parentheses.
+    #[tactic(auto, unfolding(crate::specs::ModReading::simple_mod), using(ml_syntax::proofs::Variants::mod_expr_views))]
+    #[inline(never)]
+    fn simple_mod(&self, tokens: &[Token<'_>], at: usize) -> Result<(ModExpr, usize), ReadError>
+        requires modules { ReadsModules self.now.depth (F.pre self.now.modules) (F.post self.now.modules) }
+        requires types { ReadsTypes self.now.depth (G.pre self.now.types) (G.post self.now.types) }
+        requires few { length tokens.now ≤ 1048576 }
+        ensures { Gives (λ x. (v.view_mod x.0, from tokens.now x.1)) result (r.simple_mod (read_mod self.now.depth) (read_type self.now.depth) self.now.depth (from tokens.now at)) }
+    {
+        match kind_at(tokens, at) {
+            Kind::Word(Class::Upper) => {
+                let (path, after) = path(self.alloc, tokens, self.depth, at)?;
+                Ok((ModExpr::ModPath(path), after))
+            }
+            Kind::Fixed(Fixed::Struct) => {
+                let (items, after) = self.items(tokens, at + 1)?;
+                let after = expect(tokens, Fixed::End, after)?;
+                let at = number(at);
+                Ok((ModExpr::Struct { at, items }, after))
+            }
+            Kind::Fixed(Fixed::LeftParen) => {
+                let (body, after) = self.sub_module(tokens, at + 1)?;
+                self.closed(tokens, at, body, after)
+            }
+            _ => Err(ReadError::Syntax),
+        }
+    }
+
+    /// After an argument behind the `(` at `start`: a `)`, or `:`, a module type and a `)`.
+    #[tactic(auto, using(ml_syntax::proofs::Variants::mod_argument_views))]
+    #[inline(never)]
+    fn argument_closed(
+        &self,
+        tokens: &[Token<'_>],
+        start: usize,
+        given: ModExpr,
+        at: usize,
+    ) -> Result<(ModArgument, usize), ReadError>
+        requires modules { ReadsModules self.now.depth (F.pre self.now.modules) (F.post self.now.modules) }
+        requires types { ReadsTypes self.now.depth (G.pre self.now.types) (G.post self.now.types) }
+        requires few { length tokens.now ≤ 1048576 }
+        requires begun { start < length tokens.now }
+        ensures { Gives (λ x. (v.view_mod_argument x.0, from tokens.now x.1)) result (r.argument_closed (read_mod self.now.depth) (read_type self.now.depth) self.now.depth (start + 1) (v.view_mod given) (from tokens.now at)) }
+    {
+        match kind_at(tokens, at) {
+            Kind::Fixed(Fixed::RightParen) => {
+                let open = number(start);
+                Ok((
+                    ModArgument::Given {
+                        open,
+                        module: given,
+                    },
+                    at + 1,
+                ))
+            }
+            Kind::Fixed(Fixed::Colon) => {
+                let (signature, at) = self.sub_type(tokens, at + 1)?;
+                let at = expect(tokens, Fixed::RightParen, at)?;
+                let sealed = ModArgument::SealedModule {
+                    open: number(start),
+                    module: given,
+                    signature,
+                };
+                Ok((sealed, at))
+            }
+            _ => Err(ReadError::Syntax),
+        }
+    }
+
+    /// An argument of a functor.
+    #[tactic(auto, unfolding(crate::specs::ModReading::mod_argument), using(ml_syntax::proofs::Variants::mod_argument_views))]
+    #[inline(never)]
+    fn argument(&self, tokens: &[Token<'_>], at: usize) -> Result<(ModArgument, usize), ReadError>
+        requires modules { ReadsModules self.now.depth (F.pre self.now.modules) (F.post self.now.modules) }
+        requires types { ReadsTypes self.now.depth (G.pre self.now.types) (G.post self.now.types) }
+        requires few { length tokens.now ≤ 1048576 }
+        ensures { Gives (λ x. (v.view_mod_argument x.0, from tokens.now x.1)) result (r.mod_argument (read_mod self.now.depth) (read_type self.now.depth) self.now.depth (from tokens.now at)) }
+    {
+        if !is(tokens, Fixed::LeftParen, at) {
+            return Err(ReadError::Syntax);
+        }
+        if is(tokens, Fixed::RightParen, at + 1) {
+            return Ok((ModArgument::Nothing { open: number(at) }, at + 2));
+        }
+        let (module, after) = self.sub_module(tokens, at + 1)?;
+        self.argument_closed(tokens, at, module, after)
+    }
+
+    /// Arguments, as long as each can be read whole.
+    #[inline(never)]
+    fn arguments(
+        &self,
+        tokens: &[Token<'_>],
+        at: usize,
+    ) -> Result<(Vec<ModArgument>, usize), ReadError>
+        requires modules { ReadsModules self.now.depth (F.pre self.now.modules) (F.post self.now.modules) }
+        requires types { ReadsTypes self.now.depth (G.pre self.now.types) (G.post self.now.types) }
+        requires few { length tokens.now ≤ 1048576 }
+        ensures { Gives (λ x. (v.mod_arguments x.0.items, from tokens.now x.1)) result (Some (many pure.no_mod_argument pure.more_mod_argument always (r.mod_argument (read_mod self.now.depth) (read_type self.now.depth) self.now.depth) self.now.depth (from tokens.now at))) }
+    {
+        let mut found = Vec::new(self.alloc);
+        let mut at = at;
+        for _turn in 0..self.depth {
+            match self.argument(tokens, at) {
+                Ok((next, after)) => {
+                    found.push(next)?;
+                    at = after;
+                }
+                Err(ReadError::Syntax) => return Ok((found, at)),
+                Err(ReadError::Memory) => return Err(ReadError::Memory),
+            }
+        }
+        Ok((found, at))
+    }
+
+    /// A module and the arguments behind it.
+    #[tactic(auto, unfolding(crate::specs::ModReading::mod_apply))]
+    #[inline(never)]
+    pub(crate) fn application(
+        &self,
+        tokens: &[Token<'_>],
+        at: usize,
+    ) -> Result<(ModExpr, usize), ReadError>
+        requires modules { ReadsModules self.now.depth (F.pre self.now.modules) (F.post self.now.modules) }
+        requires types { ReadsTypes self.now.depth (G.pre self.now.types) (G.post self.now.types) }
+        requires few { length tokens.now ≤ 1048576 }
+        ensures { Gives (λ x. (v.view_mod x.0, from tokens.now x.1)) result (r.mod_apply (read_mod self.now.depth) (read_type self.now.depth) self.now.depth (from tokens.now at)) }
+    {
+        let (function, at) = self.simple_mod(tokens, at)?;
+        let (arguments, at) = self.arguments(tokens, at)?;
+        Ok((grown(self.alloc, function, arguments)?, at))
+    }
+
+    /// After the parameters of the `functor` at `start`, of which there is one at least: `->` and a module.
+    #[tactic(auto, using(crate::proofs::Rows::functors, ml_syntax::proofs::Variants::mod_expr_views))]
+    #[inline(never)]
+    fn functor_end(
+        &self,
+        tokens: &[Token<'_>],
+        start: usize,
+        params: Vec<FunctorParam>,
+        at: usize,
+    ) -> Result<(ModExpr, usize), ReadError>
+        requires modules { ReadsModules self.now.depth (F.pre self.now.modules) (F.post self.now.modules) }
+        requires types { ReadsTypes self.now.depth (G.pre self.now.types) (G.post self.now.types) }
+        requires few { length tokens.now ≤ 1048576 }
+        requires begun { start < length tokens.now }
+        ensures { Gives (λ x. (v.view_mod x.0, from tokens.now x.1)) result (r.functor_end (read_mod self.now.depth) (read_type self.now.depth) self.now.depth (start + 1) (v.functor_params params.items) (from tokens.now at)) }
+    {
+        if params.len() == 0 {
+            return Err(ReadError::Syntax);
+        }
+        let at = expect(tokens, Fixed::Arrow, at)?;
+        let (body, at) = self.sub_module(tokens, at)?;
+        let body = Box::new(self.alloc, body)?;
+        let start = number(start);
+        Ok((
+            ModExpr::Functor {
+                at: start,
+                params,
+                body,
+            },
+            at,
+        ))
+    }
+
+    /// A module expression.
+    #[tactic(auto, unfolding(crate::specs::ModReading::mod_expr))]
+    #[inline(never)]
+    pub(crate) fn module(
+        &self,
+        tokens: &[Token<'_>],
+        at: usize,
+    ) -> Result<(ModExpr, usize), ReadError>
+        requires modules { ReadsModules self.now.depth (F.pre self.now.modules) (F.post self.now.modules) }
+        requires types { ReadsTypes self.now.depth (G.pre self.now.types) (G.post self.now.types) }
+        requires few { length tokens.now ≤ 1048576 }
+        ensures { Gives (λ x. (v.view_mod x.0, from tokens.now x.1)) result (r.mod_expr (read_mod self.now.depth) (read_type self.now.depth) self.now.depth (from tokens.now at)) }
+    {
+        match kind_at(tokens, at) {
+            Kind::Fixed(Fixed::Functor) => {
+                let (params, after) = self.functor_params(tokens, at + 1)?;
+                self.functor_end(tokens, at, params, after)
+            }
+            _ => self.application(tokens, at),
+        }
+    }
+}

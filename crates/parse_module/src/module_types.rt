@@ -1,0 +1,245 @@
+//! Module types.
+
+ghost use Rattle.std.specs.Prelude.{ℕ, ◌≡◌, ◌≤◌, ◌<◌, ◌+◌, ◌∷◌, true, length, map, Some};
+ghost use Rattle.ml_syntax.specs.declared.fixed.Fixed.TheVariants as key;
+ghost use Rattle.ml_syntax.specs.Tok.{placed};
+ghost use Rattle.ml_syntax.specs.View as v;
+ghost use Rattle.parse_base.specs.Gives.{from, name_at, Gives};
+ghost use Rattle.parse_module.specs.ModReading as r;
+ghost use Rattle.parse_module.specs.ModReading.{read_mod, read_type};
+ghost use Rattle.parse_module.specs.Parts as p;
+ghost use Rattle.parse_module.specs.Reads.{ReadsModules, ReadsTypes};
+
+use crate::constraints::with_clauses;
+use crate::modules::Modules;
+use expr_parts::path;
+use ml_syntax::{Fixed, FunctorParam, ModExpr, ModType, WithClause};
+use parse_base::{Kind, ReadError, expect, is, kind_at, number};
+use rotor_base::{Class, Token};
+use std::alloc::Global;
+
+impl<
+    F: Copy + Fn(Global, &[Token<'_>], usize, usize, usize) -> Result<(ModExpr, usize), ReadError>,
+    G: Copy + Fn(Global, &[Token<'_>], usize, usize, usize) -> Result<(ModType, usize), ReadError>,
+> Modules<F, G> {
+    /// After the `module type` at `start`: `of` and a module.
+    #[tactic(auto, using(ml_syntax::proofs::Variants::mod_type_views))]
+    #[inline(never)]
+    fn type_of(
+        &self,
+        tokens: &[Token<'_>],
+        start: usize,
+        at: usize,
+    ) -> Result<(ModType, usize), ReadError>
+        requires modules { ReadsModules self.now.depth (F.pre self.now.modules) (F.post self.now.modules) }
+        requires types { ReadsTypes self.now.depth (G.pre self.now.types) (G.post self.now.types) }
+        requires few { length tokens.now ≤ 1048576 }
+        requires begun { start < length tokens.now }
+        ensures { Gives (λ x. (v.view_mod_type x.0, from tokens.now x.1)) result (p.type_of self.now.depth (start + 1) (from tokens.now at)) }
+    {
+        let at = expect(tokens, Fixed::Of, at)?;
+        let (module, at) = self.application(tokens, at)?;
+        let module = Box::new(self.alloc, module)?;
+        let start = number(start);
+        Ok((ModType::TypeOf { at: start, module }, at))
+    }
+
+    /// After the `module` at a place: `type of` and a module.
+    #[tactic(auto, using(crate::proofs::Rows::module_types_of))]
+    #[inline(never)]
+    fn module_type_of(&self, tokens: &[Token<'_>], at: usize) -> Result<(ModType, usize), ReadError>
+        requires modules { ReadsModules self.now.depth (F.pre self.now.modules) (F.post self.now.modules) }
+        requires types { ReadsTypes self.now.depth (G.pre self.now.types) (G.post self.now.types) }
+        requires few { length tokens.now ≤ 1048576 }
+        requires within { at < length tokens.now }
+        ensures { Gives (λ x. (v.view_mod_type x.0, from tokens.now x.1)) result (r.simple_type (read_mod self.now.depth) (read_type self.now.depth) self.now.depth (placed key.Module (at + 1) ∷ from tokens.now (at + 1))) }
+    {
+        if !is(tokens, Fixed::Type, at + 1) {
+            return Err(ReadError::Syntax);
+        }
+        self.type_of(tokens, at, at + 2)
+    }
+
+    /// A path, a signature, `module type of`, or a module type in parentheses.
+    #[tactic(auto, unfolding(crate::specs::ModReading::simple_type), using(ml_syntax::proofs::Variants::mod_type_views))]
+    #[inline(never)]
+    fn simple_type(&self, tokens: &[Token<'_>], at: usize) -> Result<(ModType, usize), ReadError>
+        requires modules { ReadsModules self.now.depth (F.pre self.now.modules) (F.post self.now.modules) }
+        requires types { ReadsTypes self.now.depth (G.pre self.now.types) (G.post self.now.types) }
+        requires few { length tokens.now ≤ 1048576 }
+        ensures { Gives (λ x. (v.view_mod_type x.0, from tokens.now x.1)) result (r.simple_type (read_mod self.now.depth) (read_type self.now.depth) self.now.depth (from tokens.now at)) }
+    {
+        match kind_at(tokens, at) {
+            Kind::Word(Class::Upper) => {
+                let (path, after) = path(self.alloc, tokens, self.depth, at)?;
+                Ok((ModType::TypePath(path), after))
+            }
+            Kind::Fixed(Fixed::Sig) => {
+                let (items, after) = self.sig_items(tokens, at + 1)?;
+                let after = expect(tokens, Fixed::End, after)?;
+                let at = number(at);
+                Ok((ModType::Sig { at, items }, after))
+            }
+            Kind::Fixed(Fixed::Module) => self.module_type_of(tokens, at),
+            Kind::Fixed(Fixed::LeftParen) => {
+                let (body, after) = self.sub_type(tokens, at + 1)?;
+                let after = expect(tokens, Fixed::RightParen, after)?;
+                let body = Box::new(self.alloc, body)?;
+                let at = number(at);
+                Ok((ModType::TypeParen { at, body }, after))
+            }
+            _ => Err(ReadError::Syntax),
+        }
+    }
+
+    /// An arrow and the module type behind it.
+    #[inline(never)]
+    fn arrow(&self, tokens: &[Token<'_>], at: usize) -> Result<(ModType, usize), ReadError>
+        requires modules { ReadsModules self.now.depth (F.pre self.now.modules) (F.post self.now.modules) }
+        requires types { ReadsTypes self.now.depth (G.pre self.now.types) (G.post self.now.types) }
+        requires few { length tokens.now ≤ 1048576 }
+        ensures { Gives (λ x. (v.view_mod_type x.0, from tokens.now x.1)) result (p.arrow self.now.depth (from tokens.now at)) }
+    {
+        let at = expect(tokens, Fixed::Arrow, at)?;
+        self.sub_type(tokens, at)
+    }
+
+    /// A parameter without a name with an arrow behind it, or a module type alone.
+    #[tactic(auto, using(ml_syntax::proofs::Variants::mod_type_views))]
+    #[inline(never)]
+    fn arrow_or(
+        &self,
+        tokens: &[Token<'_>],
+        body: ModType,
+        at: usize,
+    ) -> Result<(ModType, usize), ReadError>
+        requires modules { ReadsModules self.now.depth (F.pre self.now.modules) (F.post self.now.modules) }
+        requires types { ReadsTypes self.now.depth (G.pre self.now.types) (G.post self.now.types) }
+        requires few { length tokens.now ≤ 1048576 }
+        ensures { Gives (λ x. (v.view_mod_type x.0, from tokens.now x.1)) result (Some (r.arrow_or (read_mod self.now.depth) (read_type self.now.depth) self.now.depth (v.view_mod_type body) (from tokens.now at) (p.arrow self.now.depth (from tokens.now at)))) }
+    {
+        match self.arrow(tokens, at) {
+            Ok((result, after)) => {
+                let param = Box::new(self.alloc, body)?;
+                let result = Box::new(self.alloc, result)?;
+                Ok((ModType::Arrow { param, result }, after))
+            }
+            Err(ReadError::Syntax) => Ok((body, at)),
+            Err(ReadError::Memory) => Err(ReadError::Memory),
+        }
+    }
+
+    /// Each `with` behind a module type, which ends at `after`, or, where there is none, an arrow.
+    #[tactic(auto, using(crate::proofs::Rows::withs, ml_syntax::proofs::Variants::mod_type_views))]
+    #[inline(never)]
+    fn with_or(
+        &self,
+        tokens: &[Token<'_>],
+        body: ModType,
+        clauses: Vec<WithClause>,
+        at: usize,
+        after: usize,
+    ) -> Result<(ModType, usize), ReadError>
+        requires modules { ReadsModules self.now.depth (F.pre self.now.modules) (F.post self.now.modules) }
+        requires types { ReadsTypes self.now.depth (G.pre self.now.types) (G.post self.now.types) }
+        requires few { length tokens.now ≤ 1048576 }
+        ensures { Gives (λ x. (v.view_mod_type x.0, from tokens.now x.1)) result (Some (r.with_or (read_mod self.now.depth) (read_type self.now.depth) self.now.depth (v.view_mod_type body) (from tokens.now at) (map v.view_with clauses.items, from tokens.now after))) }
+    {
+        if clauses.len() == 0 {
+            return self.arrow_or(tokens, body, at);
+        }
+        let body = Box::new(self.alloc, body)?;
+        Ok((ModType::With { body, clauses }, after))
+    }
+
+    /// A module type that begins with no parameter that has a name.
+    #[inline(never)]
+    fn with_type(&self, tokens: &[Token<'_>], at: usize) -> Result<(ModType, usize), ReadError>
+        requires modules { ReadsModules self.now.depth (F.pre self.now.modules) (F.post self.now.modules) }
+        requires types { ReadsTypes self.now.depth (G.pre self.now.types) (G.post self.now.types) }
+        requires few { length tokens.now ≤ 1048576 }
+        ensures { Gives (λ x. (v.view_mod_type x.0, from tokens.now x.1)) result (r.with_type (read_mod self.now.depth) (read_type self.now.depth) self.now.depth (from tokens.now at)) }
+    {
+        let (body, at) = self.simple_type(tokens, at)?;
+        let (clauses, after) = with_clauses(self.alloc, tokens, self.depth, at)?;
+        self.with_or(tokens, body, clauses, at, after)
+    }
+
+    /// After the parameters of the `functor` at `start`, of which there is one at least: `->` and a module type.
+    #[tactic(auto, using(crate::proofs::Rows::functor_types, ml_syntax::proofs::Variants::mod_type_views))]
+    #[inline(never)]
+    fn functor_type_end(
+        &self,
+        tokens: &[Token<'_>],
+        start: usize,
+        params: Vec<FunctorParam>,
+        at: usize,
+    ) -> Result<(ModType, usize), ReadError>
+        requires modules { ReadsModules self.now.depth (F.pre self.now.modules) (F.post self.now.modules) }
+        requires types { ReadsTypes self.now.depth (G.pre self.now.types) (G.post self.now.types) }
+        requires few { length tokens.now ≤ 1048576 }
+        requires begun { start < length tokens.now }
+        ensures { Gives (λ x. (v.view_mod_type x.0, from tokens.now x.1)) result (r.functor_type_end (read_mod self.now.depth) (read_type self.now.depth) self.now.depth (start + 1) (v.functor_params params.items) (from tokens.now at)) }
+    {
+        if params.len() == 0 {
+            return Err(ReadError::Syntax);
+        }
+        let at = expect(tokens, Fixed::Arrow, at)?;
+        let (result, at) = self.sub_type(tokens, at)?;
+        let result = Box::new(self.alloc, result)?;
+        let start = number(start);
+        Ok((
+            ModType::FunctorType {
+                at: start,
+                params,
+                result,
+            },
+            at,
+        ))
+    }
+
+    /// Behind a parameter: an arrow and a module type.
+    #[tactic(auto, using(ml_syntax::proofs::Variants::mod_type_views))]
+    #[inline(never)]
+    fn param_arrow(
+        &self,
+        tokens: &[Token<'_>],
+        param: FunctorParam,
+        at: usize,
+    ) -> Result<(ModType, usize), ReadError>
+        requires modules { ReadsModules self.now.depth (F.pre self.now.modules) (F.post self.now.modules) }
+        requires types { ReadsTypes self.now.depth (G.pre self.now.types) (G.post self.now.types) }
+        requires few { length tokens.now ≤ 1048576 }
+        ensures { Gives (λ x. (v.view_mod_type x.0, from tokens.now x.1)) result (p.param_arrow self.now.depth (v.view_functor_param param) (from tokens.now at)) }
+    {
+        let at = expect(tokens, Fixed::Arrow, at)?;
+        let (result, at) = self.sub_type(tokens, at)?;
+        let param = Box::new(self.alloc, param)?;
+        let result = Box::new(self.alloc, result)?;
+        Ok((ModType::ParamArrow { param, result }, at))
+    }
+
+    /// A module type.
+    #[tactic(auto, using(crate::proofs::Rows::module_types))]
+    #[inline(never)]
+    pub(crate) fn module_type(
+        &self,
+        tokens: &[Token<'_>],
+        at: usize,
+    ) -> Result<(ModType, usize), ReadError>
+        requires modules { ReadsModules self.now.depth (F.pre self.now.modules) (F.post self.now.modules) }
+        requires types { ReadsTypes self.now.depth (G.pre self.now.types) (G.post self.now.types) }
+        requires few { length tokens.now ≤ 1048576 }
+        ensures { Gives (λ x. (v.view_mod_type x.0, from tokens.now x.1)) result (r.mod_type (read_mod self.now.depth) (read_type self.now.depth) self.now.depth (from tokens.now at)) }
+    {
+        if is(tokens, Fixed::Functor, at) {
+            let (params, after) = self.functor_params(tokens, at + 1)?;
+            return self.functor_type_end(tokens, at, params, after);
+        }
+        match self.functor_param(tokens, at) {
+            Ok((param, after)) => self.param_arrow(tokens, param, after),
+            Err(ReadError::Syntax) => self.with_type(tokens, at),
+            Err(ReadError::Memory) => Err(ReadError::Memory),
+        }
+    }
+}

@@ -1,0 +1,61 @@
+//! What the readers of modules are lent.
+
+ghost use Rattle.std.specs.Prelude.{ℕ, ◌≡◌, ◌≤◌, ◌<◌, ◌+◌, true, length, Some};
+ghost use Rattle.ml_syntax.specs.Tree as pure;
+ghost use Rattle.ml_syntax.specs.View as v;
+ghost use Rattle.parse_base.specs.Gives.{from, name_at, Gives};
+ghost use Rattle.parse_module.specs.ModReading as r;
+ghost use Rattle.parse_module.specs.ModReading.{read_mod, read_type};
+ghost use Rattle.parse_module.specs.Parts as p;
+ghost use Rattle.parse_module.specs.Reads.{ReadsModules, ReadsTypes};
+
+use ml_syntax::{ModExpr, ModType};
+use parse_base::ReadError;
+use rotor_base::Token;
+use std::alloc::Global;
+
+/// What the readers of modules and module types are lent. Each takes the readers of what nests deeper from here, so
+/// that each is proved by itself.
+#[derive(Clone, Copy)]
+pub(crate) struct Modules<F, G> {
+    pub(crate) alloc: Global,
+    /// More than the tokens that are left: how often a reader may go down, or a loop turn.
+    pub(crate) depth: usize,
+    /// How many levels may still nest.
+    pub(crate) levels: usize,
+    pub(crate) modules: F,
+    pub(crate) types: G,
+}
+
+impl<
+    F: Copy + Fn(Global, &[Token<'_>], usize, usize, usize) -> Result<(ModExpr, usize), ReadError>,
+    G: Copy + Fn(Global, &[Token<'_>], usize, usize, usize) -> Result<(ModType, usize), ReadError>,
+> Modules<F, G> {
+    /// A module expression, read by what is lent.
+    pub(crate) fn sub_module(
+        &self,
+        tokens: &[Token<'_>],
+        at: usize,
+    ) -> Result<(ModExpr, usize), ReadError>
+        requires modules { ReadsModules self.now.depth (F.pre self.now.modules) (F.post self.now.modules) }
+        requires types { ReadsTypes self.now.depth (G.pre self.now.types) (G.post self.now.types) }
+        requires few { length tokens.now ≤ 1048576 }
+        ensures { Gives (λ x. (v.view_mod x.0, from tokens.now x.1)) result (read_mod self.now.depth (from tokens.now at)) }
+    {
+        (self.modules)(self.alloc, tokens, self.depth, self.levels, at)
+    }
+
+    /// A module type, read by what is lent.
+    pub(crate) fn sub_type(
+        &self,
+        tokens: &[Token<'_>],
+        at: usize,
+    ) -> Result<(ModType, usize), ReadError>
+        requires modules { ReadsModules self.now.depth (F.pre self.now.modules) (F.post self.now.modules) }
+        requires types { ReadsTypes self.now.depth (G.pre self.now.types) (G.post self.now.types) }
+        requires few { length tokens.now ≤ 1048576 }
+        ensures { Gives (λ x. (v.view_mod_type x.0, from tokens.now x.1)) result (read_type self.now.depth (from tokens.now at)) }
+    {
+        (self.types)(self.alloc, tokens, self.depth, self.levels, at)
+    }
+}

@@ -1,0 +1,70 @@
+//! The knot of the readers.
+
+ghost use Rattle.std.specs.Prelude.{◌≡◌, ◌≤◌, length};
+ghost use Rattle.ml_syntax.specs.View as v;
+ghost use Rattle.parse_base.specs.Gives.{from, Gives};
+ghost use Rattle.parse_module.specs.ModReading.{read_mod, read_type};
+
+use crate::modules::Modules;
+use ml_syntax::{ModExpr, ModType};
+use parse_base::ReadError;
+use rotor_base::Token;
+use std::alloc::Global;
+
+/// A module expression, nested at most so deep and over at most so many levels, and the place after it.
+#[cycle(modules)]
+#[tactic(auto, unfolding(crate::specs::ModReading::read_mod))]
+pub(crate) fn read_module(
+    alloc: Global,
+    tokens: &[Token<'_>],
+    depth: usize,
+    levels: usize,
+    at: usize,
+) -> Result<(ModExpr, usize), ReadError>
+    requires { length tokens.now ≤ 1048576 }
+    ensures { Gives (λ x. (v.view_mod x.0, from tokens.now x.1)) result (read_mod depth (from tokens.now at)) }
+{
+    if depth == 0 {
+        return Err(ReadError::Syntax);
+    }
+    if levels == 0 {
+        return Err(ReadError::Memory);
+    }
+    let readers = Modules {
+        alloc,
+        depth: depth - 1,
+        levels: levels - 1,
+        modules: read_module,
+        types: read_module_type,
+    };
+    readers.module(tokens, at)
+}
+
+/// A module type, the same.
+#[cycle(modules)]
+#[tactic(auto, unfolding(crate::specs::ModReading::read_type))]
+pub(crate) fn read_module_type(
+    alloc: Global,
+    tokens: &[Token<'_>],
+    depth: usize,
+    levels: usize,
+    at: usize,
+) -> Result<(ModType, usize), ReadError>
+    requires { length tokens.now ≤ 1048576 }
+    ensures { Gives (λ x. (v.view_mod_type x.0, from tokens.now x.1)) result (read_type depth (from tokens.now at)) }
+{
+    if depth == 0 {
+        return Err(ReadError::Syntax);
+    }
+    if levels == 0 {
+        return Err(ReadError::Memory);
+    }
+    let readers = Modules {
+        alloc,
+        depth: depth - 1,
+        levels: levels - 1,
+        modules: read_module,
+        types: read_module_type,
+    };
+    readers.module_type(tokens, at)
+}
