@@ -13,6 +13,7 @@ ghost use Rattle.expr_reading.specs.ExprReading.{read_expr};
 ghost use Rattle.expr_forms.specs.Reads.{Nests};
 
 use crate::grammar::Grammar;
+use expr_parts::push_boxed;
 use expr_reading::Wanted;
 use ml_syntax::{Binding, Expr, Fixed, Param, Pat, Run, ValueName};
 use parse_base::{ReadError, expect, expect_at, optional_type, value_name};
@@ -32,6 +33,7 @@ impl<
 > Grammar<F> {
     /// A type or none, `=` and an expression.
     #[tactic(auto, unfolding(expr_reading::specs::ExprReading::bound))]
+    #[inline(never)]
     pub fn bound(
         &self,
         tokens: &[Token<'_>],
@@ -49,6 +51,7 @@ impl<
 
     /// A pattern and what it is bound to.
     #[tactic(auto, using(ml_syntax::proofs::Variants::binding_views))]
+    #[inline(never)]
     pub fn plain_binding(
         &self,
         tokens: &[Token<'_>],
@@ -58,7 +61,7 @@ impl<
         requires few { length tokens.now ≤ 1048576 }
         ensures { Gives (λ x. (view_binding x.0.value, from tokens.now x.1)) result (r.plain_binding (read_expr self.now.depth) self.now.depth (from tokens.now at)) }
     {
-        let (pat, at) = self.pattern(tokens, at)?;
+        let (pat, at) = self.boxed_pattern(tokens, at)?;
         let ((run, equals, value), at) = self.bound(tokens, at)?;
         Ok((plain(self.alloc, pat, run, equals, value)?, at))
     }
@@ -66,6 +69,7 @@ impl<
     /// After a name and the parameters behind it: what it is bound to, or, where there are none, the whole from `start`
     /// with a pattern.
     #[tactic(auto, using(crate::proofs::Lists::bound_names))]
+    #[inline(never)]
     fn named_binding(
         &self,
         tokens: &[Token<'_>],
@@ -87,6 +91,7 @@ impl<
 
     /// A binding.
     #[tactic(auto, unfolding(expr_reading::specs::ExprReading::binding))]
+    #[inline(never)]
     pub fn binding(
         &self,
         tokens: &[Token<'_>],
@@ -107,21 +112,22 @@ impl<
     }
 
     /// The next binding, behind its `and`.
+    #[inline(never)]
     pub fn next_binding(
         &self,
         tokens: &[Token<'_>],
         at: usize,
-    ) -> Result<(Binding, usize), ReadError>
+    ) -> Result<(Box<Binding>, usize), ReadError>
         requires nests { Nests self.now.depth (F.pre self.now.sub) (F.post self.now.sub) }
         requires few { length tokens.now ≤ 1048576 }
-        ensures { Gives (λ x. (view_binding x.0, from tokens.now x.1)) result (r.next_binding (read_expr self.now.depth) self.now.depth (from tokens.now at)) }
+        ensures { Gives (λ x. (view_binding x.0.value, from tokens.now x.1)) result (r.next_binding (read_expr self.now.depth) self.now.depth (from tokens.now at)) }
     {
         let at = expect(tokens, Fixed::And, at)?;
-        let (next, at) = self.binding(tokens, at)?;
-        Ok((Box::into_inner(next), at))
+        self.binding(tokens, at)
     }
 
     /// Further bindings, as long as each can be read whole.
+    #[inline(never)]
     pub fn more_bindings(
         &self,
         tokens: &[Token<'_>],
@@ -136,7 +142,7 @@ impl<
         for _turn in 0..self.depth {
             match self.next_binding(tokens, at) {
                 Ok((next, after)) => {
-                    found.push(next)?;
+                    push_boxed(&mut found, next)?;
                     at = after;
                 }
                 Err(ReadError::Syntax) => return Ok((found, at)),
@@ -148,6 +154,7 @@ impl<
 
     /// Bindings between `and`.
     #[tactic(auto, unfolding(expr_reading::specs::ExprReading::bindings))]
+    #[inline(never)]
     pub fn all_bindings(
         &self,
         tokens: &[Token<'_>],
@@ -165,15 +172,17 @@ impl<
 
 /// A pattern and what it is bound to.
 #[tactic(auto, using(ml_syntax::proofs::Variants::binding_views))]
+#[inline(never)]
 fn plain(
     alloc: Global,
-    pat: Pat,
+    pat: Box<Pat>,
     run: Option<Run>,
     equals: u32,
     value: Box<Expr>,
 ) -> Result<Box<Binding>, ReadError>
-    ensures { Gives (λ b. view_binding b.value) result (Some (pure.PlainBinding (view_pat pat) (view_type run) equals (view value.value))) }
+    ensures { Gives (λ b. view_binding b.value) result (Some (pure.PlainBinding (view_pat pat.value) (view_type run) equals (view value.value))) }
 {
+    let pat = Box::into_inner(pat);
     let value = Box::into_inner(value);
     Ok(Box::new(
         alloc,
@@ -188,6 +197,7 @@ fn plain(
 
 /// A name with parameters and what it is bound to.
 #[tactic(auto, using(ml_syntax::proofs::Variants::binding_views))]
+#[inline(never)]
 fn named(
     alloc: Global,
     name: ValueName,

@@ -41,6 +41,7 @@ impl<
 > Grammar<F> {
     /// A condition, `then` and a branch.
     #[tactic(auto, unfolding(expr_reading::specs::ExprReading::then_branch))]
+    #[inline(never)]
     pub fn then_branch(
         &self,
         tokens: &[Token<'_>],
@@ -58,6 +59,7 @@ impl<
 
     /// An `else` and a branch, or an `else if`.
     #[tactic(auto, unfolding(expr_reading::specs::ExprReading::else_branch))]
+    #[inline(never)]
     pub fn else_branch(
         &self,
         tokens: &[Token<'_>],
@@ -82,6 +84,7 @@ impl<
     }
 
     /// Each `else if`, and the last `else`.
+    #[inline(never)]
     pub fn if_tail(
         &self,
         tokens: &[Token<'_>],
@@ -116,6 +119,7 @@ impl<
     }
 
     /// The same behind a branch, where it can not take them.
+    #[inline(never)]
     pub fn rest_branches(
         &self,
         tokens: &[Token<'_>],
@@ -134,6 +138,7 @@ impl<
 
     /// After the `if` at a place.
     #[tactic(auto, unfolding(expr_reading::specs::ExprReading::if_expr), using(ml_syntax::proofs::Variants::expr_views))]
+    #[inline(never)]
     pub fn if_expr(&self, tokens: &[Token<'_>], at: usize) -> Result<(Box<Expr>, usize), ReadError>
         requires nests { Nests self.now.depth (F.pre self.now.sub) (F.post self.now.sub) }
         requires few { length tokens.now ≤ 1048576 }

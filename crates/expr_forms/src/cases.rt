@@ -13,9 +13,9 @@ ghost use Rattle.expr_reading.specs.ExprReading.{read_expr};
 ghost use Rattle.expr_forms.specs.Reads.{Nests};
 
 use crate::grammar::Grammar;
-use expr_parts::{Edge, first_bar, on_edge};
+use expr_parts::{Edge, first_bar, on_edge, push_boxed};
 use expr_reading::Wanted;
-use ml_syntax::{Case, Expr, Fixed};
+use ml_syntax::{Case, Expr, Fixed, Pat};
 use parse_base::{Kind, ReadError, expect, kind_at, number};
 use rotor_base::Token;
 use std::alloc::Global;
@@ -32,6 +32,7 @@ impl<
         ) -> Result<(Box<Expr>, usize), ReadError>,
 > Grammar<F> {
     /// A `when` and a guard, or none.
+    #[inline(never)]
     pub fn guard(
         &self,
         tokens: &[Token<'_>],
@@ -52,29 +53,36 @@ impl<
 
     /// A case.
     #[tactic(auto, unfolding(expr_reading::specs::ExprReading::one_case))]
-    pub fn case(&self, tokens: &[Token<'_>], at: usize) -> Result<(Case, usize), ReadError>
+    #[inline(never)]
+    pub fn case(&self, tokens: &[Token<'_>], at: usize) -> Result<(Box<Case>, usize), ReadError>
         requires nests { Nests self.now.depth (F.pre self.now.sub) (F.post self.now.sub) }
         requires few { length tokens.now ≤ 1048576 }
-        ensures { Gives (λ x. (view_case x.0, from tokens.now x.1)) result (r.one_case (read_expr self.now.depth) self.now.depth (from tokens.now at)) }
+        ensures { Gives (λ x. (view_case x.0.value, from tokens.now x.1)) result (r.one_case (read_expr self.now.depth) self.now.depth (from tokens.now at)) }
     {
-        let (pat, at) = self.pattern(tokens, at)?;
+        let (pat, at) = self.boxed_pattern(tokens, at)?;
         let (guard, at) = self.guard(tokens, at)?;
         let at = expect(tokens, Fixed::Arrow, at)?;
-        let (body, at) = self.value(tokens, Wanted::Sequence, at)?;
-        Ok((Case { pat, guard, body }, at))
+        let (body, at) = self.sub(tokens, Wanted::Sequence, at)?;
+        Ok((case_of(self.alloc, pat, guard, body)?, at))
     }
 
     /// The next case, behind its `|`.
-    pub fn next_case(&self, tokens: &[Token<'_>], at: usize) -> Result<(Case, usize), ReadError>
+    #[inline(never)]
+    pub fn next_case(
+        &self,
+        tokens: &[Token<'_>],
+        at: usize,
+    ) -> Result<(Box<Case>, usize), ReadError>
         requires nests { Nests self.now.depth (F.pre self.now.sub) (F.post self.now.sub) }
         requires few { length tokens.now ≤ 1048576 }
-        ensures { Gives (λ x. (view_case x.0, from tokens.now x.1)) result (r.next_case (read_expr self.now.depth) self.now.depth (from tokens.now at)) }
+        ensures { Gives (λ x. (view_case x.0.value, from tokens.now x.1)) result (r.next_case (read_expr self.now.depth) self.now.depth (from tokens.now at)) }
     {
         let at = expect(tokens, Fixed::Bar, at)?;
         self.case(tokens, at)
     }
 
     /// Further cases, as long as each can be read whole and none of the last one could take them.
+    #[inline(never)]
     pub fn more_cases(
         &self,
         tokens: &[Token<'_>],
@@ -89,8 +97,8 @@ impl<
         for _turn in 0..self.depth {
             match self.next_case(tokens, at) {
                 Ok((next, after)) => {
-                    let goes_on = !on_edge(Edge::Cases, &next.body);
-                    found.push(next)?;
+                    let goes_on = ends_case(&next);
+                    push_boxed(&mut found, next)?;
                     at = after;
                     if !goes_on {
                         return Ok((found, at));
@@ -104,6 +112,7 @@ impl<
     }
 
     /// The cases behind the first, where it can not take them.
+    #[inline(never)]
     pub fn rest_cases(
         &self,
         tokens: &[Token<'_>],
@@ -122,14 +131,15 @@ impl<
 
     /// Cases between `|`, and whether one stands before the first.
     #[tactic(auto, unfolding(expr_reading::specs::ExprReading::all_cases))]
+    #[inline(never)]
     pub fn all_cases(
         &self,
         tokens: &[Token<'_>],
         at: usize,
-    ) -> Result<((bool, Case, Vec<Case>), usize), ReadError>
+    ) -> Result<((bool, Box<Case>, Vec<Case>), usize), ReadError>
         requires nests { Nests self.now.depth (F.pre self.now.sub) (F.post self.now.sub) }
         requires few { length tokens.now ≤ 1048576 }
-        ensures { (grown : Bool → pure.Case → pure.Cases → pure.Expr) → Gives (λ x. (grown x.0.0 (view_case x.0.1) (cases x.0.2.items), from tokens.now x.1)) result (r.all_cases (read_expr self.now.depth) self.now.depth grown (from tokens.now at)) }
+        ensures { (grown : Bool → pure.Case → pure.Cases → pure.Expr) → Gives (λ x. (grown x.0.0 (view_case x.0.1.value) (cases x.0.2.items), from tokens.now x.1)) result (r.all_cases (read_expr self.now.depth) self.now.depth grown (from tokens.now at)) }
     {
         let (bar, at) = first_bar(tokens, at);
         let (first, at) = self.case(tokens, at)?;
@@ -139,6 +149,7 @@ impl<
 
     /// After the `function` at a place.
     #[tactic(auto, using(ml_syntax::proofs::Variants::expr_views))]
+    #[inline(never)]
     pub fn function_expr(
         &self,
         tokens: &[Token<'_>],
@@ -156,7 +167,7 @@ impl<
                 Expr::Function {
                     at: number(at),
                     bar,
-                    first: Box::new(self.alloc, first)?,
+                    first,
                     rest,
                 },
             )?,
@@ -166,6 +177,7 @@ impl<
 
     /// After the `match` at a place.
     #[tactic(auto, unfolding(expr_reading::specs::ExprReading::match_expr), using(ml_syntax::proofs::Variants::expr_views))]
+    #[inline(never)]
     pub fn match_expr(
         &self,
         tokens: &[Token<'_>],
@@ -186,7 +198,7 @@ impl<
                     at: number(at),
                     subject,
                     bar,
-                    first: Box::new(self.alloc, first)?,
+                    first,
                     rest,
                 },
             )?,
@@ -196,6 +208,7 @@ impl<
 
     /// After the `try` at a place.
     #[tactic(auto, unfolding(expr_reading::specs::ExprReading::match_expr), using(ml_syntax::proofs::Variants::expr_views))]
+    #[inline(never)]
     pub fn try_expr(&self, tokens: &[Token<'_>], at: usize) -> Result<(Box<Expr>, usize), ReadError>
         requires nests { Nests self.now.depth (F.pre self.now.sub) (F.post self.now.sub) }
         requires few { length tokens.now ≤ 1048576 }
@@ -212,11 +225,34 @@ impl<
                     at: number(at),
                     subject,
                     bar,
-                    first: Box::new(self.alloc, first)?,
+                    first,
                     rest,
                 },
             )?,
             after,
         ))
     }
+}
+
+/// A case.
+#[inline(never)]
+fn case_of(
+    alloc: Global,
+    pat: Box<Pat>,
+    guard: Option<Box<Expr>>,
+    body: Box<Expr>,
+) -> Result<Box<Case>, ReadError>
+    ensures { Gives (λ c. view_case c.value) result (Some (pure.CaseOf (view_pat pat.value) (maybe guard) (view body.value))) }
+{
+    let pat = Box::into_inner(pat);
+    let body = Box::into_inner(body);
+    Ok(Box::new(alloc, Case { pat, guard, body })?)
+}
+
+/// Whether a further case may follow.
+#[inline(never)]
+fn ends_case(case: &Case) -> bool
+    ensures { result ≡ r.no_cases (view_case case.now) }
+{
+    !on_edge(Edge::Cases, &case.body)
 }

@@ -34,6 +34,7 @@ impl<
 > Grammar<F> {
     /// The bindings and the body of the `let` at `start`.
     #[tactic(auto, unfolding(expr_reading::specs::ExprReading::let_values), using(ml_syntax::proofs::Variants::expr_views))]
+    #[inline(never)]
     pub fn let_values(
         &self,
         tokens: &[Token<'_>],
@@ -62,6 +63,7 @@ impl<
 
     /// After the `let open` at `start`.
     #[tactic(auto, unfolding(expr_reading::specs::ExprReading::let_open), using(ml_syntax::proofs::Variants::expr_views))]
+    #[inline(never)]
     pub fn let_open(
         &self,
         tokens: &[Token<'_>],
@@ -94,6 +96,7 @@ impl<
 
     /// After the `=` behind the name of a module that is bound at `start`.
     #[tactic(auto, using(ml_syntax::proofs::Variants::expr_views))]
+    #[inline(never)]
     fn module_in(
         &self,
         tokens: &[Token<'_>],
@@ -124,6 +127,7 @@ impl<
     }
 
     /// After the name of a module that is bound at `start`.
+    #[inline(never)]
     fn module_named(
         &self,
         tokens: &[Token<'_>],
@@ -144,6 +148,7 @@ impl<
 
     /// After the `let module` at `start`.
     #[tactic(auto, using(crate::proofs::Lists::module_by))]
+    #[inline(never)]
     fn let_module(
         &self,
         tokens: &[Token<'_>],
@@ -161,6 +166,7 @@ impl<
 
     /// After the `let` at a place.
     #[tactic(auto, unfolding(expr_reading::specs::ExprReading::let_expr))]
+    #[inline(never)]
     pub fn let_expr(&self, tokens: &[Token<'_>], at: usize) -> Result<(Box<Expr>, usize), ReadError>
         requires nests { Nests self.now.depth (F.pre self.now.sub) (F.post self.now.sub) }
         requires few { length tokens.now ≤ 1048576 }
@@ -177,6 +183,7 @@ impl<
 
     /// After the parameters of the `fun` at `start`.
     #[tactic(auto, using(crate::proofs::Lists::functions, ml_syntax::proofs::Variants::expr_views))]
+    #[inline(never)]
     fn fun_end(
         &self,
         tokens: &[Token<'_>],
@@ -205,6 +212,7 @@ impl<
 
     /// After the `fun` at a place.
     #[tactic(auto, unfolding(expr_reading::specs::ExprReading::fun_expr))]
+    #[inline(never)]
     pub fn fun_expr(&self, tokens: &[Token<'_>], at: usize) -> Result<(Box<Expr>, usize), ReadError>
         requires nests { Nests self.now.depth (F.pre self.now.sub) (F.post self.now.sub) }
         requires few { length tokens.now ≤ 1048576 }
@@ -217,6 +225,7 @@ impl<
 }
 
 /// A name of class Upper.
+#[inline(never)]
 fn upper_word(alloc: Global, tokens: &[Token<'_>], at: usize) -> Result<(Word, usize), ReadError>
     requires { length tokens.now ≤ 1048576 }
     ensures { Gives (λ x. (view_word x.0, from tokens.now x.1)) result (upper_word (from tokens.now at)) }

@@ -43,6 +43,7 @@ impl<
         ) -> Result<(Box<Expr>, usize), ReadError>,
 > Grammar<F> {
     /// What is wanted at a place, read by what is lent, and the place after it.
+    #[inline(never)]
     pub fn sub(
         &self,
         tokens: &[Token<'_>],
@@ -57,6 +58,7 @@ impl<
     }
 
     /// The same, by value.
+    #[inline(never)]
     pub fn value(
         &self,
         tokens: &[Token<'_>],
@@ -72,6 +74,7 @@ impl<
     }
 
     /// The same readers, one level deeper: an operand is deeper than its operator.
+    #[inline(never)]
     pub fn deeper(&self) -> Result<Grammar<F>, ReadError>
         ensures depth { IfOk result (λ g. g.depth ≡ self.now.depth) }
         ensures sub { IfOk result (λ g. g.sub ≡ self.now.sub) }

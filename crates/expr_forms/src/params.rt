@@ -15,7 +15,7 @@ ghost use Rattle.expr_forms.specs.Forms.{default_end, wrapped_label};
 ghost use Rattle.parse_base.specs.Pieces.{lower_word};
 
 use crate::grammar::Grammar;
-use expr_parts::{has_colon, is_optional};
+use expr_parts::{has_colon, is_optional, push_boxed};
 use expr_reading::Wanted;
 use ml_syntax::{Expr, Fixed, Param, Pat, Run, Word};
 use parse_base::{
@@ -37,102 +37,118 @@ impl<
         ) -> Result<(Box<Expr>, usize), ReadError>,
 > Grammar<F> {
     /// A pattern.
+    #[inline(never)]
     pub fn pattern(&self, tokens: &[Token<'_>], at: usize) -> Result<(Pat, usize), ReadError>
         requires few { length tokens.now ≤ 1048576 }
         ensures { Gives (λ x. (view_pat x.0, from tokens.now x.1)) result (read_pat self.now.depth (from tokens.now at)) }
     {
-        pattern(self.alloc, tokens, self.depth, self.levels, at)
+        pattern(self.alloc, tokens, self.depth, self.levels / 2, at)
+    }
+
+    /// The same, in a box.
+    #[inline(never)]
+    pub fn boxed_pattern(
+        &self,
+        tokens: &[Token<'_>],
+        at: usize,
+    ) -> Result<(Box<Pat>, usize), ReadError>
+        requires few { length tokens.now ≤ 1048576 }
+        ensures { Gives (λ x. (view_pat x.0.value, from tokens.now x.1)) result (read_pat self.now.depth (from tokens.now at)) }
+    {
+        let (pat, at) = self.pattern(tokens, at)?;
+        Ok((Box::new(self.alloc, pat)?, at))
     }
 
     /// A Simple pattern.
-    pub fn simple(&self, tokens: &[Token<'_>], at: usize) -> Result<(Pat, usize), ReadError>
+    #[inline(never)]
+    pub fn simple(&self, tokens: &[Token<'_>], at: usize) -> Result<(Box<Pat>, usize), ReadError>
         requires few { length tokens.now ≤ 1048576 }
-        ensures { Gives (λ x. (view_pat x.0, from tokens.now x.1)) result (r.simple_at self.now.depth (from tokens.now at)) }
+        ensures { Gives (λ x. (view_pat x.0.value, from tokens.now x.1)) result (r.simple_at self.now.depth (from tokens.now at)) }
     {
-        simple_pattern(self.alloc, tokens, self.depth, self.levels, at)
+        let (pat, at) = simple_pattern(self.alloc, tokens, self.depth, self.levels / 2, at)?;
+        Ok((Box::new(self.alloc, pat)?, at))
     }
 
     /// An `=` and an expression.
+    #[inline(never)]
     pub fn equals_value(
         &self,
         tokens: &[Token<'_>],
         at: usize,
-    ) -> Result<((u32, Expr), usize), ReadError>
+    ) -> Result<((u32, Box<Expr>), usize), ReadError>
         requires nests { Nests self.now.depth (F.pre self.now.sub) (F.post self.now.sub) }
         requires few { length tokens.now ≤ 1048576 }
-        ensures { Gives (λ x. (x.0.0, view x.0.1, from tokens.now x.1)) result (r.equals_expr (read_expr self.now.depth) self.now.depth (from tokens.now at)) }
+        ensures { Gives (λ x. (x.0.0, view x.0.1.value, from tokens.now x.1)) result (r.equals_expr (read_expr self.now.depth) self.now.depth (from tokens.now at)) }
     {
         let (equals, at) = expect_at(tokens, Fixed::Equals, at)?;
-        let (value, at) = self.value(tokens, Wanted::Expression, at)?;
+        let (value, at) = self.sub(tokens, Wanted::Expression, at)?;
         Ok(((equals, value), at))
     }
 
     /// After the pattern of a default value and its type.
     #[tactic(auto, using(ml_syntax::proofs::Variants::param_views))]
+    #[inline(never)]
     fn default_end(
         &self,
         tokens: &[Token<'_>],
         label: Word,
         paren: u32,
-        pat: Pat,
+        pat: Box<Pat>,
         run: Option<Run>,
         at: usize,
-    ) -> Result<(Param, usize), ReadError>
+    ) -> Result<(Box<Param>, usize), ReadError>
         requires nests { Nests self.now.depth (F.pre self.now.sub) (F.post self.now.sub) }
         requires few { length tokens.now ≤ 1048576 }
-        ensures { Gives (λ x. (view_param x.0, from tokens.now x.1)) result (default_end self.now.depth (view_word label) paren (view_pat pat) (view_type run) (from tokens.now at)) }
+        ensures { Gives (λ x. (view_param x.0.value, from tokens.now x.1)) result (default_end self.now.depth (view_word label) paren (view_pat pat.value) (view_type run) (from tokens.now at)) }
     {
         let (equals, at) = expect_at(tokens, Fixed::Equals, at)?;
-        let (value, at) = self.value(tokens, Wanted::Expression, at)?;
+        let (value, at) = self.sub(tokens, Wanted::Expression, at)?;
         let at = expect(tokens, Fixed::RightParen, at)?;
-        Ok((
-            Param::Default {
-                label,
-                open: paren,
-                pat,
-                run,
-                equals,
-                value,
-            },
-            at,
-        ))
+        let param = with_default(self.alloc, label, paren, pat, run, equals, value)?;
+        Ok((param, at))
     }
 
     /// After an optional label: in parentheses a pattern, its type or none, and a default value.
     #[tactic(auto, unfolding(expr_reading::specs::ExprReading::default_param))]
+    #[inline(never)]
     pub fn default_param(
         &self,
         tokens: &[Token<'_>],
         label: Word,
         at: usize,
-    ) -> Result<(Param, usize), ReadError>
+    ) -> Result<(Box<Param>, usize), ReadError>
         requires nests { Nests self.now.depth (F.pre self.now.sub) (F.post self.now.sub) }
         requires few { length tokens.now ≤ 1048576 }
-        ensures { Gives (λ x. (view_param x.0, from tokens.now x.1)) result (r.default_param (read_expr self.now.depth) self.now.depth (view_word label) (from tokens.now at)) }
+        ensures { Gives (λ x. (view_param x.0.value, from tokens.now x.1)) result (r.default_param (read_expr self.now.depth) self.now.depth (view_word label) (from tokens.now at)) }
     {
         if !is(tokens, Fixed::LeftParen, at) {
             return Err(ReadError::Syntax);
         }
         let paren = number(at);
-        let (pat, at) = self.pattern(tokens, at + 1)?;
+        let (pat, at) = self.boxed_pattern(tokens, at + 1)?;
         let (run, at) = optional_type(self.alloc, tokens, at)?;
         self.default_end(tokens, label, paren, pat, run, at)
     }
 
     /// The parameter that the label at a place begins.
     #[tactic(auto, using(ml_syntax::proofs::Variants::param_views))]
-    pub fn label_param(&self, tokens: &[Token<'_>], at: usize) -> Result<(Param, usize), ReadError>
+    #[inline(never)]
+    pub fn label_param(
+        &self,
+        tokens: &[Token<'_>],
+        at: usize,
+    ) -> Result<(Box<Param>, usize), ReadError>
         requires nests { Nests self.now.depth (F.pre self.now.sub) (F.post self.now.sub) }
         requires few { length tokens.now ≤ 1048576 }
         requires within { at < length tokens.now }
-        ensures { Gives (λ x. (view_param x.0, from tokens.now x.1)) result (r.label_param (read_expr self.now.depth) self.now.depth (name_at tokens.now at) (from tokens.now (at + 1))) }
+        ensures { Gives (λ x. (view_param x.0.value, from tokens.now x.1)) result (r.label_param (read_expr self.now.depth) self.now.depth (name_at tokens.now at) (from tokens.now (at + 1))) }
     {
         let label = word(self.alloc, tokens, Class::Label, at)?;
         if !has_colon(text(tokens, at)) {
-            return Ok((Param::Label(label), at + 1));
+            return Ok((Box::new(self.alloc, Param::Label(label))?, at + 1));
         }
         match self.simple(tokens, at + 1) {
-            Ok((pat, after)) => Ok((Param::LabelPattern { label, pat }, after)),
+            Ok((pat, after)) => Ok((with_label(self.alloc, label, pat)?, after)),
             Err(ReadError::Syntax) => {
                 if !is_optional(text(tokens, at)) {
                     return Err(ReadError::Syntax);
@@ -146,6 +162,7 @@ impl<
     /// After the label in parentheses and its type. `first` is the place of the `~` or `?`, and `paren` is the number of
     /// the `(`.
     #[tactic(auto, using(ml_syntax::proofs::Variants::param_views))]
+    #[inline(never)]
     fn wrapped_end(
         &self,
         tokens: &[Token<'_>],
@@ -155,42 +172,29 @@ impl<
         name: Word,
         run: Option<Run>,
         at: usize,
-    ) -> Result<(Param, usize), ReadError>
+    ) -> Result<(Box<Param>, usize), ReadError>
         requires nests { Nests self.now.depth (F.pre self.now.sub) (F.post self.now.sub) }
         requires few { length tokens.now ≤ 1048576 }
         requires inside { first < length tokens.now }
-        ensures { Gives (λ x. (view_param x.0, from tokens.now x.1)) result (r.wrapped_end (read_expr self.now.depth) self.now.depth (first + 1) optional paren (view_word name) (view_type run) (from tokens.now at)) }
+        ensures { Gives (λ x. (view_param x.0.value, from tokens.now x.1)) result (r.wrapped_end (read_expr self.now.depth) self.now.depth (first + 1) optional paren (view_word name) (view_type run) (from tokens.now at)) }
     {
         if is(tokens, Fixed::RightParen, at) {
-            let wrapped = Param::Wrapped {
-                at: number(first),
-                optional,
-                open: paren,
-                name,
-                run,
-            };
-            return Ok((wrapped, at + 1));
+            let param = wrapped(self.alloc, number(first), optional, paren, name, run)?;
+            return Ok((param, at + 1));
         }
         if !optional {
             return Err(ReadError::Syntax);
         }
         let (equals, at) = expect_at(tokens, Fixed::Equals, at)?;
-        let (value, at) = self.value(tokens, Wanted::Expression, at)?;
+        let (value, at) = self.sub(tokens, Wanted::Expression, at)?;
         let at = expect(tokens, Fixed::RightParen, at)?;
-        Ok((
-            Param::WrappedDefault {
-                at: number(first),
-                open: paren,
-                name,
-                run,
-                equals,
-                value,
-            },
-            at,
-        ))
+        let first = number(first);
+        let param = wrapped_default(self.alloc, first, paren, name, run, equals, value)?;
+        Ok((param, at))
     }
 
     /// After the `(` behind the `~` or `?` at `first`: a label, its type or none, and a default value or none.
+    #[inline(never)]
     fn wrapped_label(
         &self,
         tokens: &[Token<'_>],
@@ -198,11 +202,11 @@ impl<
         optional: bool,
         paren: u32,
         at: usize,
-    ) -> Result<(Param, usize), ReadError>
+    ) -> Result<(Box<Param>, usize), ReadError>
         requires nests { Nests self.now.depth (F.pre self.now.sub) (F.post self.now.sub) }
         requires few { length tokens.now ≤ 1048576 }
         requires inside { first < length tokens.now }
-        ensures { Gives (λ x. (view_param x.0, from tokens.now x.1)) result (wrapped_label self.now.depth (first + 1) optional paren (from tokens.now at)) }
+        ensures { Gives (λ x. (view_param x.0.value, from tokens.now x.1)) result (wrapped_label self.now.depth (first + 1) optional paren (from tokens.now at)) }
     {
         let (name, at) = lower_word(self.alloc, tokens, at)?;
         let (run, at) = optional_type(self.alloc, tokens, at)?;
@@ -211,22 +215,24 @@ impl<
 
     /// After the `~` or `?` at a place: what stands in parentheses.
     #[tactic(auto, using(crate::proofs::Lists::wrapped_by))]
+    #[inline(never)]
     fn wrapped_param(
         &self,
         tokens: &[Token<'_>],
         optional: bool,
         at: usize,
-    ) -> Result<(Param, usize), ReadError>
+    ) -> Result<(Box<Param>, usize), ReadError>
         requires nests { Nests self.now.depth (F.pre self.now.sub) (F.post self.now.sub) }
         requires few { length tokens.now ≤ 1048576 }
         requires within { at < length tokens.now }
-        ensures { Gives (λ x. (view_param x.0, from tokens.now x.1)) result (r.wrapped_param (read_expr self.now.depth) self.now.depth (at + 1) optional (from tokens.now (at + 1))) }
+        ensures { Gives (λ x. (view_param x.0.value, from tokens.now x.1)) result (r.wrapped_param (read_expr self.now.depth) self.now.depth (at + 1) optional (from tokens.now (at + 1))) }
     {
         let (paren, after) = expect_at(tokens, Fixed::LeftParen, at + 1)?;
         self.wrapped_label(tokens, at, optional, paren, after)
     }
 
     /// Names of types.
+    #[inline(never)]
     pub fn more_types(
         &self,
         tokens: &[Token<'_>],
@@ -253,6 +259,7 @@ impl<
 
     /// After the names of types behind the `(` at `start`.
     #[tactic(auto, using(crate::proofs::Lists::types, ml_syntax::proofs::Variants::param_views))]
+    #[inline(never)]
     fn types_end(
         &self,
         tokens: &[Token<'_>],
@@ -274,22 +281,29 @@ impl<
     }
 
     /// After the `( type` at a place: names of types.
-    pub fn types_param(&self, tokens: &[Token<'_>], at: usize) -> Result<(Param, usize), ReadError>
+    #[inline(never)]
+    pub fn types_param(
+        &self,
+        tokens: &[Token<'_>],
+        at: usize,
+    ) -> Result<(Box<Param>, usize), ReadError>
         requires nests { Nests self.now.depth (F.pre self.now.sub) (F.post self.now.sub) }
         requires few { length tokens.now ≤ 1048576 }
         requires within { at < length tokens.now }
-        ensures { Gives (λ x. (view_param x.0, from tokens.now x.1)) result (r.types_end (read_expr self.now.depth) self.now.depth (at + 1) (many [] ◌∷◌ always lower_word self.now.depth (from tokens.now (at + 2)))) }
+        ensures { Gives (λ x. (view_param x.0.value, from tokens.now x.1)) result (r.types_end (read_expr self.now.depth) self.now.depth (at + 1) (many [] ◌∷◌ always lower_word self.now.depth (from tokens.now (at + 2)))) }
     {
         let (names, after) = self.more_types(tokens, at + 2)?;
-        self.types_end(tokens, at, names, after)
+        let (param, after) = self.types_end(tokens, at, names, after)?;
+        Ok((Box::new(self.alloc, param)?, after))
     }
 
     /// A parameter.
     #[tactic(auto, unfolding(expr_reading::specs::ExprReading::param), using(ml_syntax::proofs::Variants::param_views))]
-    pub fn param(&self, tokens: &[Token<'_>], at: usize) -> Result<(Param, usize), ReadError>
+    #[inline(never)]
+    pub fn param(&self, tokens: &[Token<'_>], at: usize) -> Result<(Box<Param>, usize), ReadError>
         requires nests { Nests self.now.depth (F.pre self.now.sub) (F.post self.now.sub) }
         requires few { length tokens.now ≤ 1048576 }
-        ensures { Gives (λ x. (view_param x.0, from tokens.now x.1)) result (r.param (read_expr self.now.depth) self.now.depth (from tokens.now at)) }
+        ensures { Gives (λ x. (view_param x.0.value, from tokens.now x.1)) result (r.param (read_expr self.now.depth) self.now.depth (from tokens.now at)) }
     {
         match kind_at(tokens, at) {
             Kind::Word(Class::Label) => self.label_param(tokens, at),
@@ -300,16 +314,17 @@ impl<
                     return self.types_param(tokens, at);
                 }
                 let (pat, after) = self.simple(tokens, at)?;
-                Ok((Param::Pattern(pat), after))
+                Ok((pattern_param(self.alloc, pat)?, after))
             }
             _ => {
                 let (pat, after) = self.simple(tokens, at)?;
-                Ok((Param::Pattern(pat), after))
+                Ok((pattern_param(self.alloc, pat)?, after))
             }
         }
     }
 
     /// Further parameters, as long as each can be read whole.
+    #[inline(never)]
     pub fn more_params(
         &self,
         tokens: &[Token<'_>],
@@ -324,7 +339,7 @@ impl<
         for _turn in 0..self.depth {
             match self.param(tokens, at) {
                 Ok((next, after)) => {
-                    found.push(next)?;
+                    push_boxed(&mut found, next)?;
                     at = after;
                 }
                 Err(ReadError::Syntax) => return Ok((found, at)),
@@ -333,4 +348,105 @@ impl<
         }
         Ok((found, at))
     }
+}
+
+/// A pattern as a parameter.
+#[inline(never)]
+#[tactic(auto, using(ml_syntax::proofs::Variants::param_views))]
+fn pattern_param(alloc: Global, pat: Box<Pat>) -> Result<Box<Param>, ReadError>
+    ensures { Gives (λ p. view_param p.value) result (Some (pure.PatternParam (view_pat pat.value))) }
+{
+    Ok(Box::new(alloc, Param::Pattern(Box::into_inner(pat)))?)
+}
+
+/// A label and a pattern.
+#[inline(never)]
+#[tactic(auto, using(ml_syntax::proofs::Variants::param_views))]
+fn with_label(alloc: Global, label: Word, pat: Box<Pat>) -> Result<Box<Param>, ReadError>
+    ensures { Gives (λ p. view_param p.value) result (Some (pure.LabelPattern (view_word label) (view_pat pat.value))) }
+{
+    let pat = Box::into_inner(pat);
+    Ok(Box::new(alloc, Param::LabelPattern { label, pat })?)
+}
+
+/// A label, a pattern, its type or none, and a default value.
+#[inline(never)]
+#[tactic(auto, using(ml_syntax::proofs::Variants::param_views))]
+fn with_default(
+    alloc: Global,
+    label: Word,
+    paren: u32,
+    pat: Box<Pat>,
+    run: Option<Run>,
+    equals: u32,
+    value: Box<Expr>,
+) -> Result<Box<Param>, ReadError>
+    ensures { Gives (λ p. view_param p.value) result (Some (pure.DefaultParam (view_word label) paren (view_pat pat.value) (view_type run) equals (view value.value))) }
+{
+    let pat = Box::into_inner(pat);
+    let value = Box::into_inner(value);
+    Ok(Box::new(
+        alloc,
+        Param::Default {
+            label,
+            open: paren,
+            pat,
+            run,
+            equals,
+            value,
+        },
+    )?)
+}
+
+/// A label in parentheses, and its type or none.
+#[inline(never)]
+#[tactic(auto, using(ml_syntax::proofs::Variants::param_views))]
+fn wrapped(
+    alloc: Global,
+    at: u32,
+    optional: bool,
+    paren: u32,
+    name: Word,
+    run: Option<Run>,
+) -> Result<Box<Param>, ReadError>
+    ensures { Gives (λ p. view_param p.value) result (Some (pure.WrappedParam at optional paren (view_word name) (view_type run))) }
+{
+    Ok(Box::new(
+        alloc,
+        Param::Wrapped {
+            at,
+            optional,
+            open: paren,
+            name,
+            run,
+        },
+    )?)
+}
+
+/// The same with a default value.
+#[inline(never)]
+#[tactic(auto, using(ml_syntax::proofs::Variants::param_views))]
+fn wrapped_default(
+    alloc: Global,
+    at: u32,
+    paren: u32,
+    name: Word,
+    run: Option<Run>,
+    equals: u32,
+    value: Box<Expr>,
+) -> Result<Box<Param>, ReadError>
+    ensures { Gives (λ p. view_param p.value) result (Some (pure.WrappedDefault at paren (view_word name) (view_type run) equals (view value.value))) }
+{
+    let value = Box::into_inner(value);
+    Ok(Box::new(
+        alloc,
+        Param::WrappedDefault {
+            at,
+            open: paren,
+            name,
+            run,
+            equals,
+            value,
+        },
+    )?)
 }

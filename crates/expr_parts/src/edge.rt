@@ -22,6 +22,7 @@ pub enum Edge {
 
 /// Whether it stands on the right edge.
 #[tactic(auto, unfolding(ml_syntax::specs::View::view))]
+#[inline(never)]
 pub fn on_edge(looked_for: Edge, expr: &Expr) -> bool
     ensures { result ≡ on_edge (test_of looked_for) (view expr.now) }
 {
@@ -99,6 +100,7 @@ pub fn on_edge(looked_for: Edge, expr: &Expr) -> bool
 }
 
 /// Whether an operator may follow.
+#[inline(never)]
 pub fn is_calm(expr: &Expr) -> bool
     ensures { result ≡ is_calm (view expr.now) }
 {

@@ -19,6 +19,7 @@ use rotor_base::Token;
 
 /// Whether it is a constructor, alone or behind Prefix words.
 #[tactic(auto, unfolding(ml_syntax::specs::View::view))]
+#[inline(never)]
 pub fn is_constr(expr: &Expr) -> bool
     ensures { result ≡ is_constr (view expr.now) }
 {
@@ -31,6 +32,7 @@ pub fn is_constr(expr: &Expr) -> bool
 
 /// Whether it is a constructor or a tag without an argument.
 #[tactic(auto, unfolding(ml_syntax::specs::View::view))]
+#[inline(never)]
 pub fn is_bare(expr: &Expr) -> bool
     ensures { result ≡ is_bare (view expr.now) }
 {
@@ -39,6 +41,7 @@ pub fn is_bare(expr: &Expr) -> bool
 
 /// Whether it has parts behind it.
 #[tactic(auto, unfolding(ml_syntax::specs::View::view))]
+#[inline(never)]
 pub fn is_postfix(expr: &Expr) -> bool
     ensures { result ≡ is_postfix (view expr.now) }
 {
@@ -49,6 +52,7 @@ pub fn is_postfix(expr: &Expr) -> bool
 }
 
 /// Whether the operator at a place may follow.
+#[inline(never)]
 pub fn goes_on(expr: &Expr, tokens: &[Token<'_>], at: usize) -> bool
     ensures { result ≡ r.goes_on (view expr.now) (from tokens.now at) }
 {
@@ -60,6 +64,7 @@ pub fn goes_on(expr: &Expr, tokens: &[Token<'_>], at: usize) -> bool
 
 /// Whether a `;` may follow a field.
 #[tactic(auto, using(ml_syntax::proofs::Variants::field_views))]
+#[inline(never)]
 pub fn ends_field(field: &Field) -> bool
     ensures { result ≡ r.ends_field (view_field field.now) }
 {
@@ -70,6 +75,7 @@ pub fn ends_field(field: &Field) -> bool
 }
 
 /// The same of the last of some fields.
+#[inline(never)]
 pub fn fields_end(first: &Field, rest: &[Field]) -> bool
     ensures { result ≡ r.ends_field (r.last_field (view_field first.now) (fields rest.now)) }
 {
@@ -80,6 +86,7 @@ pub fn fields_end(first: &Field, rest: &[Field]) -> bool
 }
 
 /// Whether a `;` may follow a row of expressions.
+#[inline(never)]
 pub fn row_ends(first: &Expr, rest: &[Expr]) -> bool
     ensures { result ≡ r.no_form (r.last_of (view first.now) (links rest.now)) }
 {

@@ -10,13 +10,26 @@ ghost use Rattle.parse_base.specs.Gives.{from, name_at, text_at, Gives};
 ghost use Rattle.expr_reading.specs.declared.wanted.Wanted.TheVariants as wanted;
 ghost use Rattle.expr_reading.specs.ExprReading as r;
 ghost use Rattle.expr_reading.specs.ExprReading.{read_expr};
+ghost use Rattle.std.specs.Prelude.{◌++◌, OnOk, IfErr};
+ghost use Rattle.parse_base.specs.declared.error.ReadError.TheVariants as unread;
 
 use ml_syntax::{Argument, Expr, Part, Word};
 use parse_base::ReadError;
 use std::alloc::Global;
 
+/// Adds to a row what a box holds.
+#[inline(never)]
+pub fn push_boxed<T: Drop>(row: &mut Vec<T>, next: Box<T>) -> Result<(), ReadError>
+    ensures items { OnOk result (row.new.items ≡ row.old.items ++ next.value ∷ []) }
+    ensures memory { IfErr result (λ e. e ≡ unread.Memory) }
+{
+    row.push(Box::into_inner(next))?;
+    Ok(())
+}
+
 /// Expressions between `;`, and whether a last `;` stands behind them.
 #[tactic(auto, using(crate::proofs::Rows::grown, ml_syntax::proofs::Variants::expr_views))]
+#[inline(never)]
 pub fn grown_seq(
     alloc: Global,
     first: Box<Expr>,
@@ -33,6 +46,7 @@ pub fn grown_seq(
 
 /// Operands between `:=` or `<-`.
 #[tactic(auto, using(crate::proofs::Rows::grown, ml_syntax::proofs::Variants::expr_views))]
+#[inline(never)]
 pub fn grown_assign(
     alloc: Global,
     first: Box<Expr>,
@@ -48,6 +62,7 @@ pub fn grown_assign(
 
 /// Operands between `,`.
 #[tactic(auto, using(crate::proofs::Rows::grown, ml_syntax::proofs::Variants::expr_views))]
+#[inline(never)]
 pub fn grown_tuple(alloc: Global, first: Box<Expr>, rest: Vec<Expr>) -> Result<Box<Expr>, ReadError>
     ensures { Gives (λ e. view e.value) result (Some (r.grown_chain 4 (view first.value) (commas rest.items))) }
 {
@@ -59,6 +74,7 @@ pub fn grown_tuple(alloc: Global, first: Box<Expr>, rest: Vec<Expr>) -> Result<B
 
 /// Operands between operators of one level.
 #[tactic(auto, using(crate::proofs::Rows::grown, ml_syntax::proofs::Variants::expr_views))]
+#[inline(never)]
 pub fn grown_chain(
     alloc: Global,
     first: Box<Expr>,
@@ -75,6 +91,7 @@ pub fn grown_chain(
 
 /// A function and its arguments.
 #[tactic(auto, using(crate::proofs::Rows::grown, ml_syntax::proofs::Variants::expr_views))]
+#[inline(never)]
 pub fn grown_apply(
     alloc: Global,
     first: Box<Expr>,
@@ -96,6 +113,7 @@ pub fn grown_apply(
 
 /// An expression and the parts behind it.
 #[tactic(auto, using(crate::proofs::Rows::grown, ml_syntax::proofs::Variants::expr_views))]
+#[inline(never)]
 pub fn grown_postfix(
     alloc: Global,
     first: Box<Expr>,

@@ -10,7 +10,9 @@ mod pieces;
 
 pub use edge::{Edge, is_calm, on_edge};
 pub use ends::{ends_field, fields_end, goes_on, is_bare, is_constr, is_postfix, row_ends};
-pub use grown::{grown_apply, grown_assign, grown_chain, grown_postfix, grown_seq, grown_tuple};
+pub use grown::{
+    grown_apply, grown_assign, grown_chain, grown_postfix, grown_seq, grown_tuple, push_boxed,
+};
 pub use local::local_module;
 pub use operators::level_at;
 pub use pieces::{

@@ -22,6 +22,7 @@ use std::alloc::Global;
 /// A module in parentheses, or `()`.
 #[cycle(local)]
 #[tactic(auto, using(crate::proofs::Rows::local_parts_of))]
+#[inline(never)]
 fn local_argument(
     alloc: Global,
     tokens: &[Token<'_>],
@@ -51,6 +52,7 @@ fn local_argument(
 
 /// Arguments, as long as each can be read whole.
 #[cycle(local)]
+#[inline(never)]
 fn local_arguments(
     alloc: Global,
     tokens: &[Token<'_>],
@@ -79,6 +81,7 @@ fn local_arguments(
 /// The module of a `let module`, nested at most so deep and over at most so many levels.
 #[cycle(local)]
 #[tactic(auto, unfolding(expr_reading::specs::ExprReading::read_local, expr_reading::specs::ExprReading::local_module))]
+#[inline(never)]
 pub fn local_module(
     alloc: Global,
     tokens: &[Token<'_>],

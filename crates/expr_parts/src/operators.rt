@@ -18,6 +18,7 @@ use parse_base::{Kind, kind_at, text};
 use rotor_base::{Class, Token};
 
 /// The level of a keyword that is an operator, or 0.
+#[inline(never)]
 fn keyword_level(bytes: &[u8]) -> u32
     ensures { result ≡ keyword_level bytes.now }
 {
@@ -36,6 +37,7 @@ fn keyword_level(bytes: &[u8]) -> u32
 
 /// The level of an operator by its first characters (the manual's chapter on expressions), or 0.
 #[tactic(auto, unfolding(ml_syntax::specs::WellFormed::infix_level))]
+#[inline(never)]
 fn infix_level(bytes: &[u8]) -> u32
     ensures { result ≡ infix_level bytes.now }
 {
@@ -64,6 +66,7 @@ fn infix_level(bytes: &[u8]) -> u32
 }
 
 /// The level of the operator at a place, or 0.
+#[inline(never)]
 pub fn level_at(tokens: &[Token<'_>], at: usize) -> u32
     ensures { result ≡ first_level (from tokens.now at) }
 {

@@ -21,6 +21,7 @@ use rotor_base::{Class, Token};
 use std::alloc::Global;
 
 /// A last `;`, where it may follow, and the place after it.
+#[inline(never)]
 pub fn semicolon_if(tokens: &[Token<'_>], may: bool, at: usize) -> (bool, usize)
     requires few { length tokens.now ≤ 1048576 }
     ensures { (result.0, from tokens.now result.1) ≡ r.semicolon_if may (from tokens.now at) }
@@ -35,6 +36,7 @@ pub fn semicolon_if(tokens: &[Token<'_>], may: bool, at: usize) -> (bool, usize)
 }
 
 /// A `|` that may stand before the first case, and the place after it.
+#[inline(never)]
 pub fn first_bar(tokens: &[Token<'_>], at: usize) -> (bool, usize)
     requires few { length tokens.now ≤ 1048576 }
     ensures { (result.0, from tokens.now result.1) ≡ r.first_bar (from tokens.now at) }
@@ -46,6 +48,7 @@ pub fn first_bar(tokens: &[Token<'_>], at: usize) -> (bool, usize)
 }
 
 /// A `!` that may stand behind `open`.
+#[inline(never)]
 pub fn bang(
     alloc: Global,
     tokens: &[Token<'_>],
@@ -66,6 +69,7 @@ pub fn bang(
 }
 
 /// The path of a module.
+#[inline(never)]
 pub fn path(
     alloc: Global,
     tokens: &[Token<'_>],
@@ -87,6 +91,7 @@ pub fn path(
 }
 
 /// The variable of a `for`.
+#[inline(never)]
 pub fn variable(
     alloc: Global,
     tokens: &[Token<'_>],
@@ -106,6 +111,7 @@ pub fn variable(
 }
 
 /// Whether a `for` counts down.
+#[inline(never)]
 pub fn direction(tokens: &[Token<'_>], at: usize) -> Result<(bool, usize), ReadError>
     requires few { length tokens.now ≤ 1048576 }
     ensures { Gives (λ x. (x.0, from tokens.now x.1)) result (r.for_direction (from tokens.now at)) }
@@ -119,6 +125,7 @@ pub fn direction(tokens: &[Token<'_>], at: usize) -> Result<(bool, usize), ReadE
 
 /// After an expression in parentheses and its type: a `)`, or `:>`, a type and a `)`. `paren` is the place of the `(`.
 #[tactic(auto, using(ml_syntax::proofs::Variants::expr_views))]
+#[inline(never)]
 pub fn typed(
     alloc: Global,
     tokens: &[Token<'_>],
@@ -165,6 +172,7 @@ pub fn typed(
 
 /// After an expression in parentheses: a `)`, or a type and a `)`. `paren` is the place of the `(`.
 #[tactic(auto, using(ml_syntax::proofs::Variants::expr_views))]
+#[inline(never)]
 pub fn closed(
     alloc: Global,
     tokens: &[Token<'_>],
@@ -212,6 +220,7 @@ pub fn closed(
 }
 
 /// Whether words of a class are numbers, characters or texts.
+#[inline(never)]
 pub fn is_literal(class: Class) -> bool
     ensures { result ≡ is_literal class }
 {
@@ -222,6 +231,7 @@ pub fn is_literal(class: Class) -> bool
 }
 
 /// Whether a label ends with a colon.
+#[inline(never)]
 pub fn has_colon(label: &[u8]) -> bool
     ensures { result ≡ has_colon label.now }
 {
@@ -232,6 +242,7 @@ pub fn has_colon(label: &[u8]) -> bool
 }
 
 /// Whether a label begins with `?`.
+#[inline(never)]
 pub fn is_optional(label: &[u8]) -> bool
     ensures { result ≡ is_optional label.now }
 {
@@ -242,6 +253,7 @@ pub fn is_optional(label: &[u8]) -> bool
 }
 
 /// The word that closes a bracket.
+#[inline(never)]
 pub fn closing(bracket: Bracket) -> Fixed
     ensures value { result ≡ closing bracket }
     ensures plain { is_placed result ≡ false }

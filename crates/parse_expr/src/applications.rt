@@ -15,7 +15,7 @@ ghost use Rattle.parse_expr.specs.Parts.{part_after};
 ghost use Rattle.expr_parts.specs.Rows.{given, wrapped_by, with_parts};
 
 use crate::readers::Readers;
-use expr_parts::{grown_apply, grown_postfix, has_colon, is_bare, is_constr};
+use expr_parts::{grown_apply, grown_postfix, has_colon, is_bare, is_constr, push_boxed};
 use expr_reading::Wanted;
 use ml_syntax::{Argument, Expr, Fixed, Part};
 use parse_base::{Kind, ReadError, expect, kind_at, lower_word, number, qualifiers, text, word};
@@ -35,44 +35,52 @@ impl<
 > Readers<F> {
     /// An expression in parentheses or brackets, or the name of a field.
     #[tactic(auto, using(ml_syntax::proofs::Variants::part_views))]
-    fn part_after(&self, tokens: &[Token<'_>], at: usize) -> Result<(Part, usize), ReadError>
+    #[inline(never)]
+    fn part_after(&self, tokens: &[Token<'_>], at: usize) -> Result<(Box<Part>, usize), ReadError>
         requires nests { Nests self.now.grammar.depth (F.pre self.now.grammar.sub) (F.post self.now.grammar.sub) }
         requires few { length tokens.now ≤ 1048576 }
-        ensures { Gives (λ x. (view_part x.0, from tokens.now x.1)) result (part_after self.now.grammar.depth (from tokens.now at)) }
+        ensures { Gives (λ x. (view_part x.0.value, from tokens.now x.1)) result (part_after self.now.grammar.depth (from tokens.now at)) }
     {
         match kind_at(tokens, at) {
             Kind::Fixed(Fixed::LeftParen) => {
                 let open = number(at);
-                let (index, after) = self.grammar.value(tokens, Wanted::Sequence, at + 1)?;
+                let (index, after) = self.grammar.sub(tokens, Wanted::Sequence, at + 1)?;
                 let after = expect(tokens, Fixed::RightParen, after)?;
-                Ok((Part::Index { open, index }, after))
+                Ok((index_part(self.grammar.alloc, open, index)?, after))
             }
             Kind::Fixed(Fixed::LeftBracket) => {
                 let open = number(at);
-                let (index, after) = self.grammar.value(tokens, Wanted::Sequence, at + 1)?;
+                let (index, after) = self.grammar.sub(tokens, Wanted::Sequence, at + 1)?;
                 let after = expect(tokens, Fixed::RightBracket, after)?;
-                Ok((Part::CharIndex { open, index }, after))
+                Ok((char_part(self.grammar.alloc, open, index)?, after))
             }
             _ => {
                 let (path, at) = qualifiers(self.grammar.alloc, tokens, self.grammar.depth, at)?;
                 let (label, at) = lower_word(self.grammar.alloc, tokens, at)?;
-                Ok((Part::Select { path, label }, at))
+                let part = Part::Select { path, label };
+                Ok((Box::new(self.grammar.alloc, part)?, at))
             }
         }
     }
 
     /// A part behind a `.`.
     #[tactic(auto, using(crate::proofs::Lone::part_by))]
-    pub(crate) fn part(&self, tokens: &[Token<'_>], at: usize) -> Result<(Part, usize), ReadError>
+    #[inline(never)]
+    pub(crate) fn part(
+        &self,
+        tokens: &[Token<'_>],
+        at: usize,
+    ) -> Result<(Box<Part>, usize), ReadError>
         requires nests { Nests self.now.grammar.depth (F.pre self.now.grammar.sub) (F.post self.now.grammar.sub) }
         requires few { length tokens.now ≤ 1048576 }
-        ensures { Gives (λ x. (view_part x.0, from tokens.now x.1)) result (r.part_behind (read_expr self.now.grammar.depth) self.now.grammar.depth (from tokens.now at)) }
+        ensures { Gives (λ x. (view_part x.0.value, from tokens.now x.1)) result (r.part_behind (read_expr self.now.grammar.depth) self.now.grammar.depth (from tokens.now at)) }
     {
         let at = expect(tokens, Fixed::Dot, at)?;
         self.part_after(tokens, at)
     }
 
     /// Further parts, as long as each can be read whole.
+    #[inline(never)]
     pub(crate) fn more_parts(
         &self,
         tokens: &[Token<'_>],
@@ -87,7 +95,7 @@ impl<
         for _turn in 0..self.grammar.depth {
             match self.part(tokens, at) {
                 Ok((next, after)) => {
-                    found.push(next)?;
+                    push_boxed(&mut found, next)?;
                     at = after;
                 }
                 Err(ReadError::Syntax) => return Ok((found, at)),
@@ -98,6 +106,7 @@ impl<
     }
 
     /// What stands behind an expression of level 16: the parts, but none behind a constructor.
+    #[inline(never)]
     fn with_parts(
         &self,
         tokens: &[Token<'_>],
@@ -117,6 +126,7 @@ impl<
 
     /// An expression of level 15 or 16.
     #[tactic(auto, unfolding(expr_reading::specs::ExprReading::postfix))]
+    #[inline(never)]
     pub(crate) fn postfix(
         &self,
         tokens: &[Token<'_>],
@@ -131,6 +141,7 @@ impl<
     }
 
     /// What is given to a function.
+    #[inline(never)]
     fn argument_value(&self, tokens: &[Token<'_>], at: usize) -> Result<(Expr, usize), ReadError>
         requires nests { Nests self.now.grammar.depth (F.pre self.now.grammar.sub) (F.post self.now.grammar.sub) }
         requires few { length tokens.now ≤ 1048576 }
@@ -142,6 +153,7 @@ impl<
 
     /// An argument.
     #[tactic(auto, unfolding(expr_reading::specs::ExprReading::argument), using(ml_syntax::proofs::Variants::argument_views))]
+    #[inline(never)]
     pub(crate) fn argument(
         &self,
         tokens: &[Token<'_>],
@@ -168,6 +180,7 @@ impl<
     }
 
     /// Further arguments, as long as each can be read whole.
+    #[inline(never)]
     pub(crate) fn more_arguments(
         &self,
         tokens: &[Token<'_>],
@@ -194,6 +207,7 @@ impl<
 
     /// What it is applied to: a constructor or a tag to one expression at most.
     #[tactic(auto, using(crate::proofs::Lone::constructors))]
+    #[inline(never)]
     pub(crate) fn applied(
         &self,
         tokens: &[Token<'_>],
@@ -220,6 +234,7 @@ impl<
 
     /// An expression of levels 14 to 16.
     #[tactic(auto, unfolding(expr_reading::specs::ExprReading::apply))]
+    #[inline(never)]
     pub(crate) fn application(
         &self,
         tokens: &[Token<'_>],
@@ -241,6 +256,7 @@ impl<
 
     /// After the `assert` at a place.
     #[tactic(auto, using(ml_syntax::proofs::Variants::expr_views))]
+    #[inline(never)]
     fn assertion(&self, tokens: &[Token<'_>], at: usize) -> Result<(Box<Expr>, usize), ReadError>
         requires nests { Nests self.now.grammar.depth (F.pre self.now.grammar.sub) (F.post self.now.grammar.sub) }
         requires few { length tokens.now ≤ 1048576 }
@@ -257,6 +273,7 @@ impl<
 
     /// After the `lazy` at a place.
     #[tactic(auto, using(ml_syntax::proofs::Variants::expr_views))]
+    #[inline(never)]
     fn lazy_value(&self, tokens: &[Token<'_>], at: usize) -> Result<(Box<Expr>, usize), ReadError>
         requires nests { Nests self.now.grammar.depth (F.pre self.now.grammar.sub) (F.post self.now.grammar.sub) }
         requires few { length tokens.now ≤ 1048576 }
@@ -274,6 +291,7 @@ impl<
 
 /// A constructor or a tag with its argument.
 #[tactic(auto, using(crate::proofs::Lone::given_other, ml_syntax::proofs::Variants::expr_views))]
+#[inline(never)]
 fn with_argument(
     alloc: Global,
     head: Box<Expr>,
@@ -286,4 +304,24 @@ fn with_argument(
         Expr::Tag(tag) => Ok(Box::new(alloc, Expr::TagApply { tag, argument })?),
         other => Ok(Box::new(alloc, other)?),
     }
+}
+
+/// An expression in parentheses behind a `.`.
+#[inline(never)]
+#[tactic(auto, using(ml_syntax::proofs::Variants::part_views))]
+fn index_part(alloc: Global, paren: u32, index: Box<Expr>) -> Result<Box<Part>, ReadError>
+    ensures { Gives (λ p. view_part p.value) result (Some (pure.IndexPart paren (view index.value))) }
+{
+    let index = Box::into_inner(index);
+    Ok(Box::new(alloc, Part::Index { open: paren, index })?)
+}
+
+/// An expression in brackets behind a `.`.
+#[inline(never)]
+#[tactic(auto, using(ml_syntax::proofs::Variants::part_views))]
+fn char_part(alloc: Global, paren: u32, index: Box<Expr>) -> Result<Box<Part>, ReadError>
+    ensures { Gives (λ p. view_part p.value) result (Some (pure.CharPart paren (view index.value))) }
+{
+    let index = Box::into_inner(index);
+    Ok(Box::new(alloc, Part::CharIndex { open: paren, index })?)
 }

@@ -37,6 +37,7 @@ impl<
 > Readers<F> {
     /// What may stand behind a module path and a `.` too.
     #[tactic(auto, unfolding(expr_reading::specs::ExprReading::enclosed))]
+    #[inline(never)]
     pub(crate) fn enclosed(
         &self,
         tokens: &[Token<'_>],
@@ -57,6 +58,7 @@ impl<
     }
 
     /// The same behind a `.`.
+    #[inline(never)]
     pub(crate) fn behind_dot(
         &self,
         tokens: &[Token<'_>],
@@ -72,6 +74,7 @@ impl<
 
     /// After the name of a module or constructor at a place.
     #[tactic(auto, unfolding(expr_reading::specs::ExprReading::upper_expr), using(ml_syntax::proofs::Variants::expr_views))]
+    #[inline(never)]
     pub(crate) fn upper(
         &self,
         tokens: &[Token<'_>],
@@ -91,6 +94,7 @@ impl<
     }
 
     /// The path that begins with the name at a place.
+    #[inline(never)]
     pub(crate) fn module_path(
         &self,
         tokens: &[Token<'_>],
@@ -113,6 +117,7 @@ impl<
 
     /// An expression of level 16 without Prefix words.
     #[tactic(auto, unfolding(expr_reading::specs::ExprReading::atom))]
+    #[inline(never)]
     pub(crate) fn atom(
         &self,
         tokens: &[Token<'_>],
@@ -142,6 +147,7 @@ impl<
 
     /// After the Prefix word at a place.
     #[tactic(auto, using(ml_syntax::proofs::Variants::expr_views))]
+    #[inline(never)]
     fn operated(&self, tokens: &[Token<'_>], at: usize) -> Result<(Box<Expr>, usize), ReadError>
         requires nests { Nests self.now.grammar.depth (F.pre self.now.grammar.sub) (F.post self.now.grammar.sub) }
         requires few { length tokens.now ≤ 1048576 }
@@ -158,6 +164,7 @@ impl<
 
     /// An expression of level 16.
     #[tactic(auto, unfolding(expr_reading::specs::ExprReading::prefixed))]
+    #[inline(never)]
     pub(crate) fn prefixed(
         &self,
         tokens: &[Token<'_>],
@@ -176,6 +183,7 @@ impl<
 
 /// The `true` or `false` at a place.
 #[tactic(auto, using(ml_syntax::proofs::Variants::expr_views))]
+#[inline(never)]
 fn boolean(
     alloc: Global,
     tokens: &[Token<'_>],
@@ -193,6 +201,7 @@ fn boolean(
 
 /// The number, character or text at a place.
 #[tactic(auto, using(ml_syntax::proofs::Variants::expr_views))]
+#[inline(never)]
 fn literal(
     alloc: Global,
     tokens: &[Token<'_>],
@@ -209,6 +218,7 @@ fn literal(
 
 /// The tag at a place.
 #[tactic(auto, using(ml_syntax::proofs::Variants::expr_views))]
+#[inline(never)]
 fn tag(alloc: Global, tokens: &[Token<'_>], at: usize) -> Result<(Box<Expr>, usize), ReadError>
     requires within { at < length tokens.now }
     requires few { length tokens.now ≤ 1048576 }
@@ -220,6 +230,7 @@ fn tag(alloc: Global, tokens: &[Token<'_>], at: usize) -> Result<(Box<Expr>, usi
 
 /// The name of a value.
 #[tactic(auto, using(ml_syntax::proofs::Variants::expr_views))]
+#[inline(never)]
 fn value(alloc: Global, tokens: &[Token<'_>], at: usize) -> Result<(Box<Expr>, usize), ReadError>
     requires within { at < length tokens.now }
     requires few { length tokens.now ≤ 1048576 }
@@ -232,6 +243,7 @@ fn value(alloc: Global, tokens: &[Token<'_>], at: usize) -> Result<(Box<Expr>, u
 
 /// A module path, and what stands behind it and a `.`, where it may stand there: else the path is a constructor.
 #[tactic(auto, using(crate::proofs::Lone::qualifications, ml_syntax::proofs::Variants::expr_views))]
+#[inline(never)]
 fn qualified(
     alloc: Global,
     tokens: &[Token<'_>],
@@ -262,6 +274,7 @@ fn qualified(
 
 /// A value of a module.
 #[tactic(auto, using(ml_syntax::proofs::Variants::expr_views))]
+#[inline(never)]
 fn value_of(alloc: Global, path: Path, name: ValueName) -> Result<Box<Expr>, ReadError>
     ensures { Gives (λ e. view e.value) result (Some (pure.Value (view_path path) (view_name name))) }
 {
@@ -271,6 +284,7 @@ fn value_of(alloc: Global, path: Path, name: ValueName) -> Result<Box<Expr>, Rea
 
 /// Whether a module path and a `.` may stand before it.
 #[tactic(auto, unfolding(ml_syntax::specs::View::view))]
+#[inline(never)]
 fn is_bracketed(expr: &Expr) -> bool
     ensures { result ≡ is_bracketed (view expr.now) }
 {

@@ -33,6 +33,7 @@ impl<
         ) -> Result<(Box<Expr>, usize), ReadError>,
 > Readers<F> {
     /// The next item of a list, behind its `;`.
+    #[inline(never)]
     pub(crate) fn next_item(
         &self,
         tokens: &[Token<'_>],
@@ -47,6 +48,7 @@ impl<
     }
 
     /// Further ones, as long as each can be read whole and a `;` may follow the last.
+    #[inline(never)]
     pub(crate) fn more_items(
         &self,
         tokens: &[Token<'_>],
@@ -76,6 +78,7 @@ impl<
     }
 
     /// What stands behind the first: further ones, and whether a last `;` does.
+    #[inline(never)]
     pub(crate) fn rest_of_items(
         &self,
         tokens: &[Token<'_>],
@@ -97,6 +100,7 @@ impl<
 
     /// The items of the list whose bracket is at `start`.
     #[tactic(auto, using(ml_syntax::proofs::Variants::expr_views))]
+    #[inline(never)]
     pub(crate) fn list(
         &self,
         tokens: &[Token<'_>],
@@ -129,6 +133,7 @@ impl<
 
     /// After the `[` or `[|` at a place.
     #[tactic(auto, unfolding(expr_reading::specs::ExprReading::bracket_expr), using(ml_syntax::proofs::Variants::expr_views))]
+    #[inline(never)]
     pub(crate) fn bracketed(
         &self,
         tokens: &[Token<'_>],
@@ -156,6 +161,7 @@ impl<
     }
 
     /// An expression, and what closes the `(` at a place.
+    #[inline(never)]
     pub(crate) fn inner(
         &self,
         tokens: &[Token<'_>],
@@ -172,6 +178,7 @@ impl<
 
     /// After the `(` at a place.
     #[tactic(auto, unfolding(expr_reading::specs::ExprReading::paren_expr), using(ml_syntax::proofs::Variants::expr_views))]
+    #[inline(never)]
     pub(crate) fn parenthesized(
         &self,
         tokens: &[Token<'_>],
@@ -197,6 +204,7 @@ impl<
 
     /// After the `begin` at a place.
     #[tactic(auto, unfolding(expr_reading::specs::ExprReading::begin_expr), using(ml_syntax::proofs::Variants::expr_views))]
+    #[inline(never)]
     pub(crate) fn begin(
         &self,
         tokens: &[Token<'_>],
@@ -229,6 +237,7 @@ impl<
 
     /// After the `while` at a place.
     #[tactic(auto, unfolding(expr_reading::specs::ExprReading::while_expr), using(ml_syntax::proofs::Variants::expr_views))]
+    #[inline(never)]
     pub(crate) fn while_loop(
         &self,
         tokens: &[Token<'_>],
@@ -248,6 +257,7 @@ impl<
 
     /// After the `for` at a place.
     #[tactic(auto, unfolding(expr_reading::specs::ExprReading::for_expr), using(ml_syntax::proofs::Variants::expr_views))]
+    #[inline(never)]
     pub(crate) fn for_loop(
         &self,
         tokens: &[Token<'_>],
@@ -286,6 +296,7 @@ impl<
 
 /// An operator in parentheses, as a value.
 #[tactic(auto, using(ml_syntax::proofs::Variants::expr_views))]
+#[inline(never)]
 fn operator_value(alloc: Global, name: ValueName) -> Result<Box<Expr>, ReadError>
     ensures { Gives (λ e. view e.value) result (Some (pure.Value [] (view_name name))) }
 {
@@ -295,6 +306,7 @@ fn operator_value(alloc: Global, name: ValueName) -> Result<Box<Expr>, ReadError
 
 /// A `while` with its condition and its body.
 #[tactic(auto, using(ml_syntax::proofs::Variants::expr_views))]
+#[inline(never)]
 fn while_do(
     alloc: Global,
     at: u32,

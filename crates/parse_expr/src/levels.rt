@@ -39,6 +39,7 @@ impl<
 > Readers<F> {
     /// The operand of the sign at a place.
     #[tactic(auto, using(ml_syntax::proofs::Variants::expr_views))]
+    #[inline(never)]
     pub(crate) fn minus(
         &self,
         tokens: &[Token<'_>],
@@ -59,6 +60,7 @@ impl<
 
     /// A form of level 1 or 2, or an expression of levels 13 to 16.
     #[tactic(auto, unfolding(expr_reading::specs::ExprReading::unary))]
+    #[inline(never)]
     pub(crate) fn unary(
         &self,
         tokens: &[Token<'_>],
@@ -88,6 +90,7 @@ impl<
     /// An operator and its operand, and whether a further one may follow.
     #[cycle(tier)]
     #[tactic(auto, using(crate::proofs::Operands::operator_by))]
+    #[inline(never)]
     pub(crate) fn next_operand(
         &self,
         tokens: &[Token<'_>],
@@ -107,6 +110,7 @@ impl<
 
     /// Further operands, as long as each can be read whole and may follow.
     #[cycle(tier)]
+    #[inline(never)]
     pub(crate) fn more_operands(
         &self,
         tokens: &[Token<'_>],
@@ -139,6 +143,7 @@ impl<
 
     /// What stands behind an expression of the levels above: the operators of one level, and their operands.
     #[cycle(tier)]
+    #[inline(never)]
     pub(crate) fn grow(
         &self,
         tokens: &[Token<'_>],
@@ -173,6 +178,7 @@ impl<
     /// The levels from 13 less `tier` on.
     #[cycle(tier)]
     #[tactic(auto, using(crate::proofs::Operands::tier_none))]
+    #[inline(never)]
     pub(crate) fn tier(
         &self,
         tokens: &[Token<'_>],
@@ -198,6 +204,7 @@ impl<
     /// The next part of a tuple, behind its `,`, and whether a further one may follow.
     #[cycle(tier)]
     #[tactic(auto, using(crate::proofs::Operands::comma_by))]
+    #[inline(never)]
     pub(crate) fn next_in_tuple(
         &self,
         tokens: &[Token<'_>],
@@ -220,6 +227,7 @@ impl<
 
     /// Further operands, as long as each can be read whole and may follow.
     #[cycle(tier)]
+    #[inline(never)]
     pub(crate) fn more_in_tuple(
         &self,
         tokens: &[Token<'_>],
@@ -249,6 +257,7 @@ impl<
     }
 
     /// An expression of any level.
+    #[inline(never)]
     pub(crate) fn expression(
         &self,
         tokens: &[Token<'_>],
@@ -262,6 +271,7 @@ impl<
     }
 
     /// The next expression of a sequence, behind its `;`.
+    #[inline(never)]
     pub(crate) fn next_step(
         &self,
         tokens: &[Token<'_>],
@@ -277,6 +287,7 @@ impl<
     }
 
     /// Further ones, as long as each can be read whole and a `;` may follow the last.
+    #[inline(never)]
     pub(crate) fn more_steps(
         &self,
         tokens: &[Token<'_>],
@@ -306,6 +317,7 @@ impl<
     }
 
     /// What stands behind the first: further ones, and whether a last `;` does.
+    #[inline(never)]
     pub(crate) fn rest_of_steps(
         &self,
         tokens: &[Token<'_>],
@@ -326,6 +338,7 @@ impl<
     }
 
     /// What stands behind the first expression of a sequence.
+    #[inline(never)]
     fn with_steps(
         &self,
         tokens: &[Token<'_>],
@@ -342,6 +355,7 @@ impl<
 
     /// Expressions between `;`.
     #[tactic(auto, unfolding(expr_reading::specs::ExprReading::seq))]
+    #[inline(never)]
     pub(crate) fn sequence(
         &self,
         tokens: &[Token<'_>],
@@ -358,6 +372,7 @@ impl<
 
 /// The operator of a level at a place.
 #[tactic(auto, using(parse_base::proofs::Places::from_end))]
+#[inline(never)]
 fn operator_word(
     alloc: Global,
     tokens: &[Token<'_>],

@@ -10,5 +10,5 @@ mod readers;
 mod reading;
 mod records;
 
-pub use parse::parse_seq;
+pub use parse::{MAX_DEEPER, parse_seq};
 pub use reading::read;

@@ -13,8 +13,10 @@ use parse_base::{MAX_NESTED, ParseError, ReadError};
 use rotor_base::Token;
 use std::alloc::Global;
 
-/// How often expressions may nest: each level may take 15 KiB of the stack, and this many leave 3 MiB of 8.
-const MAX_DEEPER: usize = MAX_NESTED / 3;
+/// How many levels an expression may have, and how often the readers may nest: 1,000 forms inside one another, with
+/// what stands in the last of them. A level takes at most 6,000 bytes of the stack, to be read and to be dropped, so
+/// this many leave 2 MiB of 8.
+pub const MAX_DEEPER: usize = MAX_NESTED + 8;
 
 /// The longest sequence expression that begins at a token (the manual's chapter on expressions), and the place after
 /// it. Places are counted from 0, and there are at most 1,048,576 tokens. The Err is `Syntax` where no expression

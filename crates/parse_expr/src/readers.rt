@@ -28,6 +28,7 @@ impl<
         ) -> Result<(Box<Expr>, usize), ReadError>,
 > Readers<F> {
     /// The same readers, one level deeper.
+    #[inline(never)]
     pub(crate) fn deeper(&self) -> Result<Readers<F>, ReadError>
         ensures depth { IfOk result (λ r. r.grammar.depth ≡ self.now.grammar.depth) }
         ensures sub { IfOk result (λ r. r.grammar.sub ≡ self.now.grammar.sub) }

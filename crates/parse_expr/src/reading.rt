@@ -14,6 +14,7 @@ ghost use Rattle.expr_forms.specs.Reads.{Nests};
 
 use crate::readers::Readers;
 use expr_forms::Grammar;
+use expr_levels::fits;
 use expr_reading::Wanted;
 use ml_syntax::Expr;
 use parse_base::ReadError;
@@ -22,6 +23,7 @@ use std::alloc::Global;
 
 /// What is wanted at a place, nested at most so deep and over at most so many levels, and the place after it.
 #[tactic(auto, unfolding(expr_reading::specs::ExprReading::read_expr))]
+#[inline(never)]
 pub fn read(
     alloc: Global,
     tokens: &[Token<'_>],
@@ -47,11 +49,49 @@ pub fn read(
             sub: read,
         },
     };
-    match wanted {
-        Wanted::Sequence => readers.sequence(tokens, at),
-        Wanted::Expression => readers.expression(tokens, at),
-        Wanted::Operand => readers.unary(tokens, at),
-        Wanted::Postfix => readers.postfix(tokens, at),
-        Wanted::Prefixed => readers.prefixed(tokens, at),
+    let (tree, end) = readers.read_wanted(tokens, wanted, at)?;
+    if is_too_high(&tree, levels, end.saturating_sub(at)) {
+        return Err(ReadError::Memory);
     }
+    Ok((tree, end))
+}
+
+impl<
+    F: Copy
+        + Fn(
+            Global,
+            &[Token<'_>],
+            usize,
+            usize,
+            Wanted,
+            usize,
+        ) -> Result<(Box<Expr>, usize), ReadError>,
+> Readers<F> {
+    /// What is wanted at a place.
+    #[inline(never)]
+    fn read_wanted(
+        &self,
+        tokens: &[Token<'_>],
+        wanted: Wanted,
+        at: usize,
+    ) -> Result<(Box<Expr>, usize), ReadError>
+        requires nests { Nests self.now.grammar.depth (F.pre self.now.grammar.sub) (F.post self.now.grammar.sub) }
+        requires few { length tokens.now ≤ 1048576 }
+        ensures { Gives (λ x. (view x.0.value, from tokens.now x.1)) result (r.one_of (read_expr self.now.grammar.depth) self.now.grammar.depth wanted (from tokens.now at)) }
+    {
+        match wanted {
+            Wanted::Sequence => self.sequence(tokens, at),
+            Wanted::Expression => self.expression(tokens, at),
+            Wanted::Operand => self.unary(tokens, at),
+            Wanted::Postfix => self.postfix(tokens, at),
+            Wanted::Prefixed => self.prefixed(tokens, at),
+        }
+    }
+}
+
+/// Whether an expression of so many words has more levels than are left where it begins. Each level has a word of its
+/// own, so an expression of few words needs no walk.
+#[inline(never)]
+fn is_too_high(tree: &Expr, levels: usize, words: usize) -> bool {
+    words > levels && !fits(tree, levels)
 }

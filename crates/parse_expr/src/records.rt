@@ -14,9 +14,9 @@ ghost use Rattle.expr_forms.specs.Reads.{Nests};
 ghost use Rattle.expr_parts.specs.Rows.{fields_rest, base_with};
 
 use crate::readers::Readers;
-use expr_parts::{ends_field, fields_end, semicolon_if};
+use expr_parts::{ends_field, fields_end, push_boxed, semicolon_if};
 use expr_reading::Wanted;
-use ml_syntax::{Expr, Field, Fixed};
+use ml_syntax::{Expr, Field, Fixed, Run, Word};
 use parse_base::{ReadError, expect, lower_word, number, optional_type, qualifiers};
 use rotor_base::Token;
 use std::alloc::Global;
@@ -34,45 +34,46 @@ impl<
 > Readers<F> {
     /// A field of a record.
     #[tactic(auto, unfolding(expr_reading::specs::ExprReading::field_expr), using(ml_syntax::proofs::Variants::field_views))]
-    pub(crate) fn field(&self, tokens: &[Token<'_>], at: usize) -> Result<(Field, usize), ReadError>
+    #[inline(never)]
+    pub(crate) fn field(
+        &self,
+        tokens: &[Token<'_>],
+        at: usize,
+    ) -> Result<(Box<Field>, usize), ReadError>
         requires nests { Nests self.now.grammar.depth (F.pre self.now.grammar.sub) (F.post self.now.grammar.sub) }
         requires few { length tokens.now ≤ 1048576 }
-        ensures { Gives (λ x. (view_field x.0, from tokens.now x.1)) result (r.field_expr (read_expr self.now.grammar.depth) self.now.grammar.depth (from tokens.now at)) }
+        ensures { Gives (λ x. (view_field x.0.value, from tokens.now x.1)) result (r.field_expr (read_expr self.now.grammar.depth) self.now.grammar.depth (from tokens.now at)) }
     {
         let (path, at) = qualifiers(self.grammar.alloc, tokens, self.grammar.depth, at)?;
         let (label, at) = lower_word(self.grammar.alloc, tokens, at)?;
         let (run, at) = optional_type(self.grammar.alloc, tokens, at)?;
         match self.grammar.equals_value(tokens, at) {
             Ok(((equals, value), after)) => Ok((
-                Field::Assigned {
-                    path,
-                    label,
-                    run,
-                    equals,
-                    value,
-                },
+                assigned(self.grammar.alloc, path, label, run, equals, value)?,
                 after,
             )),
-            Err(ReadError::Syntax) => Ok((Field::FieldPun { path, label, run }, at)),
+            Err(ReadError::Syntax) => Ok((field_pun(self.grammar.alloc, path, label, run)?, at)),
             Err(ReadError::Memory) => Err(ReadError::Memory),
         }
     }
 
     /// The next field, behind its `;`.
+    #[inline(never)]
     pub(crate) fn next_field(
         &self,
         tokens: &[Token<'_>],
         at: usize,
-    ) -> Result<(Field, usize), ReadError>
+    ) -> Result<(Box<Field>, usize), ReadError>
         requires nests { Nests self.now.grammar.depth (F.pre self.now.grammar.sub) (F.post self.now.grammar.sub) }
         requires few { length tokens.now ≤ 1048576 }
-        ensures { Gives (λ x. (view_field x.0, from tokens.now x.1)) result (r.next_field (read_expr self.now.grammar.depth) self.now.grammar.depth (from tokens.now at)) }
+        ensures { Gives (λ x. (view_field x.0.value, from tokens.now x.1)) result (r.next_field (read_expr self.now.grammar.depth) self.now.grammar.depth (from tokens.now at)) }
     {
         let at = expect(tokens, Fixed::Semicolon, at)?;
         self.field(tokens, at)
     }
 
     /// Further fields, as long as each can be read whole and a `;` may follow the last.
+    #[inline(never)]
     pub(crate) fn more_fields(
         &self,
         tokens: &[Token<'_>],
@@ -88,7 +89,7 @@ impl<
             match self.next_field(tokens, at) {
                 Ok((next, after)) => {
                     let goes_on = ends_field(&next);
-                    found.push(next)?;
+                    push_boxed(&mut found, next)?;
                     at = after;
                     if !goes_on {
                         return Ok((found, at));
@@ -102,6 +103,7 @@ impl<
     }
 
     /// What stands behind the first field: further ones, and whether a last `;` does.
+    #[inline(never)]
     pub(crate) fn rest_of_fields(
         &self,
         tokens: &[Token<'_>],
@@ -122,6 +124,7 @@ impl<
     }
 
     /// An expression and `with`.
+    #[inline(never)]
     pub(crate) fn base_with(
         &self,
         tokens: &[Token<'_>],
@@ -137,6 +140,7 @@ impl<
     }
 
     /// An expression and `with`, or none.
+    #[inline(never)]
     pub(crate) fn base(
         &self,
         tokens: &[Token<'_>],
@@ -155,6 +159,7 @@ impl<
 
     /// After the `{` at a place.
     #[tactic(auto, unfolding(expr_reading::specs::ExprReading::brace_expr), using(ml_syntax::proofs::Variants::expr_views))]
+    #[inline(never)]
     pub(crate) fn record(
         &self,
         tokens: &[Token<'_>],
@@ -169,18 +174,75 @@ impl<
         let (first, after) = self.field(tokens, after)?;
         let ((rest, last), after) = self.rest_of_fields(tokens, &first, after)?;
         let after = expect(tokens, Fixed::RightBrace, after)?;
+        let at = number(at);
         Ok((
-            Box::new(
-                self.grammar.alloc,
-                Expr::Record {
-                    at: number(at),
-                    base,
-                    first: Box::new(self.grammar.alloc, first)?,
-                    rest,
-                    last,
-                },
-            )?,
+            record_of(self.grammar.alloc, at, base, first, rest, last)?,
             after,
         ))
     }
+}
+
+/// A field and its value.
+#[inline(never)]
+#[tactic(auto, using(ml_syntax::proofs::Variants::field_views))]
+fn assigned(
+    alloc: Global,
+    path: Vec<Word>,
+    label: Word,
+    run: Option<Run>,
+    equals: u32,
+    value: Box<Expr>,
+) -> Result<Box<Field>, ReadError>
+    ensures { Gives (λ f. view_field f.value) result (Some (pure.AssignedField (view_words path.items) (view_word label) (view_type run) equals (view value.value))) }
+{
+    let value = Box::into_inner(value);
+    Ok(Box::new(
+        alloc,
+        Field::Assigned {
+            path,
+            label,
+            run,
+            equals,
+            value,
+        },
+    )?)
+}
+
+/// A field without a value.
+#[inline(never)]
+#[tactic(auto, using(ml_syntax::proofs::Variants::field_views))]
+fn field_pun(
+    alloc: Global,
+    path: Vec<Word>,
+    label: Word,
+    run: Option<Run>,
+) -> Result<Box<Field>, ReadError>
+    ensures { Gives (λ f. view_field f.value) result (Some (pure.FieldPun (view_words path.items) (view_word label) (view_type run))) }
+{
+    Ok(Box::new(alloc, Field::FieldPun { path, label, run })?)
+}
+
+/// A record.
+#[inline(never)]
+#[tactic(auto, using(ml_syntax::proofs::Variants::expr_views))]
+fn record_of(
+    alloc: Global,
+    at: u32,
+    base: Option<Box<Expr>>,
+    first: Box<Field>,
+    rest: Vec<Field>,
+    last: bool,
+) -> Result<Box<Expr>, ReadError>
+    ensures { Gives (λ e. view e.value) result (Some (pure.Record at (maybe base) (view_field first.value) (fields rest.items) last)) }
+{
+    Ok(Box::new(
+        alloc,
+        Expr::Record {
+            at,
+            base,
+            first,
+            rest,
+            last,
+        },
+    )?)
 }

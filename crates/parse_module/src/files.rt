@@ -13,7 +13,8 @@ ghost use Rattle.parse_module.specs.Whole.{IsTreeOf, HasNoTree, told_form, told_
 use crate::modules::Modules;
 use crate::reading::{read_module, read_module_type};
 use ml_syntax::FileTree;
-use parse_base::{MAX_NESTED, ParseError, ReadError, scan_depth, scan_forms};
+use parse_base::{ParseError, ReadError, scan_depth, scan_forms};
+use parse_expr::MAX_DEEPER;
 use rotor_base::{Memory, Token};
 use std::alloc::Global;
 
@@ -32,7 +33,7 @@ fn body(alloc: Global, tokens: &[Token<'_>], file: u32) -> Result<FileTree, Read
     let readers = Modules {
         alloc,
         depth: tokens.len() + 1,
-        levels: MAX_NESTED,
+        levels: MAX_DEEPER,
         modules: read_module,
         types: read_module_type,
     };
@@ -51,7 +52,7 @@ fn face(alloc: Global, tokens: &[Token<'_>], file: u32) -> Result<FileTree, Read
     let readers = Modules {
         alloc,
         depth: tokens.len() + 1,
-        levels: MAX_NESTED,
+        levels: MAX_DEEPER,
         modules: read_module,
         types: read_module_type,
     };

@@ -95,50 +95,76 @@ fn expressions(rt: HostRuntime) -> Result<(), Fail> {
     Ok(())
 }
 
-// Forms that nest without a mark of the nesting, at the bound on levels, and past it.
+// Forms that nest, at the bound on levels, and past it.
 #[test]
 fn deep_expressions(rt: HostRuntime) -> Result<(), Fail> {
+    let row = " a ** 1 * 1 + 1 :: 1 @ 1 = 1 && 1 || 1, 1 := 1; 1 )";
     let rows = [
+        ("( ", " )", 1_000, Told::Expression("parentheses", 0, 2_001)),
+        ("( ", " )", 1_010, Told::Memory),
+        ("begin ", " end", 1_000, Told::Expression("begin", 0, 2_001)),
+        ("[ a; ", " ]", 1_000, Told::Expression("list", 1, 4_001)),
+        (
+            "{ b; a = ",
+            " }",
+            1_000,
+            Told::Expression("record", 1, 6_001),
+        ),
+        ("e.( ", " )", 1_000, Told::Expression("postfix", 1, 4_001)),
         (
             "while ",
-            "x",
             " do () done",
-            331,
-            Told::Expression("while", 0, 1656),
-        ),
-        ("while ", "x", " do () done", 333, Told::Memory),
-        ("fun x -> ", "x", "", 331, Told::Expression("fun", 1, 994)),
-        (
-            "let f x = ",
-            "1",
-            " in 1",
-            331,
-            Told::Expression("let", 0, 1987),
+            1_000,
+            Told::Expression("while", 0, 5_001),
         ),
         (
-            "match a with p -> ",
-            "1",
+            "for i = 1 to ",
+            " do () done",
+            1_000,
+            Told::Expression("for to", 0, 9_001),
+        ),
+        (
+            "match a with p -> b | q -> ",
             "",
-            331,
-            Told::Expression("match", 0, 1656),
+            1_000,
+            Told::Expression("match", 1, 9_001),
         ),
         (
-            "{ a = ",
-            "1",
-            " }",
-            331,
-            Told::Expression("record", 0, 1325),
+            "fun a ?l:(p = ",
+            ") -> a",
+            1_000,
+            Told::Expression("fun", 2, 9_001),
         ),
+        (
+            "let a = b and f ?(x = ",
+            ") = 1 in a",
+            1_000,
+            Told::Expression("let", 1, 15_001),
+        ),
+        ("let a = b and f ?(x = ", ") = 1 in a", 1_010, Told::Memory),
+        ("if ", " then a", 1_000, Told::Expression("if", 0, 3_001)),
+        ("- ", "", 1_000, Told::Expression("minus", 0, 1_001)),
+        ("! ", "", 1_000, Told::Expression("prefixed", 0, 1_001)),
+        (
+            "( a; ",
+            " )",
+            500,
+            Told::Expression("parentheses", 0, 2_001),
+        ),
+        ("f ( ", " )", 500, Told::Expression("apply", 1, 1_501)),
+        ("f ( ", " )", 510, Told::Memory),
+        ("( ", row, 70, Told::Expression("parentheses", 0, 1_751)),
+        ("( ", row, 100, Told::Memory),
+        ("( ", row, 1_000, Told::Memory),
         (
             "a + b * ",
-            "c",
             "",
             999,
-            Told::Expression("level 10", 999, 3997),
+            Told::Expression("level 10", 999, 3_997),
         ),
     ];
-    for (open, inner, close, count, told) in rows {
-        let opened = repeated(rt.alloc(), "", open, count, inner)?;
+    for (open, close, count, told) in rows {
+        let opened = repeated(rt.alloc(), "", open, count, "x")?;
         let source = repeated(rt.alloc(), opened.as_str(), close, count, "")?;
         assert_eq!(rt; expression_of(rt.alloc(), source.as_bytes()), told);
     }

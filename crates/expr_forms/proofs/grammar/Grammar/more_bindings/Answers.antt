@@ -24,7 +24,7 @@ returns-in-Err-Syntax g c =
 pub loop-turn-preserved : goal.loop-turn-preserved
 loop-turn-preserved g c =
     let part = r.next_binding (read_expr c.args.self.now.depth) c.args.self.now.depth in
-    pushed pure.no_binding pure.more_binding always part view_binding c.loop-turn.found.items c.push.new.self.items c.in-Ok.next c.args.self.now.depth c.loop-turn._turn (from c.args.tokens.now c.loop-turn.at) (from c.args.tokens.now c.in-Ok.after) _ c.in_ok-push-in-Ok.ensures.items c.loop-turn-test.true c.in-Ok.ensures refl c.loop-turn.invariant
+    pushed pure.no_binding pure.more_binding always part view_binding c.loop-turn.found.items c.push_boxed.new.row.items c.in-Ok.next.value c.args.self.now.depth c.loop-turn._turn (from c.args.tokens.now c.loop-turn.at) (from c.args.tokens.now c.in-Ok.after) _ c.in_ok-push_boxed-in-Ok.ensures.items c.loop-turn-test.true c.in-Ok.ensures refl c.loop-turn.invariant
 
 pub returns : goal.returns
 returns g c =
