@@ -1,5 +1,5 @@
 -- Reading items one after the other, as a loop does, and what a loop found, as a row.
-use Rattle.std.proofs.Common.{◌≡◌, ℕ, zero, suc, ◌-◌, ◌+◌, ◌≤◌, ◌<◌, List, [], ◌∷◌, ◌++◌, Bool, true, false, Option, Some, None, map, refl, sym, ap, ◌∙◌, arith}
+use Rattle.std.proofs.Common.{◌≡◌, ℕ, suc, ◌-◌, ◌+◌, ◌≤◌, ◌<◌, List, [], ◌∷◌, ◌++◌, Bool, Some, None, map, refl, sym, ap, ◌∙◌, arith}
 use Rattle.ml_syntax.specs.declared.module.Item.{Item}
 use Rattle.ml_syntax.specs.declared.module.SigItem.{SigItem}
 use Rattle.ml_syntax.specs.declared.module.ModArgument.{ModArgument}

@@ -1,12 +1,12 @@
 -- Readings that depend on whether a list is empty, or on more than one token.
-use Rattle.std.proofs.Common.{◌≡◌, ℕ, ◌<◌, List, [], ◌∷◌, length, map, Bool, true, false, Option, Some, None, refl, ap, arith}
+use Rattle.std.proofs.Common.{◌≡◌, ℕ, ◌<◌, List, [], ◌∷◌, length, map, true, false, Some, None, refl, arith}
 use Rattle.rotor_base.specs.declared.token.Class.TheVariants as class
 use Rattle.ml_syntax.specs.declared.word.Word.{Word}
 use Rattle.ml_syntax.specs.declared.module.WithClause.{WithClause}
 use Rattle.ml_syntax.specs.declared.module.ModArgument.{ModArgument}
 use Rattle.ml_syntax.specs.declared.module.FunctorParam.{FunctorParam}
 use Rattle.ml_syntax.specs.declared.fixed.Fixed.TheVariants as key
-use Rattle.ml_syntax.specs.Tok.{Name, Tok, fixed, placed, word}
+use Rattle.ml_syntax.specs.Tok.{Tok, fixed, placed, word}
 use Rattle.ml_syntax.specs.Tree as pure
 use Rattle.ml_syntax.specs.View.{view_words, view_with, mod_arguments, functor_params}
 use Rattle.ml_syntax.specs.WellFormed.{is_constraint_sign}
@@ -15,7 +15,7 @@ use Rattle.parse_base.specs.Gives.{starts}
 use Rattle.parse_base.specs.Rows.{first_is}
 use Rattle.parse_module.specs.ModReading as r
 use Rattle.parse_module.specs.ModReading.{read_mod, read_type}
-use Rattle.parse_module.specs.Parts.{names_module, module_type_item, module_type_sig, alias_sig, type_of, arrow, param_arrow}
+use Rattle.parse_module.specs.Parts.{names_module, module_type_item, module_type_sig, alias_sig, type_of, arrow}
 
 -- ---- rows that have a part, or none
 

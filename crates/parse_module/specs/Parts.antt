@@ -1,10 +1,10 @@
 -- The parts of items, modules and module types, as the code reads them.
-use Rattle.std.specs.Prelude.{ℕ, List, [], ◌∷◌, Bool, true, false, Option, Some, None}
+use Rattle.std.specs.Prelude.{ℕ, List, ◌∷◌, Bool, true, false, Option, Some, None}
 use Rattle.rotor_base.specs.declared.token.Class.TheVariants as class
 use Rattle.ml_syntax.specs.declared.fixed.Fixed.TheVariants as key
 use Rattle.ml_syntax.specs.declared.module.External.{External as Source}
 use Rattle.ml_syntax.specs.Tok.{Name, Tok, placed, word}
-use Rattle.ml_syntax.specs.Tree.{ModExpr, ModType, TypeOf, Item, ModuleTypeItem, SigItem, ModuleTypeSig, AliasSig, FunctorParam, ParamArrow, FileTree}
+use Rattle.ml_syntax.specs.Tree.{ModType, TypeOf, Item, ModuleTypeItem, SigItem, ModuleTypeSig, AliasSig, FunctorParam, ParamArrow, FileTree}
 use Rattle.ml_syntax.specs.View.{view_name, view_run, view_words}
 use Rattle.parse_base.specs.Steps.{Read, ◌>>=◌, expect, expect_at}
 use Rattle.expr_reading.specs.ExprReading.{upper_path}

@@ -1,8 +1,8 @@
-use Rattle.std.proofs.Common.{◌≡◌, ◌-◌, ◌∷◌, [], List, Some, None, map, refl, ap, ◌∙◌}
+use Rattle.std.proofs.Common.{◌≡◌, ◌∷◌, [], List, Some, None, map, refl, ap, ◌∙◌}
 use Rattle.ml_syntax.specs.Tree.{Constraint}
 use Rattle.ml_syntax.specs.View.{view_constraint}
 use Rattle.parse_module.specs.ModReading.{next_constraint}
-use Rattle.parse_base.specs.Steps.{many, always}
+use Rattle.parse_base.specs.Steps.{always}
 use Rattle.parse_base.specs.Gives.{from}
 use Rattle.parse_base.proofs.Lone.{list_before}
 use Rattle.parse_base.proofs.Turns.{turn_none, turn_end, pushed}

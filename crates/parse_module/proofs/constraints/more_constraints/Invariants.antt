@@ -1,5 +1,4 @@
-use Rattle.std.proofs.Common.{◌≡◌, ◌-◌, ◌∷◌, [], List, Some, None, map, refl, ap, ◌∙◌}
-use Rattle.ml_syntax.specs.Tree.{Constraint}
+use Rattle.std.proofs.Common.{◌-◌, ◌∷◌, [], map}
 use Rattle.ml_syntax.specs.View.{view_constraint}
 use Rattle.parse_module.specs.ModReading.{next_constraint}
 use Rattle.parse_base.specs.Steps.{many, always}

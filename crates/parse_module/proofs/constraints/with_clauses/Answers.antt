@@ -1,8 +1,8 @@
-use Rattle.std.proofs.Common.{◌≡◌, ◌-◌, ◌∷◌, [], List, Some, None, map, refl, ap, ◌∙◌}
+use Rattle.std.proofs.Common.{◌≡◌, ◌∷◌, [], List, Some, None, map, refl, ap, ◌∙◌}
 use Rattle.ml_syntax.specs.Tree.{WithClause}
 use Rattle.ml_syntax.specs.View.{view_with}
 use Rattle.parse_module.specs.ModReading.{with_clause}
-use Rattle.parse_base.specs.Steps.{many, always}
+use Rattle.parse_base.specs.Steps.{always}
 use Rattle.parse_base.specs.Gives.{from}
 use Rattle.parse_base.proofs.Lone.{list_before}
 use Rattle.parse_base.proofs.Turns.{turn_none, turn_end, pushed}

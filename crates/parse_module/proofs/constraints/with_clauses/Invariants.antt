@@ -1,5 +1,4 @@
-use Rattle.std.proofs.Common.{◌≡◌, ◌-◌, ◌∷◌, [], List, Some, None, map, refl, ap, ◌∙◌}
-use Rattle.ml_syntax.specs.Tree.{WithClause}
+use Rattle.std.proofs.Common.{◌-◌, ◌∷◌, [], map}
 use Rattle.ml_syntax.specs.View.{view_with}
 use Rattle.parse_module.specs.ModReading.{with_clause}
 use Rattle.parse_base.specs.Steps.{many, always}

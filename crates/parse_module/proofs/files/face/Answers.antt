@@ -1,4 +1,4 @@
-use Rattle.std.proofs.Common.{◌≡◌, ◌+◌, length}
+use Rattle.std.proofs.Common.{◌+◌, length}
 use Rattle.ml_syntax.specs.View.{sig_items}
 use Rattle.parse_module.proofs.Whole.{face_cut, face_whole}
 use Rattle.parse_module.proofs.files.face.Goals as goal

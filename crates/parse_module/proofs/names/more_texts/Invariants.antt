@@ -1,5 +1,4 @@
-use Rattle.std.proofs.Common.{◌≡◌, ◌-◌, ◌∷◌, [], List, Some, None, map, refl, ap, ◌∙◌}
-use Rattle.ml_syntax.specs.Tok.{Name}
+use Rattle.std.proofs.Common.{◌-◌, ◌∷◌, [], map}
 use Rattle.ml_syntax.specs.View.{view_word}
 use Rattle.parse_module.specs.ModReading.{text_word}
 use Rattle.parse_base.specs.Steps.{many, always}

@@ -1,4 +1,4 @@
-use Rattle.std.proofs.Common.{◌≡◌, ℕ, suc, ◌-◌, ◌<◌, ap, arith}
+use Rattle.std.proofs.Common.{arith}
 use Rattle.parse_base.specs.Gives.{from}
 use Rattle.parse_base.proofs.Turns.{deeper}
 use Rattle.parse_module.specs.ModReading.{read_mod, read_type}

@@ -1,4 +1,4 @@
-use Rattle.std.proofs.Common.{◌≡◌, ◌-◌, ◌∷◌, [], List, Some, None, map, refl, ap, ◌∙◌}
+use Rattle.std.proofs.Common.{◌-◌, map}
 use Rattle.ml_syntax.specs.Tree as pure
 use Rattle.ml_syntax.specs.View.{view_mod_argument}
 use Rattle.parse_module.specs.ModReading.{read_mod, read_type, mod_argument}

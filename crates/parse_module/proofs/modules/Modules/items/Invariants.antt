@@ -1,8 +1,7 @@
-use Rattle.std.proofs.Common.{◌≡◌, ◌-◌, List, Bool, true, Some, None, map, refl, ap, ◌∙◌}
-use Rattle.ml_syntax.specs.Tree as pure
+use Rattle.std.proofs.Common.{◌-◌, true, map}
 use Rattle.ml_syntax.specs.View.{view_item}
 use Rattle.parse_base.specs.Gives.{from}
-use Rattle.parse_module.specs.ModReading.{read_mod, read_type, items_of, item_of}
+use Rattle.parse_module.specs.ModReading.{read_mod, read_type, items_of}
 use Rattle.parse_module.proofs.ItemTurns.{LeftItems}
 use Rattle.parse_module.proofs.modules.Modules.items.Given as goal
 

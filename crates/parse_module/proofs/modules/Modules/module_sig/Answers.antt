@@ -1,4 +1,4 @@
-use Rattle.std.proofs.Common.{◌≡◌, ◌+◌, sym, ap, ◌∙◌, arith}
+use Rattle.std.proofs.Common.{◌≡◌, ◌+◌, sym, ◌∙◌, arith}
 use Rattle.parse_base.specs.Gives.{from}
 use Rattle.parse_module.proofs.Rows.{sig_type, sig_alias, sig_rest}
 use Rattle.parse_module.proofs.modules.Modules.module_sig.Goals as goal

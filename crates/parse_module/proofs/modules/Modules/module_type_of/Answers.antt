@@ -1,4 +1,4 @@
-use Rattle.std.proofs.Common.{◌≡◌, ◌+◌, ap, arith}
+use Rattle.std.proofs.Common.{◌≡◌, ◌+◌, arith}
 use Rattle.parse_base.specs.Gives.{from}
 use Rattle.parse_module.proofs.Rows.{of_type}
 use Rattle.parse_module.proofs.modules.Modules.module_type_of.Goals as goal
