@@ -92,6 +92,6 @@ impl<
 /// Whether an expression of so many words has more levels than are left where it begins. Each level has a word of its
 /// own, so an expression of few words needs no walk.
 #[inline(never)]
-fn is_too_high(tree: &Expr, levels: usize, words: usize) -> bool {
+pub(crate) fn is_too_high(tree: &Expr, levels: usize, words: usize) -> bool {
     words > levels && !fits(tree, levels)
 }

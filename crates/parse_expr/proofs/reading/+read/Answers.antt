@@ -6,4 +6,4 @@ use Rattle.parse_expr.proofs.reading.+read.Goals as goal
 
 pub returns : goal.returns
 unfolding read_expr
-returns t c = rw (deeper (λ n. read_expr n c.args.wanted (from c.args.tokens.now c.args.at)) c.args.depth (omega arith)) c.in_ok-read_wanted.ensures
+returns t c = rw (deeper (λ n. read_expr n c.args.wanted (from c.args.tokens.now c.args.at)) c.args.depth (omega arith)) c.in_ok-tree.ensures
