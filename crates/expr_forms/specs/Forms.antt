@@ -1,8 +1,7 @@
 -- The parts of forms, as the code reads them.
 use Rattle.std.specs.Prelude.{ℕ, List, ◌∷◌, Bool, Option, Some, None}
-use Rattle.rotor_base.specs.declared.token.Class.TheVariants as class
 use Rattle.ml_syntax.specs.declared.fixed.Fixed.TheVariants as key
-use Rattle.ml_syntax.specs.Tok.{Name, Tok, placed, word}
+use Rattle.ml_syntax.specs.Tok.{Name, Tok, placed}
 use Rattle.ml_syntax.specs.Tree.{Pat, Expr, LetModule, Param, DefaultParam}
 use Rattle.ml_syntax.specs.View.{view}
 use Rattle.parse_base.specs.Steps.{Read, ◌>>=◌, expect, expect_at}
@@ -29,11 +28,6 @@ default_end d x at p run ts = do
 -- after a `~` or a `?` and a `(`
 abbrev pub wrapped_label : ℕ → ℕ → Bool → ℕ → Read Param
 wrapped_label d at optional at' ts = lower_word ts >>= λ x. wrapped_end (read_expr d) d at optional at' x.0 (optional_type x.1).0 (optional_type x.1).1
-
--- a name of class Upper
-abbrev pub upper_word : Read Name
-upper_word (word class.Upper x ∷ ts) = Some (x, ts)
-upper_word _ = None
 
 -- after the `=` of a `let module`
 abbrev pub module_in : ℕ → ℕ → ℕ → Name → ℕ → Read Expr

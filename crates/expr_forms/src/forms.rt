@@ -1,20 +1,15 @@
 //! `let` and `fun`.
 
-ghost use Rattle.std.specs.Prelude.{ℕ, ◌≡◌, ◌≤◌, ◌<◌, ◌+◌, ◌-◌, ◌∷◌, [], true, false, not, Bool, length, map, Some, None, if◌then◌else◌};
-ghost use Rattle.ml_syntax.specs.Tree as pure;
-ghost use Rattle.ml_syntax.specs.declared.fixed.Fixed.TheVariants as key;
-ghost use Rattle.ml_syntax.specs.View.{view, view_word, view_words, view_path, view_name, view_run, view_type, view_bang, view_variable, view_pat, view_tok, view_binding, view_case, view_argument, view_param, view_part, view_field, links, commas, ops, maybe, tail, bindings, cases, arguments, params, parts, fields, locals, view_local};
-ghost use Rattle.parse_base.specs.Steps.{many, many_if, always};
-ghost use Rattle.parse_base.specs.PatReading.{read_pat};
-ghost use Rattle.parse_base.specs.Gives.{from, name_at, text_at, Gives};
-ghost use Rattle.expr_reading.specs.declared.wanted.Wanted.TheVariants as wanted;
+ghost use Rattle.std.specs.Prelude.{◌≤◌, ◌<◌, ◌+◌, length};
+ghost use Rattle.ml_syntax.specs.View.{view, view_word, params};
+ghost use Rattle.parse_base.specs.Gives.{from, Gives};
 ghost use Rattle.expr_reading.specs.ExprReading as r;
 ghost use Rattle.expr_reading.specs.ExprReading.{read_expr};
 ghost use Rattle.expr_forms.specs.Reads.{Nests};
-ghost use Rattle.expr_forms.specs.Forms.{module_in, module_named, upper_word};
+ghost use Rattle.expr_forms.specs.Forms.{module_in, module_named};
 
 use crate::grammar::Grammar;
-use expr_parts::{bang, local_module, path};
+use expr_parts::{bang, local_module, path, upper_word};
 use expr_reading::Wanted;
 use ml_syntax::{Expr, Fixed, Param, Word};
 use parse_base::{Kind, ReadError, expect, kind_at, number, word};
@@ -221,17 +216,5 @@ impl<
     {
         let (given, after) = self.more_params(tokens, at + 1)?;
         self.fun_end(tokens, at, given, after)
-    }
-}
-
-/// A name of class Upper.
-#[inline(never)]
-fn upper_word(alloc: Global, tokens: &[Token<'_>], at: usize) -> Result<(Word, usize), ReadError>
-    requires { length tokens.now ≤ 1048576 }
-    ensures { Gives (λ x. (view_word x.0, from tokens.now x.1)) result (upper_word (from tokens.now at)) }
-{
-    match kind_at(tokens, at) {
-        Kind::Word(Class::Upper) => Ok((word(alloc, tokens, Class::Upper, at)?, at + 1)),
-        _ => Err(ReadError::Syntax),
     }
 }

@@ -1,19 +1,24 @@
 -- The parts of a reading, as the code asks for them.
 use Rattle.std.specs.Prelude.{ℕ, ◌-◌, List, [], ◌∷◌, Bool, true, false, not, Option, Some, None}
+use Rattle.rotor_base.specs.declared.token.Class.TheVariants as class
 use Rattle.ml_syntax.specs.declared.word.Word.{Word}
 use Rattle.ml_syntax.specs.declared.expression.Expr.{Expr as Source}
 use Rattle.ml_syntax.specs.declared.expression.Branch.{Branch}
-use Rattle.ml_syntax.specs.declared.expression.LocalModule.{LocalModule}
 use Rattle.ml_syntax.specs.declared.expression.LocalArgument.{LocalArgument}
 use Rattle.ml_syntax.specs.declared.expression.LocalArgument.TheBlock as l
 use Rattle.ml_syntax.specs.declared.fixed.Fixed.TheVariants as key
-use Rattle.ml_syntax.specs.Tok.{Name, Tok, fixed}
+use Rattle.ml_syntax.specs.Tok.{Name, Tok, fixed, word}
 use Rattle.ml_syntax.specs.Tree.{no_part, more_part, Expr, Constr, Tag, ConstrApply, TagApply, LocalPath, Links, no_link, Field, Fields, no_field, more_field}
 use Rattle.ml_syntax.specs.WellFormed.{op_level, is_constr}
-use Rattle.ml_syntax.specs.View.{view, view_tok, view_path, view_locals, view_local}
+use Rattle.ml_syntax.specs.View.{view, view_tok, view_path, view_locals}
 use Rattle.parse_base.specs.Steps.{Read, ◌>>=◌, expect, many_if, always}
 use Rattle.expr_reading.specs.declared.wanted.Wanted.TheVariants as wanted
-use Rattle.expr_reading.specs.ExprReading.{part_behind, grown_postfix, grown_seq, tier, operator_part, goes_on, cons_operand, grown_chain, read_expr, expr, enclosed, closed_by, no_form, last_of, ends_field, last_field, next_field, semicolon_if, semicolon_part, cons_link, LocalPart, given_module, given_none, Otherwise, if_branch, last_branch}
+use Rattle.expr_reading.specs.ExprReading.{part_behind, grown_postfix, grown_seq, tier, operator_part, goes_on, cons_operand, grown_chain, read_expr, expr, enclosed, closed_by, no_form, last_of, ends_field, last_field, next_field, semicolon_if, semicolon_part, cons_link, LocalPart, given_module, given_none, Otherwise, if_branch}
+
+-- a name of class Upper
+abbrev pub upper_word : Read Name
+upper_word (word class.Upper x ∷ ts) = Some (x, ts)
+upper_word _ = None
 
 -- the level of the operator that begins the tokens, or 0
 abbrev pub first_level : List Tok → ℕ

@@ -1,9 +1,9 @@
 //! The right edge of an expression.
 
 ghost use Rattle.std.specs.Prelude.{◌≡◌};
-ghost use Rattle.ml_syntax.specs.View.{view, view_case};
+ghost use Rattle.ml_syntax.specs.View.{view};
 ghost use Rattle.ml_syntax.specs.WellFormed.{on_edge};
-ghost use Rattle.expr_reading.specs.ExprReading.{is_calm, no_cases};
+ghost use Rattle.expr_reading.specs.ExprReading.{is_calm};
 ghost use Rattle.expr_parts.specs.Edges.{test_of};
 
 use ml_syntax::{Case, Expr};

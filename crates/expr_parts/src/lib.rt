@@ -17,5 +17,5 @@ pub use local::local_module;
 pub use operators::level_at;
 pub use pieces::{
     bang, closed, closing, direction, first_bar, has_colon, is_literal, is_optional, path,
-    semicolon_if, typed, variable,
+    path_from, semicolon_if, typed, upper_word, variable,
 };

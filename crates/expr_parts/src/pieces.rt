@@ -1,19 +1,15 @@
 //! Small parts of expressions.
 
-ghost use Rattle.std.specs.Prelude.{ℕ, ◌≡◌, ◌≤◌, ◌<◌, ◌+◌, ◌-◌, ◌∷◌, [], true, false, not, Bool, length, map, Some, None, if◌then◌else◌};
-ghost use Rattle.ml_syntax.specs.Tree as pure;
-ghost use Rattle.ml_syntax.specs.declared.fixed.Fixed.TheVariants as key;
-ghost use Rattle.ml_syntax.specs.View.{view, view_word, view_words, view_path, view_name, view_run, view_type, view_bang, view_variable, view_pat, view_tok, view_binding, view_case, view_argument, view_param, view_part, view_field, links, commas, ops, maybe, tail, bindings, cases, arguments, params, parts, fields, locals, view_local};
-ghost use Rattle.parse_base.specs.Steps.{many, many_if, always};
-ghost use Rattle.parse_base.specs.PatReading.{read_pat};
-ghost use Rattle.parse_base.specs.Gives.{from, name_at, text_at, Gives};
-ghost use Rattle.expr_reading.specs.declared.wanted.Wanted.TheVariants as wanted;
+ghost use Rattle.std.specs.Prelude.{◌≡◌, ◌≤◌, ◌<◌, ◌+◌, false, length, Some};
+ghost use Rattle.ml_syntax.specs.View.{view, view_word, view_path, view_run, view_bang, view_variable};
+ghost use Rattle.parse_base.specs.Rows.{path_from};
+ghost use Rattle.parse_base.specs.Gives.{from, name_at, Gives};
 ghost use Rattle.expr_reading.specs.ExprReading as r;
-ghost use Rattle.expr_reading.specs.ExprReading.{read_expr};
 ghost use Rattle.ml_syntax.specs.WellFormed.{is_literal};
 ghost use Rattle.ml_syntax.specs.Words.{closing};
 ghost use Rattle.ml_syntax.specs.Tok.{is_placed};
 ghost use Rattle.ml_syntax.specs.Runs.{has_colon, is_optional};
+ghost use Rattle.expr_parts.specs.Rows.{upper_word};
 
 use ml_syntax::{Bracket, Expr, Fixed, Path, Run, Variable, Word};
 use parse_base::{Kind, ReadError, expect, is, kind_at, more_uppers, number, text, type_run, word};
@@ -68,6 +64,22 @@ pub fn bang(
     }
 }
 
+/// A name of class Upper.
+#[inline(never)]
+pub fn upper_word(
+    alloc: Global,
+    tokens: &[Token<'_>],
+    at: usize,
+) -> Result<(Word, usize), ReadError>
+    requires few { length tokens.now ≤ 1048576 }
+    ensures { Gives (λ x. (view_word x.0, from tokens.now x.1)) result (upper_word (from tokens.now at)) }
+{
+    match kind_at(tokens, at) {
+        Kind::Word(Class::Upper) => Ok((word(alloc, tokens, Class::Upper, at)?, at + 1)),
+        _ => Err(ReadError::Syntax),
+    }
+}
+
 /// The path of a module.
 #[inline(never)]
 pub fn path(
@@ -80,14 +92,27 @@ pub fn path(
     ensures { Gives (λ x. (view_path x.0, from tokens.now x.1)) result (r.upper_path depth (from tokens.now at)) }
 {
     match kind_at(tokens, at) {
-        Kind::Word(Class::Upper) => {
-            let first = word(alloc, tokens, Class::Upper, at)?;
-            let (mut words, after) = more_uppers(alloc, tokens, depth, at + 1)?;
-            words.insert(0, first)?;
-            Ok((Path { words }, after))
-        }
+        Kind::Word(Class::Upper) => path_from(alloc, tokens, depth, at),
         _ => Err(ReadError::Syntax),
     }
+}
+
+/// The path that begins with the name at a place.
+#[inline(never)]
+pub fn path_from(
+    alloc: Global,
+    tokens: &[Token<'_>],
+    depth: usize,
+    at: usize,
+) -> Result<(Path, usize), ReadError>
+    requires few { length tokens.now ≤ 1048576 }
+    requires within { at < length tokens.now }
+    ensures { Gives (λ x. (view_path x.0, from tokens.now x.1)) result (Some (path_from (name_at tokens.now at) depth (from tokens.now (at + 1)))) }
+{
+    let first = word(alloc, tokens, Class::Upper, at)?;
+    let (mut words, after) = more_uppers(alloc, tokens, depth, at + 1)?;
+    words.insert(0, first)?;
+    Ok((Path { words }, after))
 }
 
 /// The variable of a `for`.

@@ -1,6 +1,6 @@
-use Rattle.std.proofs.Common.{◌≡◌, true, false, not, sym, ap, ◌∙◌}
-use Rattle.ml_syntax.specs.View.{view_field, fields}
-use Rattle.expr_reading.specs.ExprReading.{ends_field, last_field}
+use Rattle.std.proofs.Common.{sym, ap, ◌∙◌}
+use Rattle.ml_syntax.specs.View.{view_field}
+use Rattle.expr_reading.specs.ExprReading.{ends_field}
 use Rattle.expr_parts.proofs.Edges.{last_fields, no_fields}
 use Rattle.expr_parts.proofs.ends.fields_end.Goals as goal
 

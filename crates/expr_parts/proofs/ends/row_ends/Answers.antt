@@ -1,7 +1,6 @@
-use Rattle.std.proofs.Common.{◌≡◌, true, false, not, sym, ap, ◌∙◌}
-use Rattle.ml_syntax.specs.WellFormed.{is_form, on_edge}
-use Rattle.ml_syntax.specs.View.{view, links}
-use Rattle.expr_reading.specs.ExprReading.{no_form, last_of}
+use Rattle.std.proofs.Common.{not, sym, ap, ◌∙◌}
+use Rattle.ml_syntax.specs.View.{view}
+use Rattle.expr_reading.specs.ExprReading.{no_form}
 use Rattle.expr_parts.proofs.Edges.{last_row, last_none}
 use Rattle.expr_parts.proofs.ends.row_ends.Goals as goal
 

@@ -1,5 +1,4 @@
-use Rattle.std.proofs.Common.{◌≡◌, ◌<◌, ◌+◌, ℕ, length, refl, arith}
-use Rattle.expr_reading.specs.ExprReading.{read_expr}
+use Rattle.std.proofs.Common.{◌<◌, ◌+◌, length, refl, arith}
 use Rattle.parse_base.specs.Gives.{from}
 use Rattle.ml_syntax.proofs.Variants.{at_param_types}
 use Rattle.expr_forms.proofs.Lists.{types_some}
