@@ -1,13 +1,10 @@
 //! Applications, and parts behind a `.`.
 
-ghost use Rattle.std.specs.Prelude.{ℕ, ◌≡◌, ◌≤◌, ◌<◌, ◌+◌, ◌-◌, ◌∷◌, [], true, false, not, Bool, length, map, Some, None, if◌then◌else◌};
+ghost use Rattle.std.specs.Prelude.{◌≤◌, ◌<◌, ◌+◌, length, Some};
 ghost use Rattle.ml_syntax.specs.Tree as pure;
-ghost use Rattle.ml_syntax.specs.declared.fixed.Fixed.TheVariants as key;
-ghost use Rattle.ml_syntax.specs.View.{view, view_word, view_words, view_path, view_name, view_run, view_type, view_bang, view_variable, view_pat, view_tok, view_binding, view_case, view_argument, view_param, view_part, view_field, links, commas, ops, maybe, tail, bindings, cases, arguments, params, parts, fields, locals, view_local};
-ghost use Rattle.parse_base.specs.Steps.{many, many_if, always};
-ghost use Rattle.parse_base.specs.PatReading.{read_pat};
-ghost use Rattle.parse_base.specs.Gives.{from, name_at, text_at, Gives};
-ghost use Rattle.expr_reading.specs.declared.wanted.Wanted.TheVariants as wanted;
+ghost use Rattle.ml_syntax.specs.View.{view, view_argument, view_part, arguments, parts};
+ghost use Rattle.parse_base.specs.Steps.{many, always};
+ghost use Rattle.parse_base.specs.Gives.{from, Gives};
 ghost use Rattle.expr_reading.specs.ExprReading as r;
 ghost use Rattle.expr_reading.specs.ExprReading.{read_expr};
 ghost use Rattle.expr_forms.specs.Reads.{Nests};

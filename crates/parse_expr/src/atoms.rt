@@ -1,26 +1,22 @@
 //! Names, constants, and what stands in brackets.
 
 ghost use Rattle.ml_syntax.specs.Tok.{Tok};
-ghost use Rattle.std.specs.Prelude.{List, ℕ, ◌≡◌, ◌≤◌, ◌<◌, ◌+◌, ◌-◌, ◌∷◌, [], true, false, not, Bool, length, map, Some, None, if◌then◌else◌};
+ghost use Rattle.std.specs.Prelude.{List, ◌≡◌, ◌≤◌, ◌<◌, ◌+◌, [], length, Some};
 ghost use Rattle.ml_syntax.specs.Tree as pure;
-ghost use Rattle.ml_syntax.specs.declared.fixed.Fixed.TheVariants as key;
-ghost use Rattle.ml_syntax.specs.View.{view, view_word, view_words, view_path, view_name, view_run, view_type, view_bang, view_variable, view_pat, view_tok, view_binding, view_case, view_argument, view_param, view_part, view_field, links, commas, ops, maybe, tail, bindings, cases, arguments, params, parts, fields, locals, view_local};
-ghost use Rattle.parse_base.specs.Steps.{many, many_if, always};
-ghost use Rattle.parse_base.specs.PatReading.{read_pat};
-ghost use Rattle.parse_base.specs.Gives.{from, name_at, text_at, Gives};
+ghost use Rattle.ml_syntax.specs.View.{view, view_path, view_name};
+ghost use Rattle.parse_base.specs.Gives.{from, name_at, Gives};
 ghost use Rattle.expr_reading.specs.declared.wanted.Wanted.TheVariants as wanted;
 ghost use Rattle.expr_reading.specs.ExprReading as r;
 ghost use Rattle.expr_reading.specs.ExprReading.{read_expr};
 ghost use Rattle.expr_forms.specs.Reads.{Nests};
 ghost use Rattle.ml_syntax.specs.WellFormed.{is_bracketed};
-ghost use Rattle.parse_base.specs.Rows.{path_from};
 ghost use Rattle.expr_parts.specs.Rows.{dot_enclosed, wrapped_by};
 
 use crate::readers::Readers;
-use expr_parts::is_literal;
+use expr_parts::{is_literal, path_from};
 use expr_reading::Wanted;
 use ml_syntax::{Bracket, Expr, Fixed, Path, ValueName};
-use parse_base::{Kind, ReadError, expect, kind_at, more_uppers, number, word};
+use parse_base::{Kind, ReadError, expect, kind_at, number, word};
 use rotor_base::{Class, Token};
 use std::alloc::Global;
 
@@ -85,34 +81,12 @@ impl<
         requires within { at < length tokens.now }
         ensures { Gives (λ x. (view x.0.value, from tokens.now x.1)) result (r.upper_expr (read_expr self.now.grammar.depth) self.now.grammar.depth (name_at tokens.now at) (from tokens.now (at + 1))) }
     {
-        let (path, at) = self.module_path(tokens, at)?;
+        let (path, at) = path_from(self.grammar.alloc, tokens, self.grammar.depth, at)?;
         match self.behind_dot(tokens, at) {
             Ok((inner, after)) => qualified(self.grammar.alloc, tokens, path, at, inner, after),
             Err(ReadError::Syntax) => Ok((Box::new(self.grammar.alloc, Expr::Constr(path))?, at)),
             Err(ReadError::Memory) => Err(ReadError::Memory),
         }
-    }
-
-    /// The path that begins with the name at a place.
-    #[inline(never)]
-    pub(crate) fn module_path(
-        &self,
-        tokens: &[Token<'_>],
-        at: usize,
-    ) -> Result<(Path, usize), ReadError>
-        requires few { length tokens.now ≤ 1048576 }
-        requires within { at < length tokens.now }
-        ensures { Gives (λ x. (view_path x.0, from tokens.now x.1)) result (Some (path_from (name_at tokens.now at) self.now.grammar.depth (from tokens.now (at + 1)))) }
-    {
-        let first = word(self.grammar.alloc, tokens, Class::Upper, at)?;
-        let (mut words, after) = more_uppers(
-            self.grammar.alloc,
-            tokens,
-            self.grammar.depth,
-            at + 1,
-        )?;
-        words.insert(0, first)?;
-        Ok((Path { words }, after))
     }
 
     /// An expression of level 16 without Prefix words.

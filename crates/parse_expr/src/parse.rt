@@ -5,6 +5,7 @@ ghost use Rattle.ml_syntax.specs.View.{view};
 ghost use Rattle.parse_base.specs.Gives.{from, IsPlain};
 ghost use Rattle.parse_base.specs.declared.error.ParseError.TheVariants as refused;
 ghost use Rattle.expr_reading.specs.Longest.{IsLongestExpr, BeginsNoExpr};
+ghost use Rattle.expr_levels.specs.Height.{height};
 
 use crate::reading::read;
 use expr_reading::Wanted;
@@ -14,13 +15,12 @@ use rotor_base::Token;
 use std::alloc::Global;
 
 /// How many levels an expression may have, and how often the readers may nest: 1,000 forms inside one another, with
-/// what stands in the last of them. A level takes at most 6,000 bytes of the stack, to be read and to be dropped, so
-/// this many leave 2 MiB of 8.
+/// what stands in the last of them. At so many levels, expressions were read and dropped within 6 MiB of stack.
 pub const MAX_DEEPER: usize = MAX_NESTED + 8;
 
 /// The longest sequence expression that begins at a token (the manual's chapter on expressions), and the place after
 /// it. Places are counted from 0, and there are at most 1,048,576 tokens. The Err is `Syntax` where no expression
-/// begins there, or else `Memory`, which also stands for an expression that nests past the bound on levels.
+/// begins there, or else `Memory`, which also stands for an expression of more than 1,008 levels.
 pub fn parse_seq(
     alloc: Global,
     tokens: &[Token<'_>],
@@ -33,6 +33,8 @@ pub fn parse_seq(
     ensures end { IfOk result (λ x. x.1 ≤ length tokens.now) }
     // No expression begins there.
     ensures none { result ≡ Err refused.Syntax → BeginsNoExpr (from tokens.now start) }
+    // It has no more levels than may be.
+    ensures low { IfOk result (λ x. height (view x.0) ≤ 1008) }
     // It is neither `Form` nor `Deep`.
     ensures plain { IfErr result IsPlain }
 {

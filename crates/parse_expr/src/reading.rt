@@ -1,15 +1,11 @@
 //! The knot of the readers.
 
-ghost use Rattle.std.specs.Prelude.{ℕ, ◌≡◌, ◌≤◌, ◌<◌, ◌+◌, ◌-◌, ◌∷◌, [], true, false, not, Bool, length, map, Some, None, if◌then◌else◌};
-ghost use Rattle.ml_syntax.specs.Tree as pure;
-ghost use Rattle.ml_syntax.specs.declared.fixed.Fixed.TheVariants as key;
-ghost use Rattle.ml_syntax.specs.View.{view, view_word, view_words, view_path, view_name, view_run, view_type, view_bang, view_variable, view_pat, view_tok, view_binding, view_case, view_argument, view_param, view_part, view_field, links, commas, ops, maybe, tail, bindings, cases, arguments, params, parts, fields, locals, view_local};
-ghost use Rattle.parse_base.specs.Steps.{many, many_if, always};
-ghost use Rattle.parse_base.specs.PatReading.{read_pat};
-ghost use Rattle.parse_base.specs.Gives.{from, name_at, text_at, Gives};
-ghost use Rattle.expr_reading.specs.declared.wanted.Wanted.TheVariants as wanted;
+ghost use Rattle.std.specs.Prelude.{◌≤◌, length, IfOk};
+ghost use Rattle.ml_syntax.specs.View.{view};
+ghost use Rattle.parse_base.specs.Gives.{from, Gives};
 ghost use Rattle.expr_reading.specs.ExprReading as r;
 ghost use Rattle.expr_reading.specs.ExprReading.{read_expr};
+ghost use Rattle.expr_levels.specs.Height.{height};
 ghost use Rattle.expr_forms.specs.Reads.{Nests};
 
 use crate::readers::Readers;
@@ -21,7 +17,7 @@ use parse_base::ReadError;
 use rotor_base::Token;
 use std::alloc::Global;
 
-/// What is wanted at a place, nested at most so deep and over at most so many levels, and the place after it.
+/// What is wanted at a place, nested at most so deep and of at most so many levels, and the place after it.
 #[tactic(auto, unfolding(expr_reading::specs::ExprReading::read_expr))]
 #[inline(never)]
 pub fn read(
@@ -33,7 +29,8 @@ pub fn read(
     at: usize,
 ) -> Result<(Box<Expr>, usize), ReadError>
     requires { length tokens.now ≤ 1048576 }
-    ensures { Gives (λ x. (view x.0.value, from tokens.now x.1)) result (read_expr depth wanted (from tokens.now at)) }
+    ensures reads { Gives (λ x. (view x.0.value, from tokens.now x.1)) result (read_expr depth wanted (from tokens.now at)) }
+    ensures low { IfOk result (λ x. height (view x.0.value) ≤ levels) }
 {
     if depth == 0 {
         return Err(ReadError::Syntax);
@@ -50,10 +47,11 @@ pub fn read(
         },
     };
     let (tree, end) = readers.read_wanted(tokens, wanted, at)?;
-    if is_too_high(&tree, levels, end.saturating_sub(at)) {
-        return Err(ReadError::Memory);
+    if fits(&tree, levels) {
+        Ok((tree, end))
+    } else {
+        Err(ReadError::Memory)
     }
-    Ok((tree, end))
 }
 
 impl<
@@ -87,11 +85,4 @@ impl<
             Wanted::Prefixed => self.prefixed(tokens, at),
         }
     }
-}
-
-/// Whether an expression of so many words has more levels than are left where it begins. Each level has a word of its
-/// own, so an expression of few words needs no walk.
-#[inline(never)]
-pub(crate) fn is_too_high(tree: &Expr, levels: usize, words: usize) -> bool {
-    words > levels && !fits(tree, levels)
 }

@@ -1,4 +1,4 @@
-use Rattle.std.proofs.Common.{◌≡◌, ℕ, List, Option, Some, length, sym, ap, ◌∙◌, arith}
+use Rattle.std.proofs.Common.{◌≡◌, List, Option, Some, length, sym, ap, ◌∙◌, arith}
 use Rattle.ml_syntax.specs.Tok.{Tok}
 use Rattle.ml_syntax.specs.Tree as pure
 use Rattle.ml_syntax.specs.View.{view, view_path, view_name, view_words}

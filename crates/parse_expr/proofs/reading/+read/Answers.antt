@@ -1,9 +1,9 @@
-use Rattle.std.proofs.Common.{◌≡◌, ℕ, suc, ◌-◌, ◌<◌, ap, arith}
+use Rattle.std.proofs.Common.{arith}
 use Rattle.parse_base.specs.Gives.{from}
 use Rattle.parse_base.proofs.Turns.{deeper}
 use Rattle.expr_reading.specs.ExprReading.{read_expr}
 use Rattle.parse_expr.proofs.reading.+read.Goals as goal
 
-pub returns : goal.returns
+pub returns-then-fits-clause-reads : goal.returns-then-fits-clause-reads
 unfolding read_expr
-returns t c = rw (deeper (λ n. read_expr n c.args.wanted (from c.args.tokens.now c.args.at)) c.args.depth (omega arith)) c.in_ok-tree.ensures
+returns-then-fits-clause-reads t c = rw (deeper (λ n. read_expr n c.args.wanted (from c.args.tokens.now c.args.at)) c.args.depth (omega arith)) c.in_ok-tree.ensures

@@ -1,15 +1,10 @@
-use Rattle.std.proofs.Common.{◌≡◌, ℕ, ◌-◌, ◌∷◌, [], List, Bool, true, false, not, Some, None, map, refl, sym, ap, ◌∙◌}
+use Rattle.std.proofs.Common.{◌-◌, map}
 use Rattle.ml_syntax.specs.Tree as pure
-use Rattle.ml_syntax.specs.declared.fixed.Fixed.TheVariants as key
-use Rattle.ml_syntax.specs.Tok.{Name}
-use Rattle.ml_syntax.specs.View.{view, view_word, view_words, view_tok, view_binding, view_case, view_argument, view_param, view_part, view_field, tail, tail_before, links, ops, commas}
+use Rattle.ml_syntax.specs.View.{view_part}
 use Rattle.parse_base.specs.Steps.{many, always}
-use Rattle.parse_base.specs.Pieces.{lower_word}
 use Rattle.parse_base.specs.Gives.{from}
-use Rattle.expr_reading.specs.declared.wanted.Wanted.TheVariants as wanted
 use Rattle.expr_reading.specs.ExprReading as r
 use Rattle.expr_reading.specs.ExprReading.{read_expr, read_local}
-use Rattle.expr_parts.specs.Rows.{local_of, link_of, branch_of}
 use Rattle.parse_base.proofs.Turns.{Left}
 use Rattle.parse_expr.proofs.readers.Readers.more_parts.Given as goal
 
