@@ -1,21 +1,17 @@
 -- The parts of items, modules and module types, as the code reads them.
-use Rattle.std.specs.Prelude.{ℕ, List, ◌∷◌, Bool, true, false, Option, Some, None}
+use Rattle.std.specs.Prelude.{ℕ, List, ◌∷◌, Bool, true, false, Option, Some}
 use Rattle.rotor_base.specs.declared.token.Class.TheVariants as class
 use Rattle.ml_syntax.specs.declared.fixed.Fixed.TheVariants as key
 use Rattle.ml_syntax.specs.declared.module.External.{External as Source}
-use Rattle.ml_syntax.specs.Tok.{Name, Tok, placed, word}
+use Rattle.ml_syntax.specs.Tok.{Tok, placed, word}
 use Rattle.ml_syntax.specs.Tree.{ModType, TypeOf, Item, ModuleTypeItem, SigItem, ModuleTypeSig, AliasSig, FunctorParam, ParamArrow, FileTree}
 use Rattle.ml_syntax.specs.View.{view_name, view_run, view_words}
 use Rattle.parse_base.specs.Steps.{Read, ◌>>=◌, expect, expect_at}
 use Rattle.expr_reading.specs.ExprReading.{upper_path}
+use Rattle.expr_parts.specs.Rows.{upper_word}
 use Rattle.parse_module.specs.declared.files.FileKind.{FileKind}
 use Rattle.parse_module.specs.declared.files.FileKind.TheVariants as kind
 use Rattle.parse_module.specs.ModReading.{External, read_mod, read_type, mod_apply, read_body, read_face}
-
--- a name of class Upper
-abbrev pub upper_word : Read Name
-upper_word (word class.Upper x ∷ ts) = Some (x, ts)
-upper_word _ = None
 
 -- a name of class Upper and a `=`
 abbrev pub names_module : List Tok → Bool

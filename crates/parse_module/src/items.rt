@@ -1,19 +1,20 @@
 //! Items of structures.
 
-ghost use Rattle.std.specs.Prelude.{ℕ, ◌≡◌, ◌≤◌, ◌<◌, ◌+◌, ◌∷◌, true, length, Some};
+ghost use Rattle.std.specs.Prelude.{◌≡◌, ◌≤◌, ◌<◌, ◌+◌, ◌∷◌, true, length, Some};
 ghost use Rattle.ml_syntax.specs.declared.fixed.Fixed.TheVariants as key;
 ghost use Rattle.ml_syntax.specs.Tok.{placed};
 ghost use Rattle.ml_syntax.specs.WellFormed.{is_separator as separates};
 ghost use Rattle.ml_syntax.specs.View as v;
-ghost use Rattle.parse_base.specs.Gives.{from, name_at, Gives};
+ghost use Rattle.parse_base.specs.Gives.{from, Gives};
 ghost use Rattle.parse_module.specs.ModReading as r;
 ghost use Rattle.parse_module.specs.ModReading.{read_mod, read_type};
 ghost use Rattle.parse_module.specs.Parts as p;
 ghost use Rattle.parse_module.specs.Reads.{ReadsModules, ReadsTypes};
 
 use crate::modules::Modules;
-use crate::names::{external, module_name, opened, upper_word};
+use crate::names::{external, module_name, opened};
 use crate::values::{sequence, value_item};
+use expr_parts::upper_word;
 use ml_syntax::{Fixed, Item, ModExpr, ModType, Open};
 use parse_base::{Kind, ReadError, declaration_run, expect_at, is, kind_at, number};
 use rotor_base::Token;

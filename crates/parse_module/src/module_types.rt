@@ -1,10 +1,10 @@
 //! Module types.
 
-ghost use Rattle.std.specs.Prelude.{ℕ, ◌≡◌, ◌≤◌, ◌<◌, ◌+◌, ◌∷◌, true, length, map, Some};
+ghost use Rattle.std.specs.Prelude.{◌≤◌, ◌<◌, ◌+◌, ◌∷◌, length, map, Some};
 ghost use Rattle.ml_syntax.specs.declared.fixed.Fixed.TheVariants as key;
 ghost use Rattle.ml_syntax.specs.Tok.{placed};
 ghost use Rattle.ml_syntax.specs.View as v;
-ghost use Rattle.parse_base.specs.Gives.{from, name_at, Gives};
+ghost use Rattle.parse_base.specs.Gives.{from, Gives};
 ghost use Rattle.parse_module.specs.ModReading as r;
 ghost use Rattle.parse_module.specs.ModReading.{read_mod, read_type};
 ghost use Rattle.parse_module.specs.Parts as p;

@@ -1,6 +1,6 @@
 //! Names of modules, and what stands behind `external` and `open`.
 
-ghost use Rattle.std.specs.Prelude.{◌≡◌, ◌≤◌, ◌∷◌, [], length, Some};
+ghost use Rattle.std.specs.Prelude.{◌≤◌, ◌∷◌, [], length, Some};
 ghost use Rattle.ml_syntax.specs.View.{view_word, view_words, view_name, view_run, view_path, view_bang, view_module_name};
 ghost use Rattle.parse_base.specs.Gives.{from, Gives};
 ghost use Rattle.parse_base.specs.Steps.{many, always};
@@ -12,21 +12,6 @@ use ml_syntax::{External, Fixed, ModuleName, Path, Run, ValueName, Word};
 use parse_base::{Kind, ReadError, expect, expect_at, kind_at, number, type_run, value_name, word};
 use rotor_base::{Class, Token};
 use std::alloc::Global;
-
-/// A name of class Upper.
-pub(crate) fn upper_word(
-    alloc: Global,
-    tokens: &[Token<'_>],
-    at: usize,
-) -> Result<(Word, usize), ReadError>
-    requires { length tokens.now ≤ 1048576 }
-    ensures { Gives (λ x. (view_word x.0, from tokens.now x.1)) result (p.upper_word (from tokens.now at)) }
-{
-    match kind_at(tokens, at) {
-        Kind::Word(Class::Upper) => Ok((word(alloc, tokens, Class::Upper, at)?, at + 1)),
-        _ => Err(ReadError::Syntax),
-    }
-}
 
 /// The name of a module, or `_`.
 pub(crate) fn module_name(

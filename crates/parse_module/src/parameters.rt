@@ -1,9 +1,9 @@
 //! Parameters of functors.
 
-ghost use Rattle.std.specs.Prelude.{ℕ, ◌≡◌, ◌≤◌, ◌<◌, ◌+◌, true, length, Some};
+ghost use Rattle.std.specs.Prelude.{◌≤◌, ◌<◌, ◌+◌, length, Some};
 ghost use Rattle.ml_syntax.specs.Tree as pure;
 ghost use Rattle.ml_syntax.specs.View as v;
-ghost use Rattle.parse_base.specs.Gives.{from, name_at, Gives};
+ghost use Rattle.parse_base.specs.Gives.{from, Gives};
 ghost use Rattle.parse_module.specs.ModReading as r;
 ghost use Rattle.parse_module.specs.ModReading.{read_mod, read_type};
 ghost use Rattle.parse_base.specs.Steps.{many, always};

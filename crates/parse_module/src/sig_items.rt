@@ -1,20 +1,20 @@
 //! Items of signatures.
 
-ghost use Rattle.std.specs.Prelude.{ℕ, ◌≡◌, ◌≤◌, ◌<◌, ◌+◌, ◌∷◌, true, length, Some};
+ghost use Rattle.std.specs.Prelude.{◌≡◌, ◌≤◌, ◌<◌, ◌+◌, ◌∷◌, length, Some};
 ghost use Rattle.ml_syntax.specs.Tree as pure;
 ghost use Rattle.ml_syntax.specs.declared.fixed.Fixed.TheVariants as key;
 ghost use Rattle.ml_syntax.specs.Tok.{placed};
 ghost use Rattle.parse_base.specs.Steps.{many, always};
 ghost use Rattle.ml_syntax.specs.View as v;
-ghost use Rattle.parse_base.specs.Gives.{from, name_at, Gives};
+ghost use Rattle.parse_base.specs.Gives.{from, Gives};
 ghost use Rattle.parse_module.specs.ModReading as r;
 ghost use Rattle.parse_module.specs.ModReading.{read_mod, read_type};
 ghost use Rattle.parse_module.specs.Parts as p;
 ghost use Rattle.parse_module.specs.Reads.{ReadsModules, ReadsTypes};
 
 use crate::modules::Modules;
-use crate::names::{external, module_name, opened, upper_word};
-use expr_parts::path;
+use crate::names::{external, module_name, opened};
+use expr_parts::{path, upper_word};
 use ml_syntax::{Fixed, ModExpr, ModType, Open, SigItem};
 use parse_base::{
     Kind, ReadError, declaration_run, expect, expect_at, is, kind_at, number, type_run, value_name,
