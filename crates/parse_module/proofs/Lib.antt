@@ -1,3 +1,4 @@
+pub mod BeforeArrows
 pub mod LongerMod
 pub mod FoundMod
 pub mod ReachMod

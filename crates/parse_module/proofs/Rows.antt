@@ -15,7 +15,7 @@ use Rattle.parse_base.specs.Gives.{starts}
 use Rattle.parse_base.specs.Rows.{first_is}
 use Rattle.parse_module.specs.ModReading as r
 use Rattle.parse_module.specs.ModReading.{read_mod, read_type}
-use Rattle.parse_module.specs.Parts.{names_module, module_type_item, module_type_sig, alias_sig, type_of, arrow}
+use Rattle.parse_module.specs.Parts.{names_module, module_type_item, module_type_sig, alias_sig, type_of}
 
 -- ---- rows that have a part, or none
 
@@ -71,7 +71,7 @@ module _ (d : ℕ) where
 
   -- ---- behind a module type
 
-  pub with_none : (s : pure.ModType) (ts : List Tok) (ws : List WithClause) (rest : List Tok) → length ws ≡ 0 → r.with_or (read_mod d) (read_type d) d s ts (map view_with ws, rest) ≡ r.arrow_or (read_mod d) (read_type d) d s ts (arrow d ts)
+  pub with_none : (s : pure.ModType) (ts : List Tok) (ws : List WithClause) (rest : List Tok) → length ws ≡ 0 → r.with_or (read_mod d) (read_type d) d s ts (map view_with ws, rest) ≡ r.arrow_or (read_mod d) (read_type d) d s ts (expect key.Arrow ts >>= read_type d)
   with_none s ts [] rest h = refl
   with_none s ts (w ∷ ws) rest h = absurd (omega arith)
 

@@ -1,3 +1,4 @@
+pub mod Arrows
 pub mod ModReading
 pub mod Parts
 pub mod Reads

@@ -4,7 +4,7 @@ use Rattle.rotor_base.specs.declared.token.Class.TheVariants as class
 use Rattle.ml_syntax.specs.declared.fixed.Fixed.TheVariants as key
 use Rattle.ml_syntax.specs.declared.module.External.{External as Source}
 use Rattle.ml_syntax.specs.Tok.{Tok, placed, word}
-use Rattle.ml_syntax.specs.Tree.{ModType, TypeOf, Item, ModuleTypeItem, SigItem, ModuleTypeSig, AliasSig, FunctorParam, ParamArrow, FileTree}
+use Rattle.ml_syntax.specs.Tree.{ModType, TypeOf, Item, ModuleTypeItem, SigItem, ModuleTypeSig, AliasSig, FileTree}
 use Rattle.ml_syntax.specs.View.{view_name, view_run, view_words}
 use Rattle.parse_base.specs.Steps.{Read, ◌>>=◌, expect, expect_at}
 use Rattle.expr_reading.specs.ExprReading.{upper_path}
@@ -37,14 +37,6 @@ module _ (d : ℕ) where
   -- after `module type`: `of` and a module
   abbrev pub type_of : ℕ → Read ModType
   type_of at ts = expect key.Of ts >>= λ r. mod_apply (read_mod d) (read_type d) d r >>= λ m. Some (TypeOf at m.0, m.1)
-
-  -- an arrow and the module type behind it
-  abbrev pub arrow : Read ModType
-  arrow ts = expect key.Arrow ts >>= read_type d
-
-  -- behind a parameter
-  abbrev pub param_arrow : FunctorParam → Read ModType
-  param_arrow p ts = expect key.Arrow ts >>= λ r. read_type d r >>= λ s. Some (ParamArrow p s.0, s.1)
 
 -- a body or an interface
 abbrev pub read_file : FileKind → ℕ → ℕ → List Tok → Option FileTree

@@ -6,6 +6,7 @@
 //! reader gives want of memory.
 #![tactic(auto)]
 
+mod arrows;
 mod constraints;
 mod files;
 mod items;

@@ -9,7 +9,9 @@ ghost use Rattle.parse_module.specs.ModReading as r;
 ghost use Rattle.parse_module.specs.ModReading.{read_mod, read_type};
 ghost use Rattle.parse_module.specs.Parts as p;
 ghost use Rattle.parse_module.specs.Reads.{ReadsModules, ReadsTypes};
+ghost use Rattle.parse_module.specs.Arrows.{Steps};
 
+use crate::arrows::{Domain, Step};
 use crate::constraints::with_clauses;
 use crate::modules::Modules;
 use expr_parts::path;
@@ -92,44 +94,7 @@ impl<
         }
     }
 
-    /// An arrow and the module type behind it.
-    #[inline(never)]
-    fn arrow(&self, tokens: &[Token<'_>], at: usize) -> Result<(ModType, usize), ReadError>
-        requires modules { ReadsModules self.now.depth (F.pre self.now.modules) (F.post self.now.modules) }
-        requires types { ReadsTypes self.now.depth (G.pre self.now.types) (G.post self.now.types) }
-        requires few { length tokens.now ≤ 1048576 }
-        ensures { Gives (λ x. (v.view_mod_type x.0, from tokens.now x.1)) result (p.arrow self.now.depth (from tokens.now at)) }
-    {
-        let at = expect(tokens, Fixed::Arrow, at)?;
-        self.sub_type(tokens, at)
-    }
-
-    /// A parameter without a name with an arrow behind it, or a module type alone.
-    #[tactic(auto, using(ml_syntax::proofs::Variants::mod_type_views))]
-    #[inline(never)]
-    fn arrow_or(
-        &self,
-        tokens: &[Token<'_>],
-        body: ModType,
-        at: usize,
-    ) -> Result<(ModType, usize), ReadError>
-        requires modules { ReadsModules self.now.depth (F.pre self.now.modules) (F.post self.now.modules) }
-        requires types { ReadsTypes self.now.depth (G.pre self.now.types) (G.post self.now.types) }
-        requires few { length tokens.now ≤ 1048576 }
-        ensures { Gives (λ x. (v.view_mod_type x.0, from tokens.now x.1)) result (Some (r.arrow_or (read_mod self.now.depth) (read_type self.now.depth) self.now.depth (v.view_mod_type body) (from tokens.now at) (p.arrow self.now.depth (from tokens.now at)))) }
-    {
-        match self.arrow(tokens, at) {
-            Ok((result, after)) => {
-                let param = Box::new(self.alloc, body)?;
-                let result = Box::new(self.alloc, result)?;
-                Ok((ModType::Arrow { param, result }, after))
-            }
-            Err(ReadError::Syntax) => Ok((body, at)),
-            Err(ReadError::Memory) => Err(ReadError::Memory),
-        }
-    }
-
-    /// Each `with` behind a module type, which ends at `after`, or, where there is none, an arrow.
+    /// Each `with` behind a module type, which ends at `after`, or, where there is none, an arrow or nothing.
     #[tactic(auto, using(crate::proofs::Rows::withs, ml_syntax::proofs::Variants::mod_type_views))]
     #[inline(never)]
     fn with_or(
@@ -139,105 +104,73 @@ impl<
         clauses: Vec<WithClause>,
         at: usize,
         after: usize,
-    ) -> Result<(ModType, usize), ReadError>
-        requires modules { ReadsModules self.now.depth (F.pre self.now.modules) (F.post self.now.modules) }
-        requires types { ReadsTypes self.now.depth (G.pre self.now.types) (G.post self.now.types) }
+    ) -> Result<(Step, usize), ReadError>
         requires few { length tokens.now ≤ 1048576 }
-        ensures { Gives (λ x. (v.view_mod_type x.0, from tokens.now x.1)) result (Some (r.with_or (read_mod self.now.depth) (read_type self.now.depth) self.now.depth (v.view_mod_type body) (from tokens.now at) (map v.view_with clauses.items, from tokens.now after))) }
+        ensures { Steps self.now.depth tokens.now result (Some (r.with_or (read_mod self.now.depth) (read_type self.now.depth) self.now.depth (v.view_mod_type body) (from tokens.now at) (map v.view_with clauses.items, from tokens.now after))) }
     {
-        if clauses.len() == 0 {
-            return self.arrow_or(tokens, body, at);
+        if clauses.len() > 0 {
+            let body = Box::new(self.alloc, body)?;
+            return Ok((Step::Whole(ModType::With { body, clauses }), after));
         }
-        let body = Box::new(self.alloc, body)?;
-        Ok((ModType::With { body, clauses }, after))
+        if is(tokens, Fixed::Arrow, at) {
+            return Ok((Step::Before(Domain::Plain { body, end: at }), at + 1));
+        }
+        Ok((Step::Whole(body), at))
     }
 
-    /// A module type that begins with no parameter that has a name.
+    /// A module type that begins with no parameter that has a name, up to its first arrow.
     #[inline(never)]
-    fn with_type(&self, tokens: &[Token<'_>], at: usize) -> Result<(ModType, usize), ReadError>
+    fn with_type(&self, tokens: &[Token<'_>], at: usize) -> Result<(Step, usize), ReadError>
         requires modules { ReadsModules self.now.depth (F.pre self.now.modules) (F.post self.now.modules) }
         requires types { ReadsTypes self.now.depth (G.pre self.now.types) (G.post self.now.types) }
         requires few { length tokens.now ≤ 1048576 }
-        ensures { Gives (λ x. (v.view_mod_type x.0, from tokens.now x.1)) result (r.with_type (read_mod self.now.depth) (read_type self.now.depth) self.now.depth (from tokens.now at)) }
+        ensures { Steps self.now.depth tokens.now result (r.with_type (read_mod self.now.depth) (read_type self.now.depth) self.now.depth (from tokens.now at)) }
     {
         let (body, at) = self.simple_type(tokens, at)?;
         let (clauses, after) = with_clauses(self.alloc, tokens, self.depth, at)?;
         self.with_or(tokens, body, clauses, at, after)
     }
 
-    /// After the parameters of the `functor` at `start`, of which there is one at least: `->` and a module type.
-    #[tactic(auto, using(crate::proofs::Rows::functor_types, ml_syntax::proofs::Variants::mod_type_views))]
+    /// After the parameters of the `functor` at `start`, of which there is one at least: the arrow.
+    #[tactic(auto, using(crate::proofs::Rows::functor_types))]
     #[inline(never)]
-    fn functor_type_end(
+    fn functor_step(
         &self,
         tokens: &[Token<'_>],
         start: usize,
         params: Vec<FunctorParam>,
         at: usize,
-    ) -> Result<(ModType, usize), ReadError>
-        requires modules { ReadsModules self.now.depth (F.pre self.now.modules) (F.post self.now.modules) }
-        requires types { ReadsTypes self.now.depth (G.pre self.now.types) (G.post self.now.types) }
+    ) -> Result<(Step, usize), ReadError>
         requires few { length tokens.now ≤ 1048576 }
         requires begun { start < length tokens.now }
-        ensures { Gives (λ x. (v.view_mod_type x.0, from tokens.now x.1)) result (r.functor_type_end (read_mod self.now.depth) (read_type self.now.depth) self.now.depth (start + 1) (v.functor_params params.items) (from tokens.now at)) }
+        ensures { Steps self.now.depth tokens.now result (r.functor_type_end (read_mod self.now.depth) (read_type self.now.depth) self.now.depth (start + 1) (v.functor_params params.items) (from tokens.now at)) }
     {
         if params.len() == 0 {
             return Err(ReadError::Syntax);
         }
-        let at = expect(tokens, Fixed::Arrow, at)?;
-        let (result, at) = self.sub_type(tokens, at)?;
-        let result = Box::new(self.alloc, result)?;
-        let start = number(start);
-        Ok((
-            ModType::FunctorType {
-                at: start,
-                params,
-                result,
-            },
-            at,
-        ))
+        let after = expect(tokens, Fixed::Arrow, at)?;
+        let at = number(start);
+        Ok((Step::Before(Domain::Functor { at, params }), after))
     }
 
-    /// Behind a parameter: an arrow and a module type.
-    #[tactic(auto, using(ml_syntax::proofs::Variants::mod_type_views))]
-    #[inline(never)]
-    fn param_arrow(
-        &self,
-        tokens: &[Token<'_>],
-        param: FunctorParam,
-        at: usize,
-    ) -> Result<(ModType, usize), ReadError>
-        requires modules { ReadsModules self.now.depth (F.pre self.now.modules) (F.post self.now.modules) }
-        requires types { ReadsTypes self.now.depth (G.pre self.now.types) (G.post self.now.types) }
-        requires few { length tokens.now ≤ 1048576 }
-        ensures { Gives (λ x. (v.view_mod_type x.0, from tokens.now x.1)) result (p.param_arrow self.now.depth (v.view_functor_param param) (from tokens.now at)) }
-    {
-        let at = expect(tokens, Fixed::Arrow, at)?;
-        let (result, at) = self.sub_type(tokens, at)?;
-        let param = Box::new(self.alloc, param)?;
-        let result = Box::new(self.alloc, result)?;
-        Ok((ModType::ParamArrow { param, result }, at))
-    }
-
-    /// A module type.
+    /// A module type up to its first arrow.
     #[tactic(auto, using(crate::proofs::Rows::module_types))]
     #[inline(never)]
-    pub(crate) fn module_type(
-        &self,
-        tokens: &[Token<'_>],
-        at: usize,
-    ) -> Result<(ModType, usize), ReadError>
+    pub(crate) fn step(&self, tokens: &[Token<'_>], at: usize) -> Result<(Step, usize), ReadError>
         requires modules { ReadsModules self.now.depth (F.pre self.now.modules) (F.post self.now.modules) }
         requires types { ReadsTypes self.now.depth (G.pre self.now.types) (G.post self.now.types) }
         requires few { length tokens.now ≤ 1048576 }
-        ensures { Gives (λ x. (v.view_mod_type x.0, from tokens.now x.1)) result (r.mod_type (read_mod self.now.depth) (read_type self.now.depth) self.now.depth (from tokens.now at)) }
+        ensures { Steps self.now.depth tokens.now result (r.mod_type (read_mod self.now.depth) (read_type self.now.depth) self.now.depth (from tokens.now at)) }
     {
         if is(tokens, Fixed::Functor, at) {
             let (params, after) = self.functor_params(tokens, at + 1)?;
-            return self.functor_type_end(tokens, at, params, after);
+            return self.functor_step(tokens, at, params, after);
         }
         match self.functor_param(tokens, at) {
-            Ok((param, after)) => self.param_arrow(tokens, param, after),
+            Ok((param, after)) => {
+                let after = expect(tokens, Fixed::Arrow, after)?;
+                Ok((Step::Before(Domain::Param(param)), after))
+            }
             Err(ReadError::Syntax) => self.with_type(tokens, at),
             Err(ReadError::Memory) => Err(ReadError::Memory),
         }

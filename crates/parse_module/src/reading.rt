@@ -5,6 +5,7 @@ ghost use Rattle.ml_syntax.specs.View as v;
 ghost use Rattle.parse_base.specs.Gives.{from, Gives};
 ghost use Rattle.parse_module.specs.ModReading.{read_mod, read_type};
 
+use crate::arrows::{Step, with_arrows};
 use crate::modules::Modules;
 use ml_syntax::{ModExpr, ModType};
 use parse_base::ReadError;
@@ -40,7 +41,7 @@ pub(crate) fn read_module(
     readers.module(tokens, at)
 }
 
-/// A module type, the same.
+/// A module type, the same. What stands before each arrow is read by a loop; each arrow is a level.
 #[cycle(modules)]
 #[tactic(auto, unfolding(crate::specs::ModReading::read_type))]
 pub(crate) fn read_module_type(
@@ -53,18 +54,31 @@ pub(crate) fn read_module_type(
     requires { length tokens.now ≤ 1048576 }
     ensures { Gives (λ x. (v.view_mod_type x.0, from tokens.now x.1)) result (read_type depth (from tokens.now at)) }
 {
-    if depth == 0 {
-        return Err(ReadError::Syntax);
+    let mut before = Vec::new(alloc);
+    let mut at = at;
+    for turn in 0..depth {
+        if turn >= levels {
+            return Err(ReadError::Memory);
+        }
+        let readers = Modules {
+            alloc,
+            depth: depth - turn - 1,
+            levels: levels - turn - 1,
+            modules: read_module,
+            types: read_module_type,
+        };
+        let (step, after) = match readers.step(tokens, at) {
+            Ok(found) => found,
+            Err(ReadError::Syntax) => return with_arrows(alloc, before, None),
+            Err(ReadError::Memory) => return Err(ReadError::Memory),
+        };
+        match step {
+            Step::Before(domain) => {
+                before.push(domain)?;
+                at = after;
+            }
+            Step::Whole(last) => return with_arrows(alloc, before, Some((last, after))),
+        }
     }
-    if levels == 0 {
-        return Err(ReadError::Memory);
-    }
-    let readers = Modules {
-        alloc,
-        depth: depth - 1,
-        levels: levels - 1,
-        modules: read_module,
-        types: read_module_type,
-    };
-    readers.module_type(tokens, at)
+    with_arrows(alloc, before, None)
 }
