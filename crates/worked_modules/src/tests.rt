@@ -152,7 +152,12 @@ fn bodies_and_faces(rt: HostRuntime) -> Result<(), Fail> {
         ("include (X : S) -> T", 1, "named arrow", 0),
         ("include () -> T", 1, "named arrow", 0),
         ("include (S) -> T -> U", 1, "arrow", 0),
-        ("include S -> functor (X : A) -> (Y : B) -> T", 1, "arrow", 0),
+        (
+            "include S -> functor (X : A) -> (Y : B) -> T",
+            1,
+            "arrow",
+            0,
+        ),
         (TREESET_MLI, 1, "module", 1),
     ];
     for (source, items, name, parts) in bodies {
