@@ -2,6 +2,7 @@
 #![tactic(auto)]
 
 ghost use Rattle.std.specs.Prelude.{◌≡◌, ℕ, ◌*◌, ◌≤◌, List, All, IfOk, length};
+ghost use Rattle.edits.specs.Lexemes.{ReplacedIsRespelled};
 ghost use Rattle.edits.specs.Undo.{GivesBack, CanGoBack};
 ghost use Rattle.edits.specs.Replaced.{AreInOrder, HasShortText, replaced, KeepsTheRest};
 
@@ -62,4 +63,11 @@ pub fn replacing_keeps_the_rest()
 pub fn replacing_is_undone()
     ensures back { GivesBack }
     ensures fits { CanGoBack }
+{}
+
+/// Law: edits that replace the spans of lexemes by new words stand in order, and make the source with its lexemes
+/// respelled.
+#[tactic(auto, using(crate::proofs::Lexemes::replaced_is_respelled))]
+pub fn replaced_is_respelled()
+    ensures { ReplacedIsRespelled }
 {}

@@ -290,3 +290,120 @@ pub number_same : (k : Class) (front rest rest' : List ℕ) → Alike rest rest'
 number_same k q rest rest' both_end e = e
 number_same k q rest rest' (same_byte {c = c} {r = r} {r' = r'}) e = number_closed k q c r r' (number_followed k q (c ∷ r) e) e
 number_same k q rest rest' (both_words {c = c} {r = r} h h') e = let wrong : true ≡ false = sym (word_byte_is_identifier c h) ∙ number_followed k q (c ∷ r) e in cc
+
+-- a number that ends with the front is one where nothing follows
+run_alone : (p : ℕ → Bool) (q : List ℕ) (c : ℕ) (s : List ℕ) → p c ≡ false → prefix_len p (q ++ []) ≡ prefix_len p (q ++ (c ∷ s))
+run_alone p [] c s nay = rw nay refl
+run_alone p (x ∷ q) c s nay = rw (run_alone p q c s nay) refl
+
+digits_alone : (base : Base) (q : List ℕ) (c : ℕ) (s : List ℕ) → is_identifier_byte c ≡ false → digits_length base (q ++ []) ≡ digits_length base (q ++ (c ∷ s))
+unfolding digits_length
+digits_alone base q c s nay = run_alone (λ x. is_digit_of base x || x == byte "_") q c s (rw (no_digit base c nay, no_bar c nay) refl)
+
+head_alone : (letters : String) (base : Base) (q : List ℕ) (c : ℕ) (s : List ℕ) → 0 < length q → is_identifier_byte c ≡ false → among letters 0 ≡ false → among letters c ≡ false → has_head letters base (q ++ []) ≡ has_head letters base (q ++ (c ∷ s))
+head_alone letters base [] c s some nay zero_nay nay' = absurd (omega arith)
+head_alone letters base (x ∷ []) c s some nay zero_nay nay' = and_middle (x == byte "0") (among letters 0) (is_digit_of base 0) zero_nay ∙ sym (and_middle (x == byte "0") (among letters c) (is_digit_of base (get_or s 0 0)) nay')
+head_alone letters base (x ∷ y ∷ []) c s some nay zero_nay nay' = ap (λ v. x == byte "0" && among letters y && v) (no_digit base 0 refl ∙ sym (no_digit base c nay))
+head_alone letters base (x ∷ y ∷ z ∷ q) c s some nay zero_nay nay' = refl
+
+base_alone : (q : List ℕ) (c : ℕ) (s : List ℕ) → 0 < length q → is_identifier_byte c ≡ false → base_of (q ++ []) ≡ base_of (q ++ (c ∷ s))
+base_alone q c s some nay =
+    base_of_tests (q ++ []) _ _ _ (head_alone "xX" Hexadecimal q c s some nay refl (none_among (codes "xX") c refl nay)) (head_alone "oO" Octal q c s some nay refl (none_among (codes "oO") c refl nay)) (head_alone "bB" Binary q c s some nay refl (none_among (codes "bB") c refl nay))
+    ∙ sym (base_of_tests (q ++ (c ∷ s)) _ _ _ refl refl refl)
+
+fraction_alone : (base : Base) (q : List ℕ) (c : ℕ) (s : List ℕ) → is_identifier_byte c ≡ false → fraction_length base (q ++ (c ∷ s)) ≤ length q → fraction_length base (q ++ []) ≡ fraction_length base (q ++ (c ∷ s))
+fraction_alone base [] c s nay fits = elim (which (c == byte ".")) [
+  | inl y ↦ let now = fraction_at base (c ∷ s) true _ y refl in absurd (omega (arith, now, fits))
+  | inr y ↦ fraction_at base [] false _ refl refl ∙ sym (fraction_at base (c ∷ s) false _ y refl)
+]
+fraction_alone base (x ∷ q) c s nay fits =
+    fraction_at base ((x ∷ q) ++ []) _ _ refl (digits_alone base q c s nay) ∙ sym (fraction_at base ((x ∷ q) ++ (c ∷ s)) _ _ refl refl)
+
+tail_alone : (t : Bool) (x y : ℕ) (q : List ℕ) (c : ℕ) (s : List ℕ) → is_identifier_byte c ≡ false → prefix_len is_ascii_digit (drop (cond t 2 1) (x ∷ y ∷ (q ++ []))) ≡ prefix_len is_ascii_digit (drop (cond t 2 1) (x ∷ y ∷ (q ++ (c ∷ s))))
+tail_alone true x y q c s nay = run_alone is_ascii_digit q c s (no_decimal c nay)
+tail_alone false x y q c s nay = run_alone is_ascii_digit (y ∷ q) c s (no_decimal c nay)
+
+exponent_alone : (base : Base) (q : List ℕ) (c : ℕ) (s : List ℕ) → is_identifier_byte c ≡ false → exponent_length base (q ++ (c ∷ s)) ≡ length q → exponent_length base (q ++ []) ≡ exponent_length base (q ++ (c ∷ s))
+exponent_alone base [] c s nay e = no_exponent base [] (no_letter base 0 refl) ∙ sym (no_exponent base (c ∷ s) (no_letter base c nay))
+exponent_alone base (x ∷ []) c s nay e = absurd (exponent_not_one base (x ∷ c ∷ s) e)
+exponent_alone base (x ∷ y ∷ q) c s nay e =
+    exponent_at base ((x ∷ y ∷ q) ++ []) (begins_exponent base x) (sign_end (x ∷ y ∷ q)) _ refl refl (tail_alone (among "+-" y) x y q c s nay)
+    ∙ sym (exponent_at base ((x ∷ y ∷ q) ++ (c ∷ s)) (begins_exponent base x) (sign_end (x ∷ y ∷ q)) _ refl refl refl)
+
+float_alone : (base : Base) (q : List ℕ) (c : ℕ) (s : List ℕ) → is_identifier_byte c ≡ false → 0 < length q → float_part_length base (q ++ (c ∷ s)) ≡ length q → float_part_length base (q ++ []) ≡ length q
+float_alone base q c s nay some e =
+    let fraction = fraction_length base (q ++ (c ∷ s)) in
+    let exponent = exponent_length base (drop fraction (q ++ (c ∷ s))) in
+    let now = float_at base (q ++ (c ∷ s)) fraction exponent refl refl in
+    let sum = (pick (has_floats base) (fraction + exponent) (length q) (sym now ∙ e) some).1 in
+    let fits : fraction ≤ length q = omega (arith, sum) in
+    let cut = drop-append-le fraction q (c ∷ s) fits in
+    let cut' = drop-append-le fraction q [] fits in
+    let rest : exponent_length base (drop fraction q ++ (c ∷ s)) ≡ length (drop fraction q) =
+    ap (exponent_length base) (sym cut) ∙ (rw length-drop (omega (arith, sum))) in
+    let exponent' = ap (exponent_length base) cut' ∙ exponent_alone base (drop fraction q) c s nay rest ∙ ap (exponent_length base) (sym cut) in
+    float_at base (q ++ []) fraction exponent (fraction_alone base q c s nay fits) exponent' ∙ sym now ∙ e
+
+plain_alone : (base : Base) (q : List ℕ) (c : ℕ) (s : List ℕ) → suffix_length (q ++ (c ∷ s)) ≡ length q → float_part_length base (q ++ []) ≡ 0
+plain_alone base [] c s e = no_float base [] refl (no_letter base 0 refl)
+plain_alone base (x ∷ []) c s e = elim (which (among "lLn" x)) [
+  | inl y ↦ no_float base (x ∷ []) (suffix_no_point x y) (suffix_no_letter base x y)
+  | inr y ↦ let none = suffix_is (x ∷ c ∷ s) false y in absurd (omega (arith, none, e))
+]
+plain_alone base (x ∷ y ∷ q) c s e = elim (which (among "lLn" x)) [
+  | inl t ↦ let one = suffix_is (x ∷ y ∷ (q ++ (c ∷ s))) true t in absurd (omega (arith, one, e))
+  | inr t ↦ let none = suffix_is (x ∷ y ∷ (q ++ (c ∷ s))) false t in absurd (omega (arith, none, e))
+]
+
+suffix_alone : (q : List ℕ) (c : ℕ) (s : List ℕ) → is_identifier_byte c ≡ false → suffix_length (q ++ []) ≡ suffix_length (q ++ (c ∷ s))
+suffix_alone [] c s nay = sym (suffix_is (c ∷ s) false (none_among (codes "lLn") c refl nay))
+suffix_alone (x ∷ q) c s nay = refl
+
+number_byte_alone : (k : Class) (q : List ℕ) (c : ℕ) (s : List ℕ) → is_identifier_byte c ≡ false → number_at (q ++ (c ∷ s)) ≡ piece.Lexeme k (length q) → number_at (q ++ []) ≡ piece.Lexeme k (length q)
+number_byte_alone k q c s nay e =
+    let b = q ++ (c ∷ s) in
+    let b' = q ++ [] in
+    let base = base_of b in
+    let head = head_length base in
+    let positive = head_positive base in
+    let n = head + digits_length base (drop head b) in
+    let more = float_part_length base (drop n b) in
+    let ends = number_ends (nat_lt 0 more) k (n + more) (n + suffix_length (drop n b)) (length q) b (sym (number_parts b base n more refl refl refl) ∙ e) in
+    let fits : n ≤ length q = reach (nat_lt 0 more) n more (suffix_length (drop n b)) (length q) ends.0 in
+    let base' = base_alone q c s (omega (arith, fits, positive)) nay in
+    let head_fits : head ≤ length q = omega (arith, fits) in
+    let digits' : digits_length base (drop head b') ≡ digits_length base (drop head b) =
+    ap (digits_length base) (drop-append-le head q [] head_fits) ∙ digits_alone base (drop head q) c s nay ∙ ap (digits_length base) (sym (drop-append-le head q (c ∷ s) head_fits)) in
+    let n' = ap (λ d. head + d) digits' in
+    let cut = drop-append-le n q (c ∷ s) fits in
+    let cut' = drop-append-le n q [] fits in
+    let follows' : is_identifier_byte (get_or b' (length q) 0) ≡ false = ap is_identifier_byte (byte_behind q []) in
+    let suffix' : suffix_length (drop n b') ≡ suffix_length (drop n b) = ap suffix_length cut' ∙ suffix_alone (drop n q) c s nay ∙ ap suffix_length (sym cut) in
+    let more' : float_part_length base (drop n b') ≡ more = elim (which (nat_lt 0 more)) [
+      | inl t ↦
+          let sum : n + more ≡ length q = ap (λ v. cond v (n + more) (n + suffix_length (drop n b))) (sym t) ∙ ends.0 in
+          let some : 0 < more = grind (arith, nat_tests, t) in
+          let all : float_part_length base (drop n q ++ (c ∷ s)) ≡ length (drop n q) = ap (float_part_length base) (sym cut) ∙ (rw length-drop (omega (arith, sum))) in
+          ap (float_part_length base) cut' ∙ float_alone base (drop n q) c s nay (rw length-drop (omega (arith, sum, some))) all ∙ sym all ∙ ap (float_part_length base) (sym cut)
+      | inr t ↦
+          let sum : n + suffix_length (drop n b) ≡ length q = ap (λ v. cond v (n + more) (n + suffix_length (drop n b))) (sym t) ∙ ends.0 in
+          let zero_more : more ≡ 0 = grind (arith, nat_tests, t) in
+          let all : suffix_length (drop n q ++ (c ∷ s)) ≡ length (drop n q) = ap suffix_length (sym cut) ∙ (rw length-drop (omega (arith, sum))) in
+          ap (float_part_length base) cut' ∙ plain_alone base (drop n q) c s all ∙ sym zero_more
+    ] in
+    number_parts b' base n more base' n' more'
+    ∙ number_again (nat_lt 0 more) k (n + more) (n + suffix_length (drop n b')) (length q) b' (ap (λ v. cond (nat_lt 0 more) (n + more) (n + v)) suffix' ∙ ends.0) follows' ends.2
+
+pub number_alone : (k : Class) (front rest : List ℕ) → number_at (front ++ rest) ≡ piece.Lexeme k (length front) → number_at (front ++ []) ≡ piece.Lexeme k (length front)
+number_alone k q [] e = e
+number_alone k q (c ∷ r) e = number_byte_alone k q c r (number_followed k q (c ∷ r) e) e
+
+pub number_some : (k : Class) (b : List ℕ) → number_at b ≡ piece.Lexeme k 0 → ⊥
+number_some k b e =
+    let base = base_of b in
+    let positive = head_positive base in
+    let n = head_length base + digits_length base (drop (head_length base) b) in
+    let more = float_part_length base (drop n b) in
+    let ends = number_ends (nat_lt 0 more) k (n + more) (n + suffix_length (drop n b)) 0 b (sym (number_parts b base n more refl refl refl) ∙ e) in
+    let fits : n ≤ 0 = reach (nat_lt 0 more) n more (suffix_length (drop n b)) 0 ends.0 in
+    omega (arith, fits, positive)

@@ -1,5 +1,5 @@
 -- A lexeme or a trivia that ends with the front is the same whatever follows, where the first byte behind is alike.
-use Rattle.std.proofs.Common.{◌≡◌, ℕ, suc, ◌+◌, ◌<◌, ◌≤◌, ◌⊎◌, inl, inr, List, [], ◌∷◌, ◌++◌, Bool, true, false, not, cond, ◌==◌, ◌&&◌, length, get_or, Option, Some, None, refl, ap, sym, ◌∙◌, arith}
+use Rattle.std.proofs.Common.{◌≡◌, ℕ, suc, ◌+◌, ◌<◌, ◌≤◌, ◌⊎◌, inl, inr, List, [], ◌∷◌, ◌++◌, Bool, true, false, not, cond, ◌==◌, ◌&&◌, length, get_or, Option, Some, None, refl, ap, sym, ◌∙◌, arith, append-nil}
 use Rattle.std.specs.Char.{is_ascii_digit, is_ascii_hexdigit}
 use Rattle.std.specs.List.{prefix_len}
 use Rattle.std.specs.Str.{byte}
@@ -11,13 +11,13 @@ use Rattle.ml_lexer.specs.declared.piece.Piece.TheVariants as piece
 use Rattle.ml_lexer.specs.Bytes.{among, is_at, is_word_start, is_quoted_word_byte}
 use Rattle.ml_lexer.specs.Quotes.{is_octal_digit, fit, is, plain_char, short_escape, decimal_escape, hexadecimal_escape, octal_escape, char_length, text_length, opens_quoted, quoted_length, quoted_word_length}
 use Rattle.ml_lexer.specs.Trivia.{opens_comment, comment_length, attribute_length}
-use Rattle.ml_lexer.specs.Pieces.{trivia, ended, marked_word_at, mark_length, char_or_variable, begins_label, begins_operator, sign_at, lexeme_at, piece_at}
-use Rattle.ml_lexer.proofs.Local.{Alike, which, le_or_lt, alike_test, and_false, fit_same, byte_inside, run_inside, run_stops, run_exact, word_range, opens_at, quoted_far, quoted_same}
+use Rattle.ml_lexer.specs.Pieces.{trivia, ended, marked_word_at, label_at, mark_length, char_or_variable, begins_label, begins_operator, sign_at, lexeme_at, piece_at}
+use Rattle.ml_lexer.proofs.Local.{Alike, which, le_or_lt, alike_test, and_false, fit_same, byte_inside, run_inside, run_stops, run_exact, word_range, opens_at, quoted_far, quoted_same, text_far}
 use Rattle.ml_lexer.proofs.Nested.{text_length_same, comment_exact, attribute_exact}
-use Rattle.ml_lexer.proofs.Words.{alike_stops, word_same}
-use Rattle.ml_lexer.proofs.Signs.{marked_same, marked_starts, marked_long, label_same, byte_behind}
-use Rattle.ml_lexer.proofs.Marks.{word_is_not, cond_same, mark_tests, sign_same, sign_tests}
-use Rattle.ml_lexer.proofs.Digits.{number_same}
+use Rattle.ml_lexer.proofs.Words.{alike_stops, word_same, word_alone, word_some}
+use Rattle.ml_lexer.proofs.Signs.{marked_same, marked_starts, marked_long, label_same, byte_behind, marked_alone, label_alone, label_long}
+use Rattle.ml_lexer.proofs.Marks.{word_is_not, cond_same, mark_tests, sign_same, sign_tests, sign_alone, sign_positive}
+use Rattle.ml_lexer.proofs.Digits.{number_same, number_alone, number_some}
 use Rattle.ml_lexer.proofs.Apart.{lexeme_tests, lexeme_is_no_trivia}
 
 abbrev choice : Bool → Bool → Bool → Bool → Bool → Option ℕ
@@ -260,3 +260,150 @@ trivia_same x f rest rest' alike e =
     cond_same (opens_comment ((x ∷ f) ++ rest)) (λ h. ap trivia (comment_exact (x ∷ f) rest rest' alike (trivia_some _ _ h))) (
     cond_same (is_at "[" 0 ((x ∷ f) ++ rest) && is_at "@" 1 ((x ∷ f) ++ rest)) (λ h. ap trivia (attribute_exact (x ∷ f) rest rest' alike (trivia_some _ _ h))) (λ h. absurd (lexeme_is_no_trivia ((x ∷ f) ++ rest) (suc (length f)) h))))
     (sym (piece_tests ((x ∷ f) ++ rest) _ _ refl refl) ∙ e)
+
+-- ---- a lexeme that ends with the front is one where nothing follows
+
+no_third : (x y : ℕ) → fit plain_char 0 (x ∷ y ∷ []) ≡ false
+no_third x y = ap (λ v. is "'" x && v) (and_false (not (among "'\\\n\r" y))) ∙ and_false (is "'" x)
+
+char_alone : (x y : ℕ) (f rest : List ℕ) → is_word_start y ≡ true → char_length ((x ∷ y ∷ f) ++ rest) ≡ None → char_length ((x ∷ y ∷ f) ++ []) ≡ None
+char_alone x y [] rest start none = char_plain x y [] (start_is_not (byte "\\") refl y start) ∙ ap (λ v. cond v (Some 3) None) (no_third x y)
+char_alone x y (z ∷ f) rest start none =
+    let nay = start_is_not (byte "\\") refl y start in
+    char_plain x y ((z ∷ f) ++ []) nay ∙ sym (char_plain x y ((z ∷ f) ++ rest) nay) ∙ none
+
+variable_alone : (k : Class) (front rest : List ℕ) → char_length (front ++ rest) ≡ None → marked_word_at class.TypeVar (front ++ rest) ≡ piece.Lexeme k (length front) → char_or_variable (char_length (front ++ [])) (front ++ []) ≡ piece.Lexeme k (length front)
+variable_alone k [] rest none e = let long = marked_long class.TypeVar k rest 0 e in absurd (omega (arith, long))
+variable_alone k (x ∷ []) rest none e = let long = marked_long class.TypeVar k (x ∷ rest) 1 e in absurd (omega (arith, long))
+variable_alone k (x ∷ y ∷ f) rest none e =
+    let start = marked_starts class.TypeVar k ((x ∷ y ∷ f) ++ rest) _ e in
+    ap (λ o. char_or_variable o ((x ∷ y ∷ f) ++ [])) (char_alone x y f rest start none) ∙ marked_alone class.TypeVar k (x ∷ y ∷ f) rest e
+
+quote_alone : (k : Class) (o : Option ℕ) (front rest : List ℕ) → char_length (front ++ rest) ≡ o → char_or_variable o (front ++ rest) ≡ piece.Lexeme k (length front) → char_or_variable (char_length (front ++ [])) (front ++ []) ≡ piece.Lexeme k (length front)
+quote_alone k None front rest is_o e = variable_alone k front rest is_o e
+quote_alone k (Some n) front rest is_o e =
+    let at = size_of_lexeme k class.Char n (length front) e in
+    ap (λ o. char_or_variable o (front ++ [])) (char_inside front rest [] n is_o (omega (arith, at))) ∙ e
+
+opens_inside : (q rest rest' : List ℕ) → prefix_len is_quoted_word_byte (q ++ rest) < length q → opens_quoted (123 ∷ (q ++ rest')) ≡ opens_quoted (123 ∷ (q ++ rest))
+opens_inside q rest rest' less =
+    let n = prefix_len is_quoted_word_byte (q ++ rest) in
+    brace_opens (q ++ rest') n (run_inside is_quoted_word_byte q rest rest' less)
+    ∙ ap (λ v. v == byte "|") (sym (byte_inside q rest rest' n less))
+    ∙ sym (brace_opens (q ++ rest) n refl)
+
+brace_alone : (k : Class) (f rest : List ℕ) → lexeme_at (123 ∷ (f ++ rest)) ≡ piece.Lexeme k (suc (length f)) → opens_quoted (123 ∷ (f ++ [])) ≡ opens_quoted (123 ∷ (f ++ rest))
+brace_alone k [] rest e = elim (which (opens_quoted (123 ∷ rest))) [
+  | inl o ↦ absurd (quoted_is_long k rest 1 e o (omega arith))
+  | inr o ↦ brace_opens [] 0 refl ∙ sym o
+]
+brace_alone k (y ∷ g) rest e = elim (which (opens_quoted (123 ∷ y ∷ (g ++ rest)))) [
+  | inl o ↦
+      let fits = ended_fits k (quoted_length (123 ∷ y ∷ (g ++ rest))) _ _ (quoted_fits (123 ∷ y ∷ (g ++ rest))) (sym (brace_lexeme (y ∷ (g ++ rest)) true o) ∙ e) in
+      opens_inside (y ∷ g) rest [] (omega (arith, fits))
+  | inr o ↦
+      let aye = brace_long k y (g ++ rest) (length g) (sym (brace_lexeme (y ∷ (g ++ rest)) false o) ∙ e) in
+      let is_percent : y ≡ 37 = grind (arith, nat_tests, aye) in
+      ap (λ v. opens_quoted (123 ∷ v ∷ (g ++ []))) is_percent ∙ percent_opens_not (g ++ []) ∙ sym o
+]
+
+opens_alone : (k : Class) (x : ℕ) (f rest : List ℕ) → lexeme_at ((x ∷ f) ++ rest) ≡ piece.Lexeme k (suc (length f)) → opens_quoted ((x ∷ f) ++ []) ≡ opens_quoted ((x ∷ f) ++ rest)
+opens_alone k x f rest e = elim (which (x == byte "{")) [
+  | inr nay ↦ no_brace x (f ++ []) nay ∙ sym (no_brace x (f ++ rest) nay)
+  | inl aye ↦
+      let is_brace : x ≡ 123 = grind (arith, nat_tests, aye) in
+      ap (λ v. opens_quoted (v ∷ (f ++ []))) is_brace
+      ∙ brace_alone k f rest (ap (λ v. lexeme_at (v ∷ (f ++ rest))) (sym is_brace) ∙ e)
+      ∙ ap (λ v. opens_quoted (v ∷ (f ++ rest))) (sym is_brace)
+]
+
+last_alone : (k : Class) (x : ℕ) (f rest : List ℕ) → cond (begins_label ((x ∷ f) ++ rest)) (label_at ((x ∷ f) ++ rest)) (sign_at ((x ∷ f) ++ rest)) ≡ piece.Lexeme k (suc (length f)) → cond (begins_label ((x ∷ f) ++ [])) (label_at ((x ∷ f) ++ [])) (sign_at ((x ∷ f) ++ [])) ≡ piece.Lexeme k (suc (length f))
+last_alone k x [] rest e =
+    let none : begins_label (x ∷ []) ≡ false = label_tests (x ∷ []) false refl ∙ and_false (among "~?" x) in
+    elim (which (begins_label (x ∷ rest))) [
+      | inl y ↦
+          let long = label_long k (x ∷ rest) 1 (ap (λ t. cond t (label_at (x ∷ rest)) (sign_at (x ∷ rest))) (sym y) ∙ e) in
+          absurd (omega (arith, long))
+      | inr y ↦
+          ap (λ t. cond t (label_at (x ∷ [])) (sign_at (x ∷ []))) none
+          ∙ sign_alone k (x ∷ []) rest (ap (λ t. cond t (label_at (x ∷ rest)) (sign_at (x ∷ rest))) (sym y) ∙ e)
+    ]
+last_alone k x (y ∷ f) rest e =
+    let same : begins_label ((x ∷ y ∷ f) ++ []) ≡ begins_label ((x ∷ y ∷ f) ++ rest) = label_tests ((x ∷ y ∷ f) ++ []) _ refl ∙ sym (label_tests ((x ∷ y ∷ f) ++ rest) _ refl) in
+    ap (λ t. cond t (label_at ((x ∷ y ∷ f) ++ [])) (sign_at ((x ∷ y ∷ f) ++ []))) same
+    ∙ cond_same (begins_label ((x ∷ y ∷ f) ++ rest)) (label_alone k (x ∷ y ∷ f) rest) (sign_alone k (x ∷ y ∷ f) rest) e
+
+lexeme_alone : (k : Class) (x : ℕ) (f rest : List ℕ) → lexeme_at ((x ∷ f) ++ rest) ≡ piece.Lexeme k (suc (length f)) → lexeme_at ((x ∷ f) ++ []) ≡ piece.Lexeme k (suc (length f))
+lexeme_alone k x f rest e =
+    lexeme_tests ((x ∷ f) ++ []) _ _ (opens_alone k x f rest e) refl
+    ∙ cond_same (is_word_start x) (word_alone k (x ∷ f) rest) (
+    cond_same (is_ascii_digit x) (number_alone k (x ∷ f) rest) (
+    cond_same (x == byte "\"") (ended_same class.Text k (text_length ((x ∷ f) ++ rest)) (text_length ((x ∷ f) ++ [])) (suc (length f)) (λ m. text_length_same (x ∷ f) rest [] m (omega arith))) (
+    cond_same (opens_quoted ((x ∷ f) ++ rest)) (ended_same class.Quoted k (quoted_length ((x ∷ f) ++ rest)) (quoted_length ((x ∷ f) ++ [])) (suc (length f)) (quoted_same (x ∷ f) rest [])) (
+    cond_same (x == byte "'") (quote_alone k (char_length ((x ∷ f) ++ rest)) (x ∷ f) rest refl) (
+    cond_same (x == byte "`") (marked_alone class.Tag k (x ∷ f) rest) (last_alone k x f rest))))))
+    (sym (lexeme_tests ((x ∷ f) ++ rest) _ _ refl refl) ∙ e)
+
+-- what is no trivia
+no_trivia : (w o t : Bool) (c a : Option ℕ) (p : Piece) (k : Class) (n : ℕ) → cond w (piece.Trivia 1) (cond o (trivia c) (cond t (trivia a) p)) ≡ piece.Lexeme k n → (w ≡ false) × (o ≡ false) × (t ≡ false)
+no_trivia true o t c a p k n e = cc
+no_trivia false true t c a p k n e = absurd (trivia_is_no_lexeme c k n e)
+no_trivia false false true c a p k n e = absurd (trivia_is_no_lexeme a k n e)
+no_trivia false false false c a p k n e = (refl, refl, refl)
+
+pair_alone : (i j x : ℕ) (f rest : List ℕ) → (0 == j) ≡ false → (get_or ((x ∷ f) ++ rest) 0 0 == i && get_or ((x ∷ f) ++ rest) 1 0 == j) ≡ false → (get_or ((x ∷ f) ++ []) 0 0 == i && get_or ((x ∷ f) ++ []) 1 0 == j) ≡ false
+pair_alone i j x [] rest nay e = ap (λ v. x == i && v) nay ∙ and_false (x == i)
+pair_alone i j x (y ∷ f) rest nay e = e
+
+piece_alone : (k : Class) (x : ℕ) (f rest : List ℕ) → piece_at ((x ∷ f) ++ rest) ≡ piece.Lexeme k (suc (length f)) → piece_at ((x ∷ f) ++ []) ≡ piece.Lexeme k (suc (length f))
+piece_alone k x f rest e =
+    let b = (x ∷ f) ++ rest in
+    let none = no_trivia (is_white x) (opens_comment b) (is_at "[" 0 b && is_at "@" 1 b) (comment_length b) (attribute_length b) (lexeme_at b) k (suc (length f)) (sym (piece_tests b _ _ refl refl) ∙ e) in
+    piece_tests ((x ∷ f) ++ []) false false (pair_alone (byte "(") (byte "*") x f rest refl none.1) (pair_alone (byte "[") (byte "@") x f rest refl none.2)
+    ∙ ap (λ t. cond t (piece.Trivia 1) (lexeme_at ((x ∷ f) ++ []))) none.0
+    ∙ lexeme_alone k x f rest (lexeme_of_piece b k _ e)
+
+-- ---- no lexeme is empty
+
+neither : (t : Bool) {a c p : Piece} → (a ≡ p → ⊥) → (c ≡ p → ⊥) → cond t a c ≡ p → ⊥
+neither true f g e = f e
+neither false f g e = g e
+
+choice_some : (a b c d e : Bool) → choice a b c d e ≡ Some 0 → ⊥
+choice_some true b c d e h = cc
+choice_some false true c d e h = cc
+choice_some false false true d e h = cc
+choice_some false false false true e h = cc
+choice_some false false false false true h = cc
+choice_some false false false false false h = cc
+
+quote_some : (k : Class) (b : List ℕ) (o : Option ℕ) → char_length b ≡ o → char_or_variable o b ≡ piece.Lexeme k 0 → ⊥
+quote_some k b None is_o e = let long = marked_long class.TypeVar k b 0 e in omega (arith, long)
+quote_some k b (Some n) is_o e =
+    let none = size_of_lexeme k class.Char n 0 e in
+    choice_some (fit plain_char 0 b) (fit short_escape 0 b) (fit decimal_escape 0 b) (fit hexadecimal_escape 0 b) (fit octal_escape 0 b) (sym (char_choice b) ∙ is_o ∙ ap Some none)
+
+ended_some : (kind k : Class) (o : Option ℕ) → (o ≡ Some 0 → ⊥) → ended kind o ≡ piece.Lexeme k 0 → ⊥
+ended_some kind k None f e = cc
+ended_some kind k (Some n) f e = let none = size_of_lexeme k kind n 0 e in f (ap Some none)
+
+lexeme_some : (k : Class) (b : List ℕ) → lexeme_at b ≡ piece.Lexeme k 0 → ⊥
+lexeme_some k b e =
+    neither (is_word_start (get_or b 0 0)) (word_some k b) (
+    neither (is_ascii_digit (get_or b 0 0)) (number_some k b) (
+    neither (is_at "\"" 0 b) (ended_some class.Text k (text_length b) (λ h. let far = text_far 1 false _ 0 h in omega (arith, far))) (
+    neither (opens_quoted b) (ended_some class.Quoted k (quoted_length b) (λ h. let far = quoted_fits b 0 h in omega (arith, far))) (
+    neither (is_at "'" 0 b) (quote_some k b (char_length b) refl) (
+    neither (is_at "`" 0 b) (λ h. let long = marked_long class.Tag k b 0 h in omega (arith, long)) (
+    neither (begins_label b) (λ h. let long = label_long k b 0 h in omega (arith, long)) (sign_positive b k)))))))
+    (sym (lexeme_tests b _ _ refl refl) ∙ e)
+
+-- a lexeme takes a byte or more
+pub takes_some : (k : Class) (front rest : List ℕ) → piece_at (front ++ rest) ≡ piece.Lexeme k (length front) → 0 < length front
+takes_some k [] rest e = absurd (lexeme_some k rest (lexeme_of_piece rest k 0 e))
+takes_some k (x ∷ f) rest e = omega arith
+
+-- alone it is a lexeme of its class
+pub whole_alone : (k : Class) (front rest : List ℕ) → piece_at (front ++ rest) ≡ piece.Lexeme k (length front) → piece_at front ≡ piece.Lexeme k (length front)
+whole_alone k [] rest e = absurd (lexeme_some k rest (lexeme_of_piece rest k 0 e))
+whole_alone k (x ∷ f) rest e = ap piece_at (sym (append-nil (x ∷ f))) ∙ piece_alone k x f rest e

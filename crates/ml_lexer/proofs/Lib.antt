@@ -13,3 +13,6 @@ pub mod Digits
 pub mod Apart
 pub mod Fronts
 pub mod Replaced
+pub mod Order
+pub mod Back
+pub mod Between

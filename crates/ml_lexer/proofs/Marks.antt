@@ -10,7 +10,7 @@ use Rattle.ml_lexer.specs.declared.piece.Piece.TheVariants as piece
 use Rattle.ml_lexer.specs.Bytes.{among, is_at, is_quoted_word_byte, operator_length}
 use Rattle.ml_lexer.specs.Pieces.{operator_at, mark_length, mark_of, begins_operator, sign_at}
 use Rattle.ml_lexer.proofs.Local.{Alike, both_end, same_byte, both_words, which, alike_test, and_left, and_right, and_false}
-use Rattle.ml_lexer.proofs.Signs.{among_none, operator_same}
+use Rattle.ml_lexer.proofs.Signs.{among_none, operator_same, operator_alone}
 
 -- a byte that begins a word is none of these
 pub word_is_not : (k : ℕ) → is_quoted_word_byte k ≡ false → (c : ℕ) → is_quoted_word_byte c ≡ true → (c == k) ≡ false
@@ -128,7 +128,7 @@ mark_of_positive m k e =
 mark_positive : (m : ℕ) (k : Class) → nat_lt 1 m ≡ true → ◌≡◌ {A = Piece} (piece.Lexeme class.Mark m) (piece.Lexeme k 0) → ⊥
 mark_positive m k t e = let none = lexeme_size k class.Mark m 0 e in absurd (grind (arith, nat_tests, t, none))
 
-sign_positive : (b : List ℕ) (k : Class) → sign_at b ≡ piece.Lexeme k 0 → ⊥
+pub sign_positive : (b : List ℕ) (k : Class) → sign_at b ≡ piece.Lexeme k 0 → ⊥
 sign_positive b k e =
     let got = sym (sign_tests b _ _ refl refl) ∙ e in
     elim (which (nat_lt 1 (mark_length b))) [
@@ -156,3 +156,64 @@ sign_same k (x ∷ []) rest rest' alike e =
       | inr y ↦ sign_from k (x ∷ []) rest rest' alike (omega arith) (mark_short x rest rest' alike y) operators e
     ]
 sign_same k (x ∷ y ∷ f) rest rest' alike e = sign_from k (x ∷ y ∷ f) rest rest' alike (omega arith) (mark_long x y f rest rest' alike) (operator_first ((x ∷ y ∷ f) ++ rest) ((x ∷ y ∷ f) ++ rest') refl) e
+
+-- a mark or a sign that ends with the front, where nothing follows
+short_choice : (t a b c d e f z : Bool) → nat_lt 1 (cond t 3 (cond a 2 (cond b 2 (cond c 2 (cond d 2 (cond e 2 (cond f 2 (cond z 1 0)))))))) ≡ false
+    → ◌≡◌ {A = ℕ} (cond t 3 (cond a 2 (cond b 2 (cond c 2 (cond d 2 (cond e 2 (cond f 2 (cond z 1 0)))))))) (cond z 1 0)
+short_choice true a b c d e f z h = cc
+short_choice false true b c d e f z h = cc
+short_choice false false true c d e f z h = cc
+short_choice false false false true d e f z h = cc
+short_choice false false false false true e f z h = cc
+short_choice false false false false false true f z h = cc
+short_choice false false false false false false true z h = cc
+short_choice false false false false false false false z h = refl
+
+mark_one : (x : ℕ) → mark_length (x ∷ []) ≡ cond (among "()[]{};,.:" x) 1 0
+mark_one x =
+    mark_tests (x ∷ []) false (and_three (x == byte "[") (is_at "%" 1 (x ∷ [])) (is_at "%" 2 (x ∷ [])) (and_false (x == byte "[")))
+    ∙ six_none (x == byte "[") (x == byte "{") (x == byte "|") (x == byte ";") (x == byte ".") (x == byte ":") (cond (among "()[]{};,.:" x) 1 0)
+
+mark_short_alone : (x : ℕ) (rest : List ℕ) → nat_lt 1 (mark_length (x ∷ rest)) ≡ false → mark_length (x ∷ []) ≡ mark_length (x ∷ rest)
+mark_short_alone x rest short =
+    let c = get_or rest 0 0 in
+    let t = is_at "[" 0 (x ∷ rest) && is_at "%" 1 (x ∷ rest) && is_at "%" 2 (x ∷ rest) in
+    let now : mark_length (x ∷ rest) ≡ cond t 3 (two_bytes x c) = mark_tests (x ∷ rest) t refl in
+    let low : nat_lt 1 (cond t 3 (two_bytes x c)) ≡ false = ap (nat_lt 1) (sym now) ∙ short in
+    mark_one x
+    ∙ sym (short_choice t (x == byte "[" && among "|<>%" c) (x == byte "{" && c == byte "%") (x == byte "|" && c == byte "]") (x == byte ";" && c == byte ";") (x == byte "." && c == byte ".") (x == byte ":" && among ":=>" c) (among "()[]{};,.:" x) low)
+    ∙ sym now
+
+and_last : (a b : Bool) → (a && b && false) ≡ false
+and_last true b = and_false b
+and_last false b = refl
+
+mark_two_alone : (k : Class) (x y : ℕ) (rest : List ℕ) → sign_at (x ∷ y ∷ rest) ≡ piece.Lexeme k 2 → mark_length (x ∷ y ∷ []) ≡ mark_length (x ∷ y ∷ rest)
+mark_two_alone k x y rest e =
+    let b = x ∷ y ∷ rest in
+    elim (which (is_at "[" 0 b && is_at "%" 1 b && is_at "%" 2 b)) [
+      | inl t ↦
+          let three : mark_length b ≡ 3 = mark_tests b true t in
+          let got : ◌≡◌ {A = Piece} (piece.Lexeme class.Mark 3) (piece.Lexeme k 2) = sym (sign_tests b 3 _ three refl) ∙ e in
+          let size = lexeme_size k class.Mark 3 2 got in
+          absurd (omega (arith, size))
+      | inr t ↦ mark_tests (x ∷ y ∷ []) false (and_last (x == byte "[") (y == byte "%")) ∙ sym (mark_tests b false t)
+    ]
+
+sign_from_alone : (k : Class) (q rest : List ℕ) → mark_length (q ++ []) ≡ mark_length (q ++ rest) → begins_operator (q ++ []) ≡ begins_operator (q ++ rest) → sign_at (q ++ rest) ≡ piece.Lexeme k (length q) → sign_at (q ++ []) ≡ piece.Lexeme k (length q)
+sign_from_alone k q rest marks operators e =
+    sign_tests (q ++ []) _ _ marks operators
+    ∙ cond_same (nat_lt 1 (mark_length (q ++ rest))) (λ h. h) (cond_same (begins_operator (q ++ rest)) (operator_alone k q rest) (λ h. h)) (sym (sign_tests (q ++ rest) _ _ refl refl) ∙ e)
+
+pub sign_alone : (k : Class) (front rest : List ℕ) → sign_at (front ++ rest) ≡ piece.Lexeme k (length front) → sign_at (front ++ []) ≡ piece.Lexeme k (length front)
+sign_alone k [] rest e = absurd (sign_positive rest k e)
+sign_alone k (x ∷ []) rest e =
+    elim (which (nat_lt 1 (mark_length (x ∷ rest)))) [
+      | inl y ↦
+          let got = sym (sign_tests (x ∷ rest) _ _ refl refl) ∙ e in
+          let size = lexeme_size k class.Mark (mark_length (x ∷ rest)) 1 (rw y at got) in
+          absurd (grind (arith, nat_tests, y, size))
+      | inr y ↦ sign_from_alone k (x ∷ []) rest (mark_short_alone x rest y) (operator_first (x ∷ rest) (x ∷ []) refl) e
+    ]
+sign_alone k (x ∷ y ∷ []) rest e = sign_from_alone k (x ∷ y ∷ []) rest (mark_two_alone k x y rest e) (operator_first (x ∷ y ∷ rest) (x ∷ y ∷ []) refl) e
+sign_alone k (x ∷ y ∷ z ∷ f) rest e = sign_from_alone k (x ∷ y ∷ z ∷ f) rest (mark_tests ((x ∷ y ∷ z ∷ f) ++ []) _ refl ∙ sym (mark_tests ((x ∷ y ∷ z ∷ f) ++ rest) _ refl)) (operator_first ((x ∷ y ∷ z ∷ f) ++ rest) ((x ∷ y ∷ z ∷ f) ++ []) refl) e

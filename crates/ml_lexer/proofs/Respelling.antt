@@ -29,20 +29,20 @@ trivia_sizes : (n m : ℕ) → ◌≡◌ {A = Piece} (piece.Trivia n) (piece.Tri
 trivia_sizes n m e = cc
 
 -- a cutting never stands still
-no_still_lexeme : {at : ℕ} {bytes : List ℕ} {lexemes : List Lexeme} → LexedFrom at bytes lexemes → (k : Class) → piece_at bytes ≡ piece.Lexeme k 0 → ⊥
+pub no_still_lexeme : {at : ℕ} {bytes : List ℕ} {lexemes : List Lexeme} → LexedFrom at bytes lexemes → (k : Class) → piece_at bytes ≡ piece.Lexeme k 0 → ⊥
 no_still_lexeme lexed.nothing k h = let ends = end_piece in cc
 no_still_lexeme (lexed.trivia front rest e p cut) k h = cc
 no_still_lexeme (lexed.lexeme kind [] rest e p cut) k h = no_still_lexeme cut k (ap piece_at (sym e) ∙ h)
 no_still_lexeme (lexed.lexeme kind (x ∷ front) rest e p cut) k h = let n = lexeme_sizes kind k (suc (length front)) 0 (sym p ∙ h) in omega (arith, n)
 
-no_still_trivia : {at : ℕ} {bytes : List ℕ} {lexemes : List Lexeme} → LexedFrom at bytes lexemes → piece_at bytes ≡ piece.Trivia 0 → ⊥
+pub no_still_trivia : {at : ℕ} {bytes : List ℕ} {lexemes : List Lexeme} → LexedFrom at bytes lexemes → piece_at bytes ≡ piece.Trivia 0 → ⊥
 no_still_trivia lexed.nothing h = let ends = end_piece in cc
 no_still_trivia (lexed.lexeme kind front rest e p cut) h = cc
 no_still_trivia (lexed.trivia [] rest e p cut) h = no_still_trivia cut (ap piece_at (sym e) ∙ h)
 no_still_trivia (lexed.trivia (x ∷ front) rest e p cut) h = let n = trivia_sizes (suc (length front)) 0 (sym p ∙ h) in omega (arith, n)
 
 -- the first lexeme does not begin or end before the offset
-abbrev From : ℕ → List Lexeme → Type 0
+abbrev pub From : ℕ → List Lexeme → Type 0
 From at [] = Unit {0}
 From at (old ∷ olds) = (at ≤ old.start) × (at ≤ old.end)
 
@@ -50,7 +50,7 @@ from_less : (low at : ℕ) (olds : List Lexeme) → low ≤ at → From at olds 
 from_less low at [] less from = from
 from_less low at (old ∷ olds) less from = let a = from.0 in let b = from.1 in (omega (arith, less, a), omega (arith, less, b))
 
-from_cut : {at : ℕ} {bytes : List ℕ} {lexemes : List Lexeme} → LexedFrom at bytes lexemes → From at lexemes
+pub from_cut : {at : ℕ} {bytes : List ℕ} {lexemes : List Lexeme} → LexedFrom at bytes lexemes → From at lexemes
 from_cut lexed.nothing = tt
 from_cut (lexed.trivia {at = at} {lexemes = lexemes} front rest e p cut) = from_less at (at + length front) lexemes (omega arith) (from_cut cut)
 from_cut (lexed.lexeme kind front rest e p cut) = (omega arith, omega arith)
@@ -72,7 +72,7 @@ append_more [] b c = refl
 append_more (x ∷ a) b c = ap (λ l. x ∷ l) (append_more a b c)
 
 -- trivia in front stays
-skip_bytes : (at : ℕ) (front rest : List ℕ) (olds : List Lexeme) (words : List (List ℕ)) → From (at + length front) olds → respelled_from at (front ++ rest) olds words ≡ front ++ respelled_from (at + length front) rest olds words
+pub skip_bytes : (at : ℕ) (front rest : List ℕ) (olds : List Lexeme) (words : List (List ℕ)) → From (at + length front) olds → respelled_from at (front ++ rest) olds words ≡ front ++ respelled_from (at + length front) rest olds words
 skip_bytes at front rest [] words from = refl
 skip_bytes at front rest (old ∷ olds) [] from = refl
 skip_bytes at front rest (old ∷ olds) (word ∷ words) from =
@@ -87,10 +87,10 @@ skip_bytes at front rest (old ∷ olds) (word ∷ words) from =
     ∙ append_more front (take (old.start - (at + length front)) rest ++ word) (respelled_from old.end (drop (old.end - (at + length front)) rest) olds words)
 
 -- the lexeme of a word from an offset on
-abbrev lexeme_of : Class → ℕ → List ℕ → Lexeme
+abbrev pub lexeme_of : Class → ℕ → List ℕ → Lexeme
 lexeme_of kind start word = record { class = kind; start = start; end = start + length word; bytes = word }
 
-skip_lexemes : (at now n : ℕ) (olds : List Lexeme) (words : List (List ℕ)) → From (at + n) olds → respelled_lexemes_from at now olds words ≡ respelled_lexemes_from (at + n) (now + n) olds words
+pub skip_lexemes : (at now n : ℕ) (olds : List Lexeme) (words : List (List ℕ)) → From (at + n) olds → respelled_lexemes_from at now olds words ≡ respelled_lexemes_from (at + n) (now + n) olds words
 skip_lexemes at now n [] words from = refl
 skip_lexemes at now n (old ∷ olds) [] from = refl
 skip_lexemes at now n (old ∷ olds) (word ∷ words) from =
@@ -99,14 +99,14 @@ skip_lexemes at now n (old ∷ olds) (word ∷ words) from =
     ap (λ s. lexeme_of old.class s word ∷ respelled_lexemes_from old.end (s + length word) olds words) start
 
 -- the lexeme that begins here is respelled here
-here_bytes : (at : ℕ) (kind : Class) (front rest word : List ℕ) (olds : List Lexeme) (words : List (List ℕ)) → respelled_from at (front ++ rest) (record { class = kind; start = at; end = at + length front; bytes = front } ∷ olds) (word ∷ words) ≡ word ++ respelled_from (at + length front) rest olds words
+pub here_bytes : (at : ℕ) (kind : Class) (front rest word : List ℕ) (olds : List Lexeme) (words : List (List ℕ)) → respelled_from at (front ++ rest) (record { class = kind; start = at; end = at + length front; bytes = front } ∷ olds) (word ∷ words) ≡ word ++ respelled_from (at + length front) rest olds words
 here_bytes at kind front rest word olds words =
     let start : at - at ≡ 0 = omega arith in
     let end : (at + length front) - at ≡ length front = omega arith in
     ap (λ i. take i (front ++ rest) ++ word ++ respelled_from (at + length front) (drop ((at + length front) - at) (front ++ rest)) olds words) start
     ∙ ap (λ l. word ++ respelled_from (at + length front) l olds words) (ap (λ i. drop i (front ++ rest)) end ∙ drop-append_seam front rest)
 
-here_lexemes : (at now : ℕ) (kind : Class) (front word : List ℕ) (olds : List Lexeme) (words : List (List ℕ)) → respelled_lexemes_from at now (record { class = kind; start = at; end = at + length front; bytes = front } ∷ olds) (word ∷ words) ≡ lexeme_of kind now word ∷ respelled_lexemes_from (at + length front) (now + length word) olds words
+pub here_lexemes : (at now : ℕ) (kind : Class) (front word : List ℕ) (olds : List Lexeme) (words : List (List ℕ)) → respelled_lexemes_from at now (record { class = kind; start = at; end = at + length front; bytes = front } ∷ olds) (word ∷ words) ≡ lexeme_of kind now word ∷ respelled_lexemes_from (at + length front) (now + length word) olds words
 here_lexemes at now kind front word olds words =
     let start : now + (at - at) ≡ now = omega arith in
     ap (λ s. lexeme_of kind s word ∷ respelled_lexemes_from (at + length front) (s + length word) olds words) start
@@ -139,7 +139,7 @@ plus_zero : (n : ℕ) → n + 0 ≡ n
 plus_zero n = omega arith
 
 -- a Mark of one byte opens no Quoted
-lone_opens : (kind : Class) (rest : List ℕ) → piece_at (123 ∷ rest) ≡ piece.Lexeme kind 1 → opens_quoted (123 ∷ rest) ≡ true → ⊥
+pub lone_opens : (kind : Class) (rest : List ℕ) → piece_at (123 ∷ rest) ≡ piece.Lexeme kind 1 → opens_quoted (123 ∷ rest) ≡ true → ⊥
 lone_opens kind rest p opened = quoted_is_long kind rest 1 (lexeme_of_piece (123 ∷ rest) kind 1 p) opened (omega arith)
 
 -- the Quoted that a lone `{` does not opened
@@ -161,7 +161,7 @@ keep_lexeme whole kind at now x f rest rest' lexemes w p k = record {
   brace = λ before e b shut. opens_front (x ∷ f) rest rest' k.alike (run_of_piece kind x f rest p) ∙ shut;
 }
 
-alike_words : (front word rest rest' : List ℕ) → 0 < length front → is_quoted_word_byte (get_or front 0 0) ≡ true → 0 < length word → is_quoted_word_byte (get_or word 0 0) ≡ true → Alike (front ++ rest) (word ++ rest')
+pub alike_words : (front word rest rest' : List ℕ) → 0 < length front → is_quoted_word_byte (get_or front 0 0) ≡ true → 0 < length word → is_quoted_word_byte (get_or word 0 0) ≡ true → Alike (front ++ rest) (word ++ rest')
 alike_words [] word rest rest' some e some' e' = absurd (omega (arith, some))
 alike_words (x ∷ f) [] rest rest' some e some' e' = absurd (omega (arith, some'))
 alike_words (x ∷ f) (y ∷ g) rest rest' some e some' e' = both_words e e'

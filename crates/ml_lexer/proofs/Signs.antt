@@ -143,3 +143,67 @@ operator_same k (x ∷ f) rest rest' alike e =
     ∙ ap (λ w. piece.Lexeme (operator_of w) (suc (length f))) (take_front (x ∷ f) rest' ∙ sym (take_front (x ∷ f) rest))
     ∙ sym (operator_at_length ((x ∷ f) ++ rest) (suc (length f)) now)
     ∙ e
+
+-- what ends with the front, where nothing follows
+run_alone : (x : ℕ) (f rest : List ℕ) → word_length ((x ∷ f) ++ rest) ≡ suc (length f) → word_length ((x ∷ f) ++ []) ≡ suc (length f)
+run_alone x f rest n =
+    let run : prefix_len is_identifier_byte (f ++ rest) ≡ length f = omega (arith, n) in
+    let run' = run_exact is_identifier_byte f rest [] run refl in
+    omega (arith, run')
+
+pub marked_alone : (kind k : Class) (front rest : List ℕ) → marked_word_at kind (front ++ rest) ≡ piece.Lexeme k (length front) → marked_word_at kind (front ++ []) ≡ piece.Lexeme k (length front)
+marked_alone kind k [] rest e = let n = marked_of_cond _ _ _ _ _ _ (sym (marked_at_length kind rest _ refl) ∙ e) in absurd (omega (arith, n))
+marked_alone kind k (x ∷ []) rest e = let n = marked_of_cond _ _ _ _ _ _ (sym (marked_at_length kind (x ∷ rest) _ refl) ∙ e) in absurd (omega (arith, n))
+marked_alone kind k (x ∷ y ∷ f) rest e =
+    let n = marked_of_cond _ _ _ _ _ _ (sym (marked_at_length kind (x ∷ y ∷ (f ++ rest)) _ refl) ∙ e) in
+    let now : word_length ((y ∷ f) ++ rest) ≡ suc (length f) = omega (arith, n) in
+    let later = run_alone y f rest now in
+    marked_at_length kind (x ∷ y ∷ (f ++ [])) (suc (length f)) later
+    ∙ sym (marked_at_length kind (x ∷ y ∷ (f ++ rest)) (suc (length f)) now)
+    ∙ e
+
+-- a label has two bytes or more
+pub label_long : (k : Class) (b : List ℕ) (m : ℕ) → label_at b ≡ piece.Lexeme k m → 2 ≤ m
+label_long k b m e = let n = label_of_cond _ _ _ _ _ _ (sym (label_at_parts b _ _ _ refl refl refl) ∙ e) in omega (arith, n)
+
+pub label_alone : (k : Class) (front rest : List ℕ) → label_at (front ++ rest) ≡ piece.Lexeme k (length front) → label_at (front ++ []) ≡ piece.Lexeme k (length front)
+label_alone k [] rest e = let n = label_long k rest 0 e in absurd (omega (arith, n))
+label_alone k (x ∷ []) rest e = let n = label_long k (x ∷ rest) 1 e in absurd (omega (arith, n))
+label_alone k (x ∷ y ∷ f) rest e =
+    let b = (x ∷ y ∷ f) ++ rest in
+    let n = word_length ((y ∷ f) ++ rest) in
+    elim (which (is_at ":" (1 + n) b)) [
+      | inl colon ↦
+          let at = label_of_cond _ _ _ _ _ _ (sym (label_at_parts b n _ true refl refl colon) ∙ e) in
+          let shorter : prefix_len is_identifier_byte (f ++ rest) < length f = omega (arith, at) in
+          let run = run_inside is_identifier_byte f rest [] shorter in
+          let later : word_length ((y ∷ f) ++ []) ≡ n = omega (arith, run) in
+          let fits : n ≤ length (y ∷ f) = omega (arith, at) in
+          let word = take-append-le n (y ∷ f) [] fits ∙ sym (take-append-le n (y ∷ f) rest fits) in
+          let colon' = ap (λ v. v == byte ":") (sym (byte_inside (x ∷ y ∷ f) rest [] (1 + n) (omega (arith, at)))) ∙ colon in
+          label_at_parts ((x ∷ y ∷ f) ++ []) n _ true later word colon' ∙ sym (label_at_parts b n _ true refl refl colon) ∙ e
+      | inr colon ↦
+          let at = label_of_cond _ _ _ _ _ _ (sym (label_at_parts b n _ false refl refl colon) ∙ e) in
+          let exact : n ≡ suc (length f) = omega (arith, at) in
+          let later = run_alone y f rest exact in
+          let word' = take_front (y ∷ f) [] in
+          let far : suc (suc (length f)) ≡ 1 + suc (length f) = omega arith in
+          let there_far : is_at ":" (1 + suc (length f)) ((x ∷ y ∷ f) ++ []) ≡ false = ap (λ i. is_at ":" i ((x ∷ y ∷ f) ++ [])) (sym far) ∙ ap (λ v. v == byte ":") (byte_behind (x ∷ y ∷ f) []) in
+          let now_far : is_at ":" (1 + suc (length f)) b ≡ false = ap (λ v. is_at ":" (1 + v) b) (sym exact) ∙ colon in
+          label_at_parts ((x ∷ y ∷ f) ++ []) (suc (length f)) (y ∷ f) false later word' there_far
+          ∙ sym (label_at_parts b (suc (length f)) (y ∷ f) false exact (take_front (y ∷ f) rest) now_far)
+          ∙ e
+    ]
+
+pub operator_alone : (k : Class) (front rest : List ℕ) → operator_at (front ++ rest) ≡ piece.Lexeme k (length front) → operator_at (front ++ []) ≡ piece.Lexeme k (length front)
+operator_alone k [] rest e = let n = lexeme_lengths _ _ _ _ (sym (operator_at_length rest _ refl) ∙ e) in absurd (omega (arith, n))
+operator_alone k (x ∷ f) rest e =
+    let n = lexeme_lengths _ _ _ _ (sym (operator_at_length (x ∷ (f ++ rest)) _ refl) ∙ e) in
+    let run : prefix_len is_operator_byte (f ++ rest) ≡ length f = omega (arith, n) in
+    let run' = run_exact is_operator_byte f rest [] run refl in
+    let now : 1 + operator_length (f ++ rest) ≡ suc (length f) = omega (arith, run) in
+    let later : 1 + operator_length (f ++ []) ≡ suc (length f) = omega (arith, run') in
+    operator_at_length ((x ∷ f) ++ []) (suc (length f)) later
+    ∙ ap (λ w. piece.Lexeme (operator_of w) (suc (length f))) (take_front (x ∷ f) [] ∙ sym (take_front (x ∷ f) rest))
+    ∙ sym (operator_at_length ((x ∷ f) ++ rest) (suc (length f)) now)
+    ∙ e

@@ -51,3 +51,19 @@ word_same kind (x ∷ f) rest rest' alike e =
     ∙ ap (λ w. cond (is_long (suc (length f))) piece.LongName (piece.Lexeme (word_class w) (suc (length f)))) (take_front (x ∷ f) rest' ∙ sym (take_front (x ∷ f) rest))
     ∙ sym (word_at_length ((x ∷ f) ++ rest) (suc (length f)) n)
     ∙ e
+
+-- a word that ends with the front is one where nothing follows
+pub word_alone : (kind : Class) (front rest : List ℕ) → word_at (front ++ rest) ≡ piece.Lexeme kind (length front) → word_at (front ++ []) ≡ piece.Lexeme kind (length front)
+word_alone kind [] rest e = let n = lexeme_of_cond _ _ _ _ _ (sym (word_at_length rest _ refl) ∙ e) in absurd (omega (arith, n))
+word_alone kind (x ∷ f) rest e =
+    let n : word_length ((x ∷ f) ++ rest) ≡ suc (length f) = lexeme_of_cond _ _ _ _ _ (sym (word_at_length ((x ∷ f) ++ rest) _ refl) ∙ e) in
+    let run : prefix_len is_identifier_byte (f ++ rest) ≡ length f = omega (arith, n) in
+    let run' = run_exact is_identifier_byte f rest [] run refl in
+    let n' : word_length ((x ∷ f) ++ []) ≡ suc (length f) = omega (arith, run') in
+    word_at_length ((x ∷ f) ++ []) (suc (length f)) n'
+    ∙ ap (λ w. cond (is_long (suc (length f))) piece.LongName (piece.Lexeme (word_class w) (suc (length f)))) (take_front (x ∷ f) [] ∙ sym (take_front (x ∷ f) rest))
+    ∙ sym (word_at_length ((x ∷ f) ++ rest) (suc (length f)) n)
+    ∙ e
+
+pub word_some : (kind : Class) (b : List ℕ) → word_at b ≡ piece.Lexeme kind 0 → ⊥
+word_some kind b e = let n = lexeme_of_cond _ _ _ _ _ (sym (word_at_length b _ refl) ∙ e) in omega (arith, n)

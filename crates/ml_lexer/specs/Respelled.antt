@@ -1,5 +1,5 @@
 -- Lexemes that are respelled: the bytes and the lexemes after it.
-use Rattle.std.specs.Prelude.{◌≡◌, ℕ, suc, ◌+◌, ◌-◌, List, [], ◌∷◌, ◌++◌, ◌⊎◌, IsTrue, length, take, drop, slice_index}
+use Rattle.std.specs.Prelude.{◌≡◌, ℕ, suc, ◌+◌, ◌-◌, List, [], ◌∷◌, ◌++◌, ◌⊎◌, IsTrue, Option, Some, None, codes, length, map, take, drop, slice_index}
 use Rattle.std.specs.Str.{byte}
 use Rattle.rotor_base.specs.Name.{is_value_name}
 use Rattle.rotor_base.specs.declared.token.Class.TheVariants as class
@@ -43,3 +43,36 @@ respelled_lexemes olds words = respelled_lexemes_from 0 0 olds words
 -- replaced names keep the tokens
 abbrev pub RespelledKeepLexemes : Type 0
 RespelledKeepLexemes = (bytes : List ℕ) (lexemes : List Lexeme) (words : List (List ℕ)) → Lexed bytes lexemes → AllMayBecome bytes lexemes words → Lexed (respelled bytes lexemes words) (respelled_lexemes lexemes words)
+
+-- respelled back with the old words, the respelled bytes are the old ones
+abbrev pub RespelledBack : Type 0
+RespelledBack =
+    (bytes : List ℕ) (lexemes : List Lexeme) (words : List (List ℕ)) → Lexed bytes lexemes → length words ≡ length lexemes
+    → respelled (respelled bytes lexemes words) (respelled_lexemes lexemes words) (map (λ x. x.bytes) lexemes) ≡ bytes
+
+-- ---- the same with the lexemes beside
+
+-- the lexeme before is a `{` that ends at this offset
+abbrev pub IsBehindBrace : Option Lexeme → ℕ → Type 0
+IsBehindBrace None start = ⊥
+IsBehindBrace (Some before) start = (before.bytes ≡ codes "{") × (before.end ≡ start)
+
+-- the lexeme behind begins at this offset, with `|`
+abbrev pub BarFollows : ℕ → List Lexeme → Type 0
+BarFollows end [] = ⊥
+BarFollows end (next ∷ rest) = (next.start ≡ end) × (slice_index next.bytes 0 ≡ byte "|")
+
+-- a lexeme keeps its bytes, or it is a Lower, its word becomes a value name, and it does not stand directly between a
+-- lexeme `{` and one that begins with `|`
+abbrev pub MayBecomeBetween : Option Lexeme → Lexeme → List Lexeme → List ℕ → Type 0
+MayBecomeBetween before old behind word = (word ≡ old.bytes) ⊎ ((old.class ≡ class.Lower) × IsTrue (is_value_name word) × (IsBehindBrace before old.start → BarFollows old.end behind → ⊥))
+
+abbrev pub AllMayBecomeBehind : Option Lexeme → List Lexeme → List (List ℕ) → Type 0
+AllMayBecomeBehind before [] [] = Unit {0}
+AllMayBecomeBehind before [] (word ∷ words) = ⊥
+AllMayBecomeBehind before (old ∷ olds) [] = ⊥
+AllMayBecomeBehind before (old ∷ olds) (word ∷ words) = MayBecomeBetween before old olds word × AllMayBecomeBehind (Some old) olds words
+
+-- names replaced so keep the tokens
+abbrev pub NamesKeepLexemes : Type 0
+NamesKeepLexemes = (bytes : List ℕ) (lexemes : List Lexeme) (words : List (List ℕ)) → Lexed bytes lexemes → AllMayBecomeBehind None lexemes words → Lexed (respelled bytes lexemes words) (respelled_lexemes lexemes words)

@@ -11,5 +11,8 @@ mod scan;
 mod trivia;
 
 pub use error::LexError;
-pub use laws::{one_cutting, replaced_names};
+pub use laws::{
+    lexemes_are_in_order, lexemes_are_whole, names_between, one_cutting, replaced_names,
+    respelled_back,
+};
 pub use scan::lex;

@@ -14,6 +14,7 @@ use std::alloc::Global;
 pub fn lex<'a>(alloc: Global, src: &'a [u8]) -> Result<Vec<Token<'a>>, LexError>
     requires { length src.now ≤ 1048576 }
     ensures found { IfOk result (λ tokens. Lexed src.now (view_tokens tokens.items)) }
+    ensures few { IfOk result (λ tokens. length tokens.items ≤ length src.now) }
     ensures fault { IfErr result (λ error. FaultIs src.now error) }
 {
     let mut tokens = Vec::new(alloc);

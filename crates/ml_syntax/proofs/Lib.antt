@@ -2,3 +2,14 @@ pub mod Views
 pub mod Variants
 pub mod Branches
 pub mod Spelling
+pub mod Steps
+pub mod Reading
+pub mod Standing
+pub mod Numbers
+pub mod Sited
+pub mod KeptSites
+pub mod SpelledSites
+pub mod RespelledFile
+pub mod RespelledNames
+pub mod SiteWords
+pub mod SoundFiles

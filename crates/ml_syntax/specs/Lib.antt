@@ -8,3 +8,6 @@ pub mod Places
 pub mod Sites
 pub mod Respelled
 pub mod Sound
+pub mod Standing
+pub mod SpelledSites
+pub mod RespelledFile

@@ -8,3 +8,4 @@ pub mod RunRows
 pub mod Nesting
 pub mod Stops
 pub mod Forms
+pub mod Kept

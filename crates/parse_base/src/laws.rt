@@ -1,9 +1,32 @@
 //! The laws of patterns, each as the contract of a function.
 
+ghost use Rattle.parse_base.specs.Kept.{FormsAreKept, NestingIsKept, RespelledTokensAreKept, RespellingKeepsTheReading};
 ghost use Rattle.parse_base.specs.Longest.{OnePatReading};
 
 /// Two well-formed patterns of the same words are one.
 #[tactic(auto, using(crate::proofs::LawsPat::one_pat_reading))]
 pub fn one_pat_reading()
     ensures { OnePatReading }
+{}
+
+/// Respelled tokens nest as the tokens do.
+pub fn nesting_is_kept()
+    ensures nesting { NestingIsKept }
+{}
+
+/// Tokens of the same classes, where lower-case names alone may differ, and which touch where they touched, have the
+/// same first refused form.
+pub fn forms_are_kept()
+    ensures forms { FormsAreKept }
+{}
+
+/// The tokens of respelled lexemes are the tokens respelled, and touch where they touched.
+pub fn respelled_tokens_are_kept()
+    ensures tokens { RespelledTokensAreKept }
+{}
+
+/// Respelling keeps the reading: where names of places alone are changed, to value names, the tokens of the respelled
+/// bytes have no refused form, are not nested over the limit, and are the words of the respelled tree.
+pub fn respelling_keeps_the_reading()
+    ensures reading { RespellingKeepsTheReading }
 {}

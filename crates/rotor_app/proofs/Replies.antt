@@ -14,7 +14,7 @@ use Rattle.plain_rename.specs.Renaming.{answer_of}
 use Rattle.rotor_app.specs.declared.reply.Status.TheVariants.{Done}
 use Rattle.rotor_app.specs.declared.reply.Reply.{Reply}
 use Rattle.rotor_app.specs.Aim.{aim_at}
-use Rattle.rotor_app.specs.Said.{reply_from, reply_to, reply_by, reply_in, reply_loaded, plain_of, load_reply, not_yet_reply, IsReply}
+use Rattle.rotor_app.specs.Said.{said_by, usage_reply, Says, SaysAlone, AsksNothing, reply_from, reply_to, reply_by, reply_in, reply_loaded, plain_of, load_reply, not_yet_reply, IsReply}
 use Rattle.rotor_app.specs.Text.{done_text}
 
 pub done_reply : (source bytes target name : List ℕ) (aim : Aim) (answer : Answer) (done : Respelled) (writes : List SourceFile) (text : List ℕ)
@@ -73,3 +73,20 @@ reply_by_kind (Some file) request reply e = reply_from_kind file.0 file.1 reques
 
 pub load_kind : (error : LoadError) (reply : Reply) → reply ≡ load_reply error → IsReply reply.status reply.writes
 load_kind error reply e = subst (λ (r : Reply). IsReply r.status r.writes) (sym e) refl
+
+-- the usage, and a request's reply, are said
+pub usage_said : (request : Option (List ℕ × List ℕ)) (content : Option FileMap) (reply : Reply) → request ≡ None → reply ≡ usage_reply → IfSome content (λ files. Says request files reply)
+unfolding Says
+usage_said request None reply e r = tt
+usage_said request (Some files) reply e r = r ∙ sym (ap (λ (q : Option (List ℕ × List ℕ)). said_by q files) e)
+
+pub usage_alone : (request : Option (List ℕ × List ℕ)) (reply : Reply) → reply ≡ usage_reply → AsksNothing request → SaysAlone request reply
+unfolding SaysAlone
+usage_alone request reply r a = r
+
+pub request_said : (request : Option (List ℕ × List ℕ)) (asked : List ℕ × List ℕ) (content : Option FileMap) (result : Result Reply TreeError) → Some asked ≡ request
+    → IfOk result (λ reply. IfSome content (λ files. reply ≡ reply_in files asked)) → IfOk result (λ reply. IfSome content (λ files. Says request files reply))
+unfolding Says
+request_said request asked content (Err fault) e h = tt
+request_said request asked None (Ok reply) e h = tt
+request_said request asked (Some files) (Ok reply) e h = h ∙ ap (λ (q : Option (List ℕ × List ℕ)). said_by q files) e

@@ -33,7 +33,8 @@ use Rattle.rotor_app.specs.declared.reply.Status.TheVariants.{Done, Refused, Usa
 use Rattle.rotor_app.specs.declared.reply.Reply.{Reply}
 use Rattle.rotor_app.specs.Aim.{aim_at}
 use Rattle.rotor_app.specs.Text.{place_text, counts_text, lf}
-use Rattle.rotor_app.specs.Said.{after, plain_of, plain_file, reply_to, reply_by, reply_loaded, reply_in, said_by, said}
+use Rattle.rotor_app.specs.Said.{after, plain_of, plain_file, reply_to, reply_by, reply_loaded, reply_in, said_by, Says, SomeReply}
+use Rattle.rotor_app.specs.Words.{asked}
 use Rattle.rotor_app.specs.Undone.{rename_words, IsUndoable}
 use Rattle.rotor_app.proofs.Keys.{keys_kept, get_written, written_back}
 use Rattle.rotor_app.proofs.Numbers.{aim_place, undo_asked}
@@ -151,6 +152,10 @@ answered_small bytes aim new done e = by (is_plain_file (runs bytes) (tokens (ru
   by true p = omega (arith, plain_small bytes p)
   by false p = let no : answers.NotPlain ≡ answers.Done done = rw p at e in cc
 
+says_said : (request : Option (List ℕ × List ℕ)) (files : FileMap) → Says request files (said_by request files)
+unfolding Says
+says_said request files = refl
+
 module _ (files : FileMap) (source bytes : List ℕ) (request : List ℕ × List ℕ) (done : Respelled) (here : plain_file files ≡ Some (source, bytes))
     (answered : answer_of bytes (aim_at request.0 source) request.1 ≡ answers.Done done) where
   law : IsUndone bytes request.1 done
@@ -162,7 +167,10 @@ module _ (files : FileMap) (source bytes : List ℕ) (request : List ℕ × List
   fresh : IsPlain (insert files source done.bytes) source done.bytes
   fresh = plain_again files source bytes done.bytes plain
 
-  undo_reply : said (rename_words (place_text source done.at) done.old) (insert files source done.bytes)
+  abbrev undo_said : Reply
+  undo_said = said_by (asked (rename_words (place_text source done.at) done.old)) (insert files source done.bytes)
+
+  undo_reply : undo_said
       ≡ reply_to source done.old (answers.Done (record { bytes = bytes; old = request.1; at = done.at; refs = done.refs }))
   unfolding reply_in
   undo_reply =
@@ -180,8 +188,8 @@ module _ (files : FileMap) (source bytes : List ℕ) (request : List ℕ × List
       place = place_text source done.at;
       name = done.old;
       line = refl;
-      done = ap (λ (r : Reply). r.status) undo_reply;
-      back = ap (λ (r : Reply). after r.writes (insert files source done.bytes)) undo_reply ∙ written_back files source bytes done.bytes plain.held;
+      back = (undo_said, says_said (asked (rename_words (place_text source done.at) done.old)) (insert files source done.bytes),
+        (ap (λ (r : Reply). r.status) undo_reply, ap (λ (r : Reply). after r.writes (insert files source done.bytes)) undo_reply ∙ written_back files source bytes done.bytes plain.held));
     };
   }
 
@@ -202,7 +210,11 @@ by_load files request (Ok found) e s =
     by_file files request (plain_of found.entries found.manifest) (sym (ap (λ (f : FileSet). plain_of f.entries f.manifest) is)) s
 
 -- a reply that is done can be undone
-pub said_undoable : (request : Option (List ℕ × List ℕ)) (files : FileMap) → (said_by request files).status ≡ Done → IsUndoable (said_by request files) files
+by_said : (request : Option (List ℕ × List ℕ)) (files : FileMap) → (said_by request files).status ≡ Done → IsUndoable (said_by request files) files
 unfolding reply_in
-said_undoable None files s = let bad : Usage ≡ Done = s in cc
-said_undoable (Some request) files s = by_load files request (loaded files) refl s
+by_said None files s = let bad : Usage ≡ Done = s in cc
+by_said (Some request) files s = by_load files request (loaded files) refl s
+
+pub said_undoable : (request : Option (List ℕ × List ℕ)) (files : FileMap) → SomeReply request files (λ reply. reply.status ≡ Done) → SomeReply request files (λ reply. IsUndoable reply files)
+unfolding Says
+said_undoable request files (reply, says, done) = (reply, says, subst (λ (r : Reply). IsUndoable r files) (sym says) (by_said request files (sym (ap (λ (r : Reply). r.status) says) ∙ done)))

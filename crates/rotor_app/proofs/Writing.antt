@@ -53,3 +53,9 @@ stopped_at writes i f before mid now name h e w en s =
     let split : writes ≡ front ++ f ∷ drop (i + 1) writes =
     sym (take-append-drop i writes) ∙ at_drop_more (λ (fs : List SourceFile). front ++ fs) writes i f h ∙ ap (λ (g : SourceFile). front ++ g ∷ drop (i + 1) writes) (sym e) in
     (front, f, drop (i + 1) writes, s.0, split, spoiled front before mid now f.name s.0 w (subst (λ (n : List ℕ). Writes n s.0 mid now) en s.1))
+
+-- an item of no writes
+pub no_more : (writes : List SourceFile) (i : ℕ) (P : Type 0) → i < length writes → writes ≡ [] → P
+no_more writes i P h e = absurd (below i (subst (λ (ws : List SourceFile). i < length ws) e h)) where
+  below : (n : ℕ) → n < 0 → ⊥
+  below n l = omega arith

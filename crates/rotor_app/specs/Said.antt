@@ -65,9 +65,21 @@ abbrev pub said_by : Option (List ℕ × List ℕ) → FileMap → Reply
 said_by None files = usage_reply
 said_by (Some request) files = reply_in files request
 
--- what the program answers to its words over these files
-abbrev pub said : List (List ℕ) → FileMap → Reply
-said words files = said_by (asked words) files
+-- what is said to what the words ask for, over the files of a folder
+unfoldable pub Says : Option (List ℕ × List ℕ) → FileMap → Reply → Type 0
+Says request files reply = reply ≡ said_by request files
+
+-- what the words ask for asks nothing of the folder
+abbrev pub AsksNothing : Option (List ℕ × List ℕ) → Type 0
+AsksNothing request = request ≡ None
+
+-- what is said to it, without a folder
+unfoldable pub SaysAlone : Option (List ℕ × List ℕ) → Reply → Type 0
+SaysAlone request reply = reply ≡ usage_reply
+
+-- there is a reply that is said here, and it is so
+abbrev pub SomeReply : Option (List ℕ × List ℕ) → FileMap → (Reply → Type 0) → Type 0
+SomeReply request files P = (reply : Reply) × Says request files reply × P reply
 
 -- the files after some of them were written, one after another
 abbrev pub after : List SourceFile → FileMap → FileMap
@@ -83,7 +95,7 @@ abbrev pub IsReply : Status → List SourceFile → Type 0
 IsReply Done writes = Unit {0}
 IsReply Refused writes = writes ≡ []
 IsReply Project writes = writes ≡ []
-IsReply Usage writes = ⊥
+IsReply Usage writes = writes ≡ []
 IsReply TreeFault writes = ⊥
 IsReply SinkFault writes = ⊥
 IsReply Memory writes = ⊥

@@ -1,12 +1,12 @@
 -- What stands after a call of the program: the table of its answers.
-use Rattle.std.specs.Prelude.{◌≡◌, ◌⊎◌, ℕ, ◌<◌, ◌≤◌, List, ◌∷◌, ◌++◌, Option, Some, None, option_map}
+use Rattle.std.specs.Prelude.{◌≡◌, ◌⊎◌, ℕ, ◌<◌, ◌≤◌, List, ◌∷◌, ◌++◌, length, Option, Some, None, option_map}
 use Rattle.std.specs.FinMap.{insert}
 use Rattle.rotor_base.specs.declared.source.SourceFile.{SourceFile}
 use Rattle.tree_io.specs.Outside.{FileMap, Rose, Takes, TakesPrefix}
 use Rattle.rotor_app.specs.declared.reply.Status.{Status}
 use Rattle.rotor_app.specs.declared.reply.Status.TheVariants.{Done, Refused, Usage, Project, TreeFault, SinkFault, Memory}
 use Rattle.rotor_app.specs.declared.reply.Reply.{Reply}
-use Rattle.rotor_app.specs.Said.{after, usage_reply, said_by, IsReply}
+use Rattle.rotor_app.specs.Said.{after, usage_reply, IsReply, Says, AsksNothing, SaysAlone, SomeReply}
 
 -- where the content is told, all these files were written
 abbrev pub Written : List SourceFile → Option FileMap → Option FileMap → Type 0
@@ -42,9 +42,9 @@ pub record IsFault (fault : Status) (before now : ℕ) (status : Status) : Type 
   pub only : status ≡ fault → Rose before now
   pub passed : before < now → status ≡ fault
 
--- the folder failed: nothing was written, or the renaming was accepted and a write failed
-abbrev pub TreeStopped : Reply → FileMap → Option FileMap → Type 0
-TreeStopped reply files now = (now ≡ Some files) ⊎ ((reply.status ≡ Done) × StoppedWriting reply.writes (Some files) now)
+-- the folder failed: nothing was written, or the reply is done and a write failed
+abbrev pub TreeStopped : Option (List ℕ × List ℕ) → FileMap → Option FileMap → Type 0
+TreeStopped request files now = (now ≡ Some files) ⊎ SomeReply request files (λ reply. (reply.status ≡ Done) × StoppedWriting reply.writes (Some files) now)
 
 -- the output failed: the folder is as at the status that would have come, and a prefix of the text was taken
 pub record SinkStopped (reply : Reply) (held : FileMap) (before now : Seen) : Type 0 where
@@ -85,30 +85,28 @@ pub record SinkFailed (text : List ℕ) (before now : Seen) : Type 0 where
   pub rose : Rose before.sink_faults now.sink_faults
   pub taken : TakesPrefix text before.taken now.taken
 
--- the reply to what the words ask for, where the content is told
+-- the reply to what the words ask for
 pub record IsReplyTo (request : Option (List ℕ × List ℕ)) (before : Seen) (reply : Reply) : Type 0 where
   pub kind : IsReply reply.status reply.writes
-  pub said : (files : FileMap) → before.content ≡ Some files → reply ≡ said_by request files
+  pub said : (files : FileMap) → before.content ≡ Some files → Says request files reply
+  pub alone : AsksNothing request → SaysAlone request reply
+  pub usage : reply.status ≡ Usage → request ≡ None
 
 -- How a call of the program ends. `request` is what the words ask for; `tree_same` and `sink_same` say that the folder
 -- and the output are as they were.
 pub data Ending (request : Option (List ℕ × List ℕ)) (before now : Seen) (tree_same sink_same : Type 0) (status : Status) : Type 0 where
-  -- the words have none of the forms, and the usage is put
-  told_usage : status ≡ Usage → request ≡ None → tree_same → TreeRests before now → SinkTook usage_reply.text before now → Ending request before now tree_same sink_same status
-  -- the same, and the put failed
-  cut_usage : status ≡ SinkFault → request ≡ None → tree_same → TreeRests before now → SinkFailed usage_reply.text before now → Ending request before now tree_same sink_same status
-  -- the folder could not be read
-  unread : (asked : List ℕ × List ℕ) → request ≡ Some asked → status ≡ TreeFault → before.faults ≤ now.faults → Rose before.faults now.faults → now.content ≡ before.content → sink_same → SinkRests before now → Ending request before now tree_same sink_same status
+  -- a read failed
+  unread : (AsksNothing request → ⊥) → status ≡ TreeFault → before.faults ≤ now.faults → Rose before.faults now.faults → now.content ≡ before.content → sink_same → SinkRests before now → Ending request before now tree_same sink_same status
   -- there was no memory
-  wanting : (asked : List ℕ × List ℕ) → request ≡ Some asked → status ≡ Memory → TreeRests before now → sink_same → SinkRests before now → Ending request before now tree_same sink_same status
+  wanting : (AsksNothing request → tree_same) → status ≡ Memory → TreeRests before now → sink_same → SinkRests before now → Ending request before now tree_same sink_same status
   -- the reply was carried out
-  carried : (asked : List ℕ × List ℕ) → request ≡ Some asked → (reply : Reply) → IsReplyTo request before reply → status ≡ reply.status → now.faults ≡ before.faults → Written reply.writes before.content now.content
+  carried : (AsksNothing request → tree_same) → (reply : Reply) → IsReplyTo request before reply → status ≡ reply.status → now.faults ≡ before.faults → Written reply.writes before.content now.content
       → SinkTook reply.text before now → Ending request before now tree_same sink_same status
   -- a write failed
-  unwritten : (asked : List ℕ × List ℕ) → request ≡ Some asked → (reply : Reply) → IsReplyTo request before reply → status ≡ TreeFault → before.faults ≤ now.faults → Rose before.faults now.faults
+  unwritten : (reply : Reply) → IsReplyTo request before reply → status ≡ TreeFault → before.faults ≤ now.faults → Rose before.faults now.faults
       → StoppedWriting reply.writes before.content now.content → sink_same → SinkRests before now → Ending request before now tree_same sink_same status
   -- the put failed
-  unput : (asked : List ℕ × List ℕ) → request ≡ Some asked → (reply : Reply) → IsReplyTo request before reply → status ≡ SinkFault → now.faults ≡ before.faults → Written reply.writes before.content now.content
+  unput : (AsksNothing request → tree_same) → (reply : Reply) → IsReplyTo request before reply → status ≡ SinkFault → now.faults ≡ before.faults → Written reply.writes before.content now.content
       → SinkFailed reply.text before now → Ending request before now tree_same sink_same status
 
 -- a text was put, and the call ends with this status, or the put failed
@@ -122,6 +120,14 @@ pub data Carried (reply : Reply) (before now : Seen) (sink_same : Type 0) (statu
   write_failed : status ≡ TreeFault → before.faults ≤ now.faults → Rose before.faults now.faults → StoppedWriting reply.writes before.content now.content → sink_same → SinkRests before now → Carried reply before now sink_same status
   put_failed : status ≡ SinkFault → now.faults ≡ before.faults → Written reply.writes before.content now.content → SinkFailed reply.text before now → Carried reply before now sink_same status
 
--- the status is that of the reply, or there was no memory
-abbrev pub IsComplete : Reply → Status → Type 0
-IsComplete reply status = (status ≡ reply.status) ⊎ (status ≡ Memory)
+-- there was no memory, or there is a reply that is said, and where the output takes its text the status is its
+abbrev pub IsComplete : Option (List ℕ × List ℕ) → FileMap → (ℕ → Type 0) → Status → Type 0
+IsComplete request files accepts status = (status ≡ Memory) ⊎ SomeReply request files (λ reply. accepts (length reply.text) → status ≡ reply.status)
+
+-- a reply without a folder was carried out
+abbrev pub AnsweredAlone : Option (List ℕ × List ℕ) → Seen → Seen → Status → Type 0
+AnsweredAlone request before now status = (reply : Reply) × SaysAlone request reply × (status ≡ reply.status) × Takes reply.text before.taken now.taken
+
+-- a prefix of the text of such a reply was taken
+abbrev pub CutAlone : Option (List ℕ × List ℕ) → Seen → Seen → Type 0
+CutAlone request before now = (reply : Reply) × SaysAlone request reply × TakesPrefix reply.text before.taken now.taken

@@ -4,7 +4,8 @@ use Rattle.tree_io.specs.Outside.{FileMap}
 use Rattle.plain_rename.specs.Undo.{facts_of}
 use Rattle.rotor_app.specs.declared.reply.Status.TheVariants.{Done}
 use Rattle.rotor_app.specs.declared.reply.Reply.{Reply}
-use Rattle.rotor_app.specs.Said.{after, plain_file, said}
+use Rattle.rotor_app.specs.Said.{after, plain_file, SomeReply}
+use Rattle.rotor_app.specs.Words.{asked}
 use Rattle.rotor_app.specs.Text.{lf}
 
 -- the words `rename PLACE NAME --write`
@@ -26,8 +27,7 @@ pub record PrintsUndo (reply : Reply) (files : FileMap) : Type 0 where
   pub place : List ℕ
   pub name : List ℕ
   pub line : reply.text ≡ front ++ (codes "undo " ++ place ++ codes " " ++ name ++ lf)
-  pub done : (said (rename_words place name) (after reply.writes files)).status ≡ Done
-  pub back : after (said (rename_words place name) (after reply.writes files)).writes (after reply.writes files) ≡ files
+  pub back : SomeReply (asked (rename_words place name)) (after reply.writes files) (λ back. (back.status ≡ Done) × (after back.writes (after reply.writes files) ≡ files))
 
 -- what holds of a reply that is done, over these files
 pub record IsUndoable (reply : Reply) (files : FileMap) : Type 0 where

@@ -1,12 +1,14 @@
 //! What the program answers, and how it comes to it.
-ghost use Rattle.std.specs.Prelude.{◌≡◌, ◌<◌, ◌≤◌, ◌^◌, ◌↔◌, IfOk, IfSome, IsErrOf, OnOk, length};
+ghost use Rattle.std.specs.Prelude.{◌≡◌, ◌<◌, ◌≤◌, ◌^◌, ◌↔◌, IfOk, IfSome, IsErrOf, OnOk, None, length, map, string_bytes};
 ghost use Rattle.std.specs.Option.{option_map};
 ghost use Rattle.tree_io.specs.Outside.{HasCause, StaysSteady};
 ghost use Rattle.project_load.specs.Load.{IsOutside};
-ghost use Rattle.rotor_app.specs.Said.{plain_of, reply_by, reply_in, reply_from, load_reply, not_yet_reply, HasRoom, IsReply};
+ghost use Rattle.rotor_app.specs.Words.{asked};
+ghost use Rattle.rotor_app.specs.Said.{plain_of, reply_by, reply_in, reply_from, load_reply, not_yet_reply, usage_reply, HasRoom, IsReply, Says, SaysAlone, AsksNothing};
 
 use crate::aim::aim_of;
-use crate::text::{NOT_YET, done_lines, load_line, obstacle_line};
+use crate::request::read_words;
+use crate::text::{NOT_YET, USAGE, done_lines, load_line, obstacle_line};
 use plain_rename::{Answer, rename};
 use project_load::load;
 use rotor_base::{Files, LoadError, Memory, Row, SourceFile, Text, is_body};
@@ -61,14 +63,46 @@ pub struct Reply {
     pub text: Row<u8>,
 }
 
-/// The answer to a request, from the folder. All memory is taken in it, the folder's room for each changed file too.
-pub fn decide<T: Tree>(
+/// The answer to the words. All memory is taken in it, the folder's room for each changed file too. For words of no
+/// form the folder is not called.
+pub fn decide<T: Tree>(alloc: Global, words: &[String], tree: &mut T) -> Result<Reply, TreeError>
+    ensures kind { IfOk result (λ reply. IsReply reply.status reply.writes) }
+    ensures said { IfOk result (λ reply. IfSome (T.content tree.old) (λ files. Says (asked (map string_bytes words.now)) files reply)) }
+    ensures told_alone { IfOk result (λ reply. AsksNothing (asked (map string_bytes words.now)) → SaysAlone (asked (map string_bytes words.now)) reply) }
+    ensures usage { IfOk result (λ reply. reply.status ≡ Status.Usage → asked (map string_bytes words.now) ≡ None) }
+    ensures alone { AsksNothing (asked (map string_bytes words.now)) → tree.new ≡ tree.old }
+    ensures read { IsErrOf result TreeError.Failed → AsksNothing (asked (map string_bytes words.now)) → ⊥ }
+    ensures content { T.content tree.new ≡ T.content tree.old }
+    ensures room { IfOk result (λ reply. HasRoom (T.room_for tree.new) reply.writes) }
+    ensures cause { HasCause (T.faults tree.old) (T.faults tree.new) result }
+    ensures steady { StaysSteady (T.is_steady tree.old) (T.is_steady tree.new) (IsErrOf result TreeError.Failed) }
+{
+    match read_words(words) {
+        None => Ok(usage(alloc)?),
+        Some(request) => decide_request(alloc, request.target, request.name, tree),
+    }
+}
+
+/// The reply to words of no form.
+fn usage(alloc: Global) -> Result<Reply, Memory>
+    ensures { IfOk result (λ reply. reply ≡ usage_reply) }
+{
+    Ok(Reply {
+        status: Status::Usage,
+        writes: Row::new(alloc),
+        text: Row::from_vec(USAGE.to_vec(alloc)?),
+    })
+}
+
+/// The answer to a request, from the folder, with its room.
+fn decide_request<T: Tree>(
     alloc: Global,
     target: &[u8],
     name: &[u8],
     tree: &mut T,
 ) -> Result<Reply, TreeError>
     ensures kind { IfOk result (λ reply. IsReply reply.status reply.writes) }
+    ensures no_usage { IfOk result (λ reply. reply.status ≡ Status.Usage → ⊥) }
     ensures said { IfOk result (λ reply. IfSome (T.content tree.old) (λ files. reply ≡ reply_in files (target.now, name.now))) }
     ensures content { T.content tree.new ≡ T.content tree.old }
     ensures room { IfOk result (λ reply. HasRoom (T.room_for tree.new) reply.writes) }
@@ -88,6 +122,7 @@ fn loaded_reply<T: Tree>(
     tree: &mut T,
 ) -> Result<Reply, TreeError>
     ensures kind { IfOk result (λ reply. IsReply reply.status reply.writes) }
+    ensures no_usage { IfOk result (λ reply. reply.status ≡ Status.Usage → ⊥) }
     ensures said { IfOk result (λ reply. IfSome (T.content tree.old) (λ files. reply ≡ reply_in files (target.now, name.now))) }
     ensures content { T.content tree.new ≡ T.content tree.old }
     ensures cause { HasCause (T.faults tree.old) (T.faults tree.new) result }

@@ -1,15 +1,13 @@
 //! The program: the words, the folder, the writes and the report.
-ghost use Rattle.std.specs.Prelude.{◌≡◌, ◌⊎◌, None, IsErr, OnOk, OnErr, IfSome, map, string_bytes, length};
+ghost use Rattle.std.specs.Prelude.{◌≡◌, ◌⊎◌, [], None, IsErr, OnOk, OnErr, map, string_bytes, length};
 ghost use Rattle.std.specs.Option.{ForSome};
-ghost use Rattle.tree_io.specs.Outside.{HasFault, StaysSteady, Rose, Takes, TakesPrefix};
+ghost use Rattle.tree_io.specs.Outside.{HasFault, StaysSteady, Rose};
 ghost use Rattle.rotor_app.specs.Words.{asked};
-ghost use Rattle.rotor_app.specs.Said.{said, usage_reply, HasRoom};
+ghost use Rattle.rotor_app.specs.Said.{HasRoom, AsksNothing, SomeReply};
 ghost use Rattle.rotor_app.specs.Undone.{IsUndoable};
-ghost use Rattle.rotor_app.specs.Table.{Written, StoppedWriting, Ending, seen, IsComplete, Carried, Put, IsQuiet, IsAsSaid, IsFault, TreeStopped, SinkStopped, IsRefusal};
+ghost use Rattle.rotor_app.specs.Table.{Written, StoppedWriting, Ending, seen, IsComplete, Carried, Put, IsQuiet, IsAsSaid, IsFault, TreeStopped, SinkStopped, IsRefusal, AnsweredAlone, CutAlone};
 
 use crate::reply::{Reply, Status, decide};
-use crate::request::read_words;
-use crate::text::USAGE;
 use rotor_base::{Failed, SourceFile};
 use std::alloc::Global;
 use tree_io::{Sink, Tree, TreeError};
@@ -20,43 +18,46 @@ use tree_io::{Sink, Tree, TreeError};
 /// all references to it respelled, and the report is put; or the folder is left as it is, and the line of the refusal
 /// is put. All memory, the folder's room too, is taken before the first write and the put.
 pub fn rotor<T: Tree, S: Sink>(alloc: Global, words: &[String], tree: &mut T, out: &mut S) -> Status
-    // Where no count of faults rose and there was memory: the status, the files and the text that are said.
+    // Where no count of faults rose and there was memory: there is a reply that is said, and status, files and text are its.
     ensures answer { ForSome (T.content tree.old) (λ files.
         IsQuiet (seen (T.faults tree.old) (S.faults out.old) (T.content tree.old) (S.taken out.old))
         (seen (T.faults tree.new) (S.faults out.new) (T.content tree.new) (S.taken out.new))
         → (result ≡ Status.Memory → ⊥)
-        → IsAsSaid (said (map string_bytes words.now) files) files
+        → SomeReply (asked (map string_bytes words.now)) files (λ reply. IsAsSaid reply files
         (seen (T.faults tree.old) (S.faults out.old) (T.content tree.old) (S.taken out.old))
-        (seen (T.faults tree.new) (S.faults out.new) (T.content tree.new) (S.taken out.new)) result) }
+        (seen (T.faults tree.new) (S.faults out.new) (T.content tree.new) (S.taken out.new)) result)) }
 
-    // The words alone decide the usage, and for words of no form the folder is not called.
+    // Where the words ask nothing of the folder, it is not called, and the reply hangs on the words alone.
+    ensures alone { AsksNothing (asked (map string_bytes words.now)) → tree.new ≡ tree.old }
+    ensures alone_said { AsksNothing (asked (map string_bytes words.now)) → (Rose (S.faults out.old) (S.faults out.new) → ⊥) → (result ≡ Status.Memory → ⊥)
+        → AnsweredAlone (asked (map string_bytes words.now))
+        (seen (T.faults tree.old) (S.faults out.old) (T.content tree.old) (S.taken out.old))
+        (seen (T.faults tree.new) (S.faults out.new) (T.content tree.new) (S.taken out.new)) result }
+    ensures alone_cut { AsksNothing (asked (map string_bytes words.now)) → (result ≡ Status.SinkFault) → CutAlone (asked (map string_bytes words.now))
+        (seen (T.faults tree.old) (S.faults out.old) (T.content tree.old) (S.taken out.old))
+        (seen (T.faults tree.new) (S.faults out.new) (T.content tree.new) (S.taken out.new)) }
     ensures usage { (result ≡ Status.Usage) → (asked (map string_bytes words.now) ≡ None) }
-    ensures usage_always { asked (map string_bytes words.now) ≡ None → (Rose (S.faults out.old) (S.faults out.new) → ⊥)
-        → (result ≡ Status.Usage) × Takes usage_reply.text (S.taken out.old) (S.taken out.new) }
-    ensures usage_cut { asked (map string_bytes words.now) ≡ None → (result ≡ Status.SinkFault) → TakesPrefix usage_reply.text (S.taken out.old) (S.taken out.new) }
-    ensures usage_tree { asked (map string_bytes words.now) ≡ None → tree.new ≡ tree.old }
 
     // A fault comes only where its count rose, and none is passed over.
     ensures tree_fault { IsFault Status.TreeFault (T.faults tree.old) (T.faults tree.new) result }
     ensures sink_fault { IsFault Status.SinkFault (S.faults out.old) (S.faults out.new) result }
 
     // What a fault leaves.
-    ensures tree_stopped { (result ≡ Status.TreeFault) → ForSome (T.content tree.old) (λ files. TreeStopped (said (map string_bytes words.now) files) files (T.content tree.new)) }
-    ensures sink_stopped { (result ≡ Status.SinkFault) → ForSome (T.content tree.old) (λ files.
-        SinkStopped (said (map string_bytes words.now) files) files
+    ensures tree_stopped { (result ≡ Status.TreeFault) → ForSome (T.content tree.old) (λ files. TreeStopped (asked (map string_bytes words.now)) files (T.content tree.new)) }
+    ensures sink_stopped { (result ≡ Status.SinkFault) → ForSome (T.content tree.old) (λ files. SomeReply (asked (map string_bytes words.now)) files (λ reply.
+        SinkStopped reply files
         (seen (T.faults tree.old) (S.faults out.old) (T.content tree.old) (S.taken out.old))
-        (seen (T.faults tree.new) (S.faults out.new) (T.content tree.new) (S.taken out.new))) }
+        (seen (T.faults tree.new) (S.faults out.new) (T.content tree.new) (S.taken out.new)))) }
 
     // Refusals and want of memory leave the folder; a folder that failed and want of memory put nothing.
     ensures unchanged { IsRefusal result → T.content tree.new ≡ T.content tree.old }
     ensures quiet { (result ≡ Status.TreeFault) ⊎ (result ≡ Status.Memory) → out.new ≡ out.old }
 
     // Of a call that is done, each reference keeps its goal, and the words of the undo line give the old files back.
-    ensures undo { (result ≡ Status.Done) → ForSome (T.content tree.old) (λ files. IsUndoable (said (map string_bytes words.now) files) files) }
+    ensures undo { (result ≡ Status.Done) → ForSome (T.content tree.old) (λ files. SomeReply (asked (map string_bytes words.now)) files (λ reply. IsUndoable reply files)) }
 
     // Over a folder and an output that do not fail, the status is the one that is said, or there was no memory.
-    ensures complete { T.is_steady tree.old → IfSome (T.content tree.old) (λ files.
-        S.accepts out.old (length (said (map string_bytes words.now) files).text) → IsComplete (said (map string_bytes words.now) files) result) }
+    ensures complete { T.is_steady tree.old → ForSome (T.content tree.old) (λ files. IsComplete (asked (map string_bytes words.now)) files (S.accepts out.old) result) }
     ensures steady { T.is_steady tree.old → T.is_steady tree.new }
 {
     conclude(alloc, words, tree, out)
@@ -68,14 +69,10 @@ fn conclude<T: Tree, S: Sink>(alloc: Global, words: &[String], tree: &mut T, out
         (seen (T.faults tree.old) (S.faults out.old) (T.content tree.old) (S.taken out.old))
         (seen (T.faults tree.new) (S.faults out.new) (T.content tree.new) (S.taken out.new))
         (tree.new ≡ tree.old) (out.new ≡ out.old) result }
-    ensures complete { T.is_steady tree.old → IfSome (T.content tree.old) (λ files.
-        S.accepts out.old (length (said (map string_bytes words.now) files).text) → IsComplete (said (map string_bytes words.now) files) result) }
+    ensures complete { T.is_steady tree.old → ForSome (T.content tree.old) (λ files. IsComplete (asked (map string_bytes words.now)) files (S.accepts out.old) result) }
     ensures steady { T.is_steady tree.old → T.is_steady tree.new }
 {
-    let Some(request) = read_words(words) else {
-        return put_text(USAGE, Status::Usage, out);
-    };
-    match decide(alloc, request.target, request.name, tree) {
+    match decide(alloc, words, tree) {
         Err(TreeError::Failed) => Status::TreeFault,
         Err(TreeError::Memory) => Status::Memory,
         Ok(reply) => carry_out(&reply, tree, out),
@@ -88,6 +85,7 @@ fn carry_out<T: Tree, S: Sink>(reply: &Reply, tree: &mut T, out: &mut S) -> Stat
     ensures carried { Carried reply.now
         (seen (T.faults tree.old) (S.faults out.old) (T.content tree.old) (S.taken out.old))
         (seen (T.faults tree.new) (S.faults out.new) (T.content tree.new) (S.taken out.new)) (out.new ≡ out.old) result }
+    ensures none { reply.now.writes ≡ [] → tree.new ≡ tree.old }
     ensures complete { T.is_steady tree.old → S.accepts out.old (length reply.now.text) → result ≡ reply.now.status }
     ensures steady { T.is_steady tree.old → T.is_steady tree.new }
 {
@@ -112,6 +110,7 @@ fn put_text<S: Sink>(text: &[u8], status: Status, out: &mut S) -> Status
 fn write_all<T: Tree>(writes: &[SourceFile], tree: &mut T) -> Result<(), Failed>
     requires { HasRoom (T.room_for tree.old) writes.now }
     ensures written { OnOk result (Written writes.now (T.content tree.old) (T.content tree.new)) }
+    ensures none { writes.now ≡ [] → tree.new ≡ tree.old }
     ensures stopped { OnErr result (StoppedWriting writes.now (T.content tree.old) (T.content tree.new)) }
     ensures cause { HasFault (T.faults tree.old) (T.faults tree.new) result }
     ensures steady { StaysSteady (T.is_steady tree.old) (T.is_steady tree.new) (IsErr result) }

@@ -12,6 +12,7 @@ mod sharing;
 
 pub use error::FactError;
 pub use kinds::Kind;
+pub use names::Names;
 pub use scope::{Scope, mod_in, mty_in, val_in};
 pub use shape::{
     Entry, GREATEST_WEIGHT, Shape, copy, find_mod, find_mty, find_val, visible, walk, weight,

@@ -1,5 +1,6 @@
 // The current folder and the standard output of the system. No clause says what they hold.
-ghost use Rattle.std.specs.Prelude.{◌≡◌, ◌≤◌, ◌-◌, ◌^◌, ℕ, None, length, vec_len, IfOk};
+ghost use Rattle.std.specs.Prelude.{◌≡◌, ◌≤◌, ◌<◌, ◌-◌, ◌^◌, ℕ, None, length, vec_len, drop, IfOk, OnOk};
+ghost use Rattle.std.specs.Io.KnownBytes.{Consumes, Appends, IsAtEnd};
 ghost use Rattle.tree_io.specs.Outside.{HasCause, HasFault};
 ghost use Rattle.tree_io.specs.Host.{tree_faults, sink_faults};
 
@@ -164,13 +165,22 @@ fn add_names(alloc: Global, piece: &[u8], names: &mut Vec<String>) -> Result<(),
     Ok(())
 }
 
-/// The first `limit` bytes of a file. A read of nothing is the end of it.
+/// The first `limit` bytes of a file.
 fn read_file<R: Files>(rt: &R, alloc: Global, name: &str, limit: u32) -> Result<Vec<u8>, TreeError>
     ensures { IfOk result (λ bytes. length bytes.items ≤ limit) }
 {
     let Ok(mut file) = File::open(rt, name) else {
         return Err(TreeError::Failed);
     };
+    read_front(alloc, &mut file, limit)
+}
+
+/// The first `limit` bytes that a reader gives. A read of nothing is the end of them, and an Err is a fault.
+fn read_front<F: Read>(alloc: Global, file: &mut F, limit: u32) -> Result<Vec<u8>, TreeError>
+    ensures few { IfOk result (λ bytes. length bytes.items ≤ limit) }
+    ensures given { IfOk result (λ bytes. Consumes (F.remaining file.old) (F.remaining file.new) bytes.items) }
+    ensures whole { IfOk result (λ bytes. length bytes.items < limit → IsAtEnd (F.remaining file.new)) }
+{
     let mut bytes = Vec::new(alloc);
     let mut chunk = [0; CHUNK_BYTES];
     let most = limit as usize;
@@ -192,6 +202,13 @@ fn write_file<R: Files>(rt: &R, name: &str, bytes: &[u8]) -> Result<(), Failed> 
     let Ok(mut file) = File::create(rt, name) else {
         return Err(Failed);
     };
+    write_whole(&mut file, bytes)
+}
+
+/// Gives a writer all the bytes. A write that takes nothing is a fault.
+fn write_whole<W: Write>(file: &mut W, bytes: &[u8]) -> Result<(), Failed>
+    ensures { OnOk result (Appends (W.contents file.old) (W.contents file.new) bytes.now) }
+{
     let mut rest = bytes;
     while !rest.is_empty() {
         let Ok(count) = file.write(rest) else {
@@ -200,9 +217,17 @@ fn write_file<R: Files>(rt: &R, name: &str, bytes: &[u8]) -> Result<(), Failed> 
         if count == 0 {
             return Err(Failed);
         }
-        rest = &rest[count..];
+        rest = behind(rest, count);
     }
     file.flush().map_err(|_| Failed)
+}
+
+/// What stands behind the first bytes.
+fn behind(bytes: &[u8], count: usize) -> &[u8]
+    requires { count ≤ length bytes.now }
+    ensures { result.now ≡ drop count bytes.now }
+{
+    &bytes[count..]
 }
 
 /// Writes all the bytes to the standard output. A write that takes nothing is a fault.

@@ -3,6 +3,7 @@ use Rattle.std.proofs.lemmas.Grind.{common_steps}
 use Rattle.ml_lexer.specs.declared.piece.Piece.TheVariants.{Trivia, Lexeme}
 use Rattle.ml_lexer.specs.Pieces.{Within}
 use Rattle.ml_lexer.proofs.Cut.{left_trivia, left_lexeme, left_end, left_bad, left_long_name}
+use Rattle.ml_lexer.proofs.Order.{tokens_are_few}
 use Rattle.ml_lexer.proofs.scan.lex.Goals as goal
 use Rattle.ml_lexer.proofs.scan.lex.Goals.{in-Trivia, in-Lexeme+in_ok-push-in-Lexeme}
 
@@ -26,3 +27,6 @@ loop-rest-preserved c = elim c.match-piece_at.branch [
 
 pub returns-clause-found : goal.returns-clause-found
 returns-clause-found c = left_end c.loop-rest.invariant (grind (arith, common_steps))
+
+pub returns-clause-few : goal.returns-clause-few
+returns-clause-few c = tokens_are_few _ _ (left_end c.loop-rest.invariant (grind (arith, common_steps)))

@@ -1,8 +1,9 @@
 use Rattle.std.proofs.Common.{◌≡◌, map, string_bytes}
 use Rattle.rotor_app.specs.Words.{asked}
 use Rattle.rotor_app.specs.Table.{seen}
-use Rattle.rotor_app.proofs.Endings.{answers, usage_only, usage_always, usage_cut, usage_tree, tree_fault, sink_fault, tree_stopped, sink_stopped, unchanged, quiet_sink, done_said}
+use Rattle.rotor_app.proofs.Endings.{answers, usage_only, alone_same, alone_said, alone_cut, tree_fault, sink_fault, tree_stopped, sink_stopped, unchanged, quiet_sink, done_said}
 use Rattle.rotor_app.proofs.Undoing.{said_undoable}
+use Rattle.rotor_app.proofs.Concluded.{alone_writes}
 use Rattle.rotor_app.proofs.top.rotor.Goals as goal
 
 pub returns-clause-answer : goal.returns-clause-answer
@@ -12,30 +13,30 @@ returns-clause-answer g c =
     (seen (g.T.Tree.faults c.conclude.new.tree) (g.S.Sink.faults c.conclude.new.out) (g.T.Tree.content c.conclude.new.tree) (g.S.Sink.taken c.conclude.new.out))
     (c.conclude.new.tree ≡ c.args.tree.now) (c.conclude.new.out ≡ c.args.out.now) c.conclude.result c.conclude.ensures.ending
 
+pub returns-clause-alone : goal.returns-clause-alone
+returns-clause-alone g c =
+    alone_same (asked (map string_bytes c.args.words.now))
+    (seen (g.T.Tree.faults c.args.tree.now) (g.S.Sink.faults c.args.out.now) (g.T.Tree.content c.args.tree.now) (g.S.Sink.taken c.args.out.now))
+    (seen (g.T.Tree.faults c.conclude.new.tree) (g.S.Sink.faults c.conclude.new.out) (g.T.Tree.content c.conclude.new.tree) (g.S.Sink.taken c.conclude.new.out))
+    (c.conclude.new.tree ≡ c.args.tree.now) (c.conclude.new.out ≡ c.args.out.now) c.conclude.result (alone_writes (asked (map string_bytes c.args.words.now))) c.conclude.ensures.ending
+
+pub returns-clause-alone_said : goal.returns-clause-alone_said
+returns-clause-alone_said g c =
+    alone_said (asked (map string_bytes c.args.words.now))
+    (seen (g.T.Tree.faults c.args.tree.now) (g.S.Sink.faults c.args.out.now) (g.T.Tree.content c.args.tree.now) (g.S.Sink.taken c.args.out.now))
+    (seen (g.T.Tree.faults c.conclude.new.tree) (g.S.Sink.faults c.conclude.new.out) (g.T.Tree.content c.conclude.new.tree) (g.S.Sink.taken c.conclude.new.out))
+    (c.conclude.new.tree ≡ c.args.tree.now) (c.conclude.new.out ≡ c.args.out.now) c.conclude.result (alone_writes (asked (map string_bytes c.args.words.now))) c.conclude.ensures.ending
+
+pub returns-clause-alone_cut : goal.returns-clause-alone_cut
+returns-clause-alone_cut g c =
+    alone_cut (asked (map string_bytes c.args.words.now))
+    (seen (g.T.Tree.faults c.args.tree.now) (g.S.Sink.faults c.args.out.now) (g.T.Tree.content c.args.tree.now) (g.S.Sink.taken c.args.out.now))
+    (seen (g.T.Tree.faults c.conclude.new.tree) (g.S.Sink.faults c.conclude.new.out) (g.T.Tree.content c.conclude.new.tree) (g.S.Sink.taken c.conclude.new.out))
+    (c.conclude.new.tree ≡ c.args.tree.now) (c.conclude.new.out ≡ c.args.out.now) c.conclude.result c.conclude.ensures.ending
+
 pub returns-clause-usage : goal.returns-clause-usage
 returns-clause-usage g c =
     usage_only (asked (map string_bytes c.args.words.now))
-    (seen (g.T.Tree.faults c.args.tree.now) (g.S.Sink.faults c.args.out.now) (g.T.Tree.content c.args.tree.now) (g.S.Sink.taken c.args.out.now))
-    (seen (g.T.Tree.faults c.conclude.new.tree) (g.S.Sink.faults c.conclude.new.out) (g.T.Tree.content c.conclude.new.tree) (g.S.Sink.taken c.conclude.new.out))
-    (c.conclude.new.tree ≡ c.args.tree.now) (c.conclude.new.out ≡ c.args.out.now) c.conclude.result c.conclude.ensures.ending
-
-pub returns-clause-usage_always : goal.returns-clause-usage_always
-returns-clause-usage_always g c =
-    usage_always (asked (map string_bytes c.args.words.now))
-    (seen (g.T.Tree.faults c.args.tree.now) (g.S.Sink.faults c.args.out.now) (g.T.Tree.content c.args.tree.now) (g.S.Sink.taken c.args.out.now))
-    (seen (g.T.Tree.faults c.conclude.new.tree) (g.S.Sink.faults c.conclude.new.out) (g.T.Tree.content c.conclude.new.tree) (g.S.Sink.taken c.conclude.new.out))
-    (c.conclude.new.tree ≡ c.args.tree.now) (c.conclude.new.out ≡ c.args.out.now) c.conclude.result c.conclude.ensures.ending
-
-pub returns-clause-usage_cut : goal.returns-clause-usage_cut
-returns-clause-usage_cut g c =
-    usage_cut (asked (map string_bytes c.args.words.now))
-    (seen (g.T.Tree.faults c.args.tree.now) (g.S.Sink.faults c.args.out.now) (g.T.Tree.content c.args.tree.now) (g.S.Sink.taken c.args.out.now))
-    (seen (g.T.Tree.faults c.conclude.new.tree) (g.S.Sink.faults c.conclude.new.out) (g.T.Tree.content c.conclude.new.tree) (g.S.Sink.taken c.conclude.new.out))
-    (c.conclude.new.tree ≡ c.args.tree.now) (c.conclude.new.out ≡ c.args.out.now) c.conclude.result c.conclude.ensures.ending
-
-pub returns-clause-usage_tree : goal.returns-clause-usage_tree
-returns-clause-usage_tree g c =
-    usage_tree (asked (map string_bytes c.args.words.now))
     (seen (g.T.Tree.faults c.args.tree.now) (g.S.Sink.faults c.args.out.now) (g.T.Tree.content c.args.tree.now) (g.S.Sink.taken c.args.out.now))
     (seen (g.T.Tree.faults c.conclude.new.tree) (g.S.Sink.faults c.conclude.new.out) (g.T.Tree.content c.conclude.new.tree) (g.S.Sink.taken c.conclude.new.out))
     (c.conclude.new.tree ≡ c.args.tree.now) (c.conclude.new.out ≡ c.args.out.now) c.conclude.result c.conclude.ensures.ending
@@ -87,5 +88,4 @@ returns-clause-undo g c = λ done files held. said_undoable (asked (map string_b
     done_said (asked (map string_bytes c.args.words.now))
     (seen (g.T.Tree.faults c.args.tree.now) (g.S.Sink.faults c.args.out.now) (g.T.Tree.content c.args.tree.now) (g.S.Sink.taken c.args.out.now))
     (seen (g.T.Tree.faults c.conclude.new.tree) (g.S.Sink.faults c.conclude.new.out) (g.T.Tree.content c.conclude.new.tree) (g.S.Sink.taken c.conclude.new.out))
-    (c.conclude.new.tree ≡ c.args.tree.now) (c.conclude.new.out ≡ c.args.out.now) c.conclude.result c.conclude.ensures.ending
-    done files held)
+    (c.conclude.new.tree ≡ c.args.tree.now) (c.conclude.new.out ≡ c.args.out.now) c.conclude.result c.conclude.ensures.ending done files held)

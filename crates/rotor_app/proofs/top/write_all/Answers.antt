@@ -1,5 +1,5 @@
 use Rattle.std.proofs.Common.{◌∙◌, arith}
-use Rattle.rotor_app.proofs.Writing.{written_more, room_more, stopped_at, on_err}
+use Rattle.rotor_app.proofs.Writing.{written_more, room_more, stopped_at, on_err, no_more}
 use Rattle.rotor_app.proofs.top.write_all.Goals as goal
 
 pub returns-in_err-write-clause-stopped : goal.returns-in_err-write-clause-stopped
@@ -13,5 +13,6 @@ loop-file-preserved g c = record {
       c.as_str.result.now c.as_slice.result.now (omega arith) c.file-item.is c.loop-file.invariant.written c.as_str.ensures c.as_slice.ensures c.in_ok-write.ensures.written;
   room = room_more (g.T.Tree.room_for c.loop-file.tree) (g.T.Tree.room_for c.write.new.self) c.args.writes.now c.loop-file.file-index c.file-item.result (omega arith) c.write.ensures.room c.loop-file.invariant.room;
   count = c.in_ok-write.ensures.cause.ok ∙ c.loop-file.invariant.count;
+  none = no_more c.args.writes.now c.loop-file.file-index _ (omega arith);
   steady = λ s. (c.write.ensures.steady (c.loop-file.invariant.steady s)).0;
 }

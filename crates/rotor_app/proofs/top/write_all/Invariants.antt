@@ -1,4 +1,4 @@
-use Rattle.std.proofs.Common.{◌≡◌, take, drop}
+use Rattle.std.proofs.Common.{◌≡◌, [], take, drop}
 use Rattle.rotor_app.specs.Said.{HasRoom}
 use Rattle.rotor_app.specs.Table.{Written}
 use Rattle.rotor_app.proofs.top.write_all.Given as goal
@@ -9,5 +9,6 @@ invariant-loop-file g l = record {
   written : Written (take l.file-index l.writes) (g.T.Tree.content l.initial.tree) (g.T.Tree.content l.tree);
   room : HasRoom (g.T.Tree.room_for l.tree) (drop l.file-index l.writes);
   count : g.T.Tree.faults l.tree ≡ g.T.Tree.faults l.initial.tree;
+  none : l.writes ≡ [] → l.tree ≡ l.initial.tree;
   steady : g.T.Tree.is_steady l.initial.tree → g.T.Tree.is_steady l.tree;
 }

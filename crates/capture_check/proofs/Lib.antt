@@ -1,0 +1,9 @@
+pub mod Before
+pub mod Least
+pub mod Twice
+pub mod Groups
+pub mod Filing
+pub mod Binders
+pub mod Faults
+pub mod One
+pub mod Told

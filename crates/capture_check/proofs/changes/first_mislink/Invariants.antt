@@ -1,0 +1,7 @@
+use Rattle.capture_check.specs.Fault.{of_link}
+use Rattle.capture_check.proofs.Least.{IsBest}
+use Rattle.capture_check.proofs.changes.first_mislink.Given as goal
+
+-- the first change among the things so far
+abbrev pub invariant-loop-i : goal.invariant-loop-i
+invariant-loop-i l = IsBest of_link l.old l.new l.i l.least

@@ -1,0 +1,8 @@
+use Rattle.shape_core.specs.Names.{at}
+use Rattle.capture_check.specs.Tables.{named}
+use Rattle.capture_check.proofs.Groups.{Scans}
+use Rattle.capture_check.proofs.repeats.repeat_in.Given as goal
+
+-- the table has the least of the places so far, and this is the first repeat among them
+abbrev pub invariant-loop-place : goal.invariant-loop-place
+invariant-loop-place l = Scans (named l.names) l.group l.place-index (at l.seen) l.least

@@ -1,0 +1,4 @@
+pub mod Fault
+pub mod Firsts
+pub mod Tables
+pub mod Local

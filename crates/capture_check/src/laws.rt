@@ -1,0 +1,15 @@
+//! The laws of the comparison, each as the contract of a function.
+
+ghost use Rattle.capture_check.specs.Fault.{FaultsAreOne};
+ghost use Rattle.capture_check.specs.Local.{LooksTellFaults};
+
+/// Two lists of facts have one first fault, or none.
+#[tactic(auto, using(crate::proofs::One::faults_are_one))]
+pub fn faults_are_one()
+    ensures { FaultsAreOne }
+{}
+
+/// What the looks of a project tell is the first fault of the renamed project against it.
+pub fn looks_tell_faults()
+    ensures { LooksTellFaults }
+{}

@@ -1,0 +1,119 @@
+//! The first name that stands twice in a group.
+
+ghost use Rattle.std.specs.Prelude.{◌≡◌, ◌∷◌, ℕ, List, [], IfOk, OnOk, Some, bytes_eq, if◌then◌else◌};
+ghost use Rattle.shape_core.specs.Names.{at};
+ghost use Rattle.capture_check.specs.Firsts.{IsFirstRepeat, is_lesser, earlier_repeat, repeat_of, lesser};
+ghost use Rattle.capture_check.specs.Tables.{named};
+
+use crate::fault::Repeat;
+use crate::order::is_before;
+use rotor_base::{Memory, Name, Place, Row};
+use shape_core::Names;
+use std::alloc::Global;
+use std::collections::BTreeMap;
+
+/// The name of each binder.
+pub type NameTable = BTreeMap<Place, Name>;
+
+/// The first repeat of a name in a group: of the least place that repeats one, and the least place of that name there.
+pub fn first_repeat(
+    alloc: Global,
+    names: &NameTable,
+    groups: &[Row<Place>],
+) -> Result<Option<Repeat>, Memory>
+    ensures { IfOk result (IsFirstRepeat (named names.now) groups.now) }
+{
+    let mut least = None;
+    for group in groups {
+        let found = repeat_in(alloc, names, group.as_slice())?;
+        least = earlier_repeat(least, found);
+    }
+    Ok(least)
+}
+
+/// The first repeat of a name in one group.
+fn repeat_in(alloc: Global, names: &NameTable, group: &[Place]) -> Result<Option<Repeat>, Memory>
+    ensures { IfOk result (IsFirstRepeat (named names.now) (group.now ∷ [])) }
+{
+    let mut seen = Names::new(alloc);
+    let mut least = None;
+    for place in group {
+        let found = add_place(alloc, &mut seen, name_at(names, *place), *place)?;
+        least = earlier_repeat(least, found);
+    }
+    Ok(least)
+}
+
+/// The name of a place, or none.
+fn name_at<'a>(names: &'a NameTable, place: Place) -> &'a [u8]
+    ensures { result.now ≡ named names.now place }
+{
+    match names.get(&place) {
+        Some(name) => name.as_bytes(),
+        None => &[],
+    }
+}
+
+/// Adds a place of a name, of whose places the least is kept. The result is the repeat that it makes with that one.
+fn add_place(
+    alloc: Global,
+    seen: &mut Names<Place>,
+    name: &[u8],
+    place: Place,
+) -> Result<Option<Repeat>, Memory>
+    ensures found { IfOk result (λ found. found ≡ repeat_of (at seen.old name.now) place) }
+    ensures seen { OnOk result ((x : List ℕ) → at seen.new x ≡ (if bytes_eq name.now x then Some (lesser (at seen.old name.now) place) else at seen.old x)) }
+{
+    let before = seen.get(name);
+    let least = lesser(before, place);
+    seen.put(alloc, name, least)?;
+    Ok(repeat_of(before, place))
+}
+
+/// The lesser of two places, of which there may be but one.
+fn lesser(before: Option<Place>, place: Place) -> Place
+    ensures { result ≡ lesser before place }
+{
+    match before {
+        Some(other) if is_before(other, place) => other,
+        _ => place,
+    }
+}
+
+/// The repeat that one more place of a name makes with the least of those before it.
+fn repeat_of(before: Option<Place>, place: Place) -> Option<Repeat>
+    ensures { result ≡ repeat_of before place }
+{
+    let other = before?;
+    if is_before(other, place) {
+        Some(Repeat {
+            first: other,
+            again: place,
+        })
+    } else if is_before(place, other) {
+        Some(Repeat {
+            first: place,
+            again: other,
+        })
+    } else {
+        None
+    }
+}
+
+/// The lesser of two repeats.
+fn earlier_repeat(best: Option<Repeat>, found: Option<Repeat>) -> Option<Repeat>
+    ensures { result ≡ earlier_repeat best found }
+{
+    match (best, found) {
+        (Some(a), Some(b)) => Some(if is_lesser(b, a) { b } else { a }),
+        (None, b) => b,
+        (a, None) => a,
+    }
+}
+
+/// Whether a repeat is less than another: by its later place, then its first.
+fn is_lesser(a: Repeat, b: Repeat) -> bool
+    ensures { result ≡ is_lesser a b }
+{
+    is_before(a.again, b.again) || (a.again == b.again && is_before(a.first, b.first))
+}

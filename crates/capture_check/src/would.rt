@@ -1,0 +1,90 @@
+//! What a look-up would find after a renaming.
+
+ghost use Rattle.std.specs.Prelude.{◌≡◌};
+ghost use Rattle.rotor_base.specs.declared.looks.Watch.{Watch};
+ghost use Rattle.rotor_base.specs.declared.place.Goal.TheVariants.{Decl};
+ghost use Rattle.shape_core.specs.Looks.{is_member};
+ghost use Rattle.binding_model.specs.Looks.{behind_darks, spot_goal, later, would_find, would_ref, would_source, would_link};
+
+use rotor_base::{Goal, LinkLook, Place, RefLook};
+
+/// A position in a list, a declaration, and the number of outside modules after that position.
+type Spot = (u64, Place, u64);
+
+/// Would of a reference, whose goal is a member of the footprint or not.
+pub fn would_ref(look: RefLook, member: bool) -> Goal
+    ensures { (w : Watch) → is_member w look.goal ≡ member → result ≡ would_ref w look }
+{
+    if look.is_new || member {
+        would_find(look.by, look.goal, later(look.foot, look.new))
+    } else {
+        look.goal
+    }
+}
+
+/// Would of a link, whose item is a member of the footprint or not.
+pub fn would_link(look: LinkLook, member: bool) -> Goal
+    ensures { (w : Watch) → is_member w (Decl look.item) ≡ member → result ≡ would_link w look }
+{
+    let none = behind_darks(look.by, look.darks, None);
+    if look.is_new || member {
+        let found = would_find(look.by, none, later(look.foot, look.new));
+        would_source(look.later_foot || look.later_new, look.pinned, found)
+    } else {
+        would_source(
+            look.later_old,
+            look.pinned,
+            would_find(look.by, none, look.old),
+        )
+    }
+}
+
+fn would_source(hidden: bool, pinned: bool, found: Goal) -> Goal
+    ensures { result ≡ would_source hidden pinned found }
+{
+    if hidden {
+        Goal::Hidden
+    } else if pinned {
+        Goal::Outside
+    } else {
+        found
+    }
+}
+
+/// The later of two spots of a list.
+fn later(a: Option<Spot>, b: Option<Spot>) -> Option<Spot>
+    ensures { result ≡ later a b }
+{
+    match (a, b) {
+        (Some(p), Some(q)) => Some(if p.0 <= q.0 { q } else { p }),
+        (None, q) => q,
+        (p, None) => p,
+    }
+}
+
+/// What was found, read as a goal, or what stands for nothing.
+fn would_find(by: Option<Place>, other: Goal, found: Option<Spot>) -> Goal
+    ensures { result ≡ would_find by other found }
+{
+    match found {
+        None => other,
+        Some(spot) => behind_darks(by, spot.2, Some(spot.1)),
+    }
+}
+
+/// A declaration or none behind so many outside modules, of which `by` is the last.
+fn behind_darks(by: Option<Place>, darks: u64, found: Option<Place>) -> Goal
+    ensures { result ≡ behind_darks by darks found }
+{
+    if darks == 0 {
+        return match found {
+            None => Goal::Missing,
+            Some(place) => Goal::Decl(place),
+        };
+    }
+    Goal::Blur {
+        by: by.unwrap_or(Place { file: 0, token: 0 }),
+        passed: darks,
+        behind: found,
+    }
+}

@@ -1,0 +1,17 @@
+-- The places of a well-formed tree stand among its words, in their order.
+use Rattle.std.proofs.Common.{ℕ, suc, List, [], ◌∷◌, length}
+use Rattle.ml_syntax.specs.Tok.{Tok}
+use Rattle.ml_syntax.specs.Words.{words}
+use Rattle.ml_syntax.specs.Places.{Site, sites}
+use Rattle.ml_syntax.specs.Standing.{StandFrom, SitesStand}
+use Rattle.ml_syntax.proofs.Steps.{Between, begin}
+use Rattle.ml_syntax.proofs.Reading.{file_read}
+
+stands : (ts : List Tok) (low : ℕ) (ss : List Site) (high : ℕ) → Between ts low ss high → StandFrom ts low ss
+stands ts low [] high h = tt
+stands ts low (s ∷ ss) high h = (h.0, h.1, h.2, stands ts (suc h.0) ss high h.3)
+
+pub sites_stand : SitesStand
+sites_stand t wf =
+    let r = file_read t wf (begin (words t)) in
+    stands (words t) 0 (sites t) (length r.past) r.marks

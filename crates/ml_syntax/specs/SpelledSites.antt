@@ -1,0 +1,21 @@
+-- The places of a respelled tree.
+use Rattle.std.specs.Prelude.{◌≡◌, List, [], ◌∷◌, ◌||◌, IsTrue, map}
+use Rattle.ml_syntax.specs.Tree.{FileTree}
+use Rattle.ml_syntax.specs.Places.{Site, sites}
+use Rattle.ml_syntax.specs.Respelled.{Spelling, spell_file}
+
+-- a fact of each of some places
+abbrev pub Each : (Site → Type 0) → List Site → Type 0
+Each P [] = Unit {0}
+Each P (x ∷ xs) = P x × Each P xs
+
+-- an operator, and a word that is a label or a field too, keeps its word
+abbrev pub IsKept : Spelling → Site → Type 0
+IsKept w s = IsTrue (s.pun || s.operator) → w s.at s.name ≡ s.name
+
+abbrev pub spell_site : Spelling → Site → Site
+spell_site w s = record { binds = s.binds; at = s.at; name = w s.at s.name; pun = s.pun; operator = s.operator }
+
+-- the places of a respelled tree are its places, respelled, where puns and operators are kept
+abbrev pub SitesAreRespelled : Type 0
+SitesAreRespelled = (w : Spelling) (t : FileTree) → Each (IsKept w) (sites t) → sites (spell_file w t) ≡ map (spell_site w) (sites t)
