@@ -4,7 +4,6 @@ use crate::word::{Bracket, Path, Run, ValueName, Word};
 /// An expression (the manual's chapter on expressions). `at` is the token of its first word, where that word is
 /// fixed; other fixed words that have a place, as the `=` of a binding, stand under their own names.
 #[cycle(expression)]
-#[derive(Drop)]
 pub enum Expr {
     /// Expressions between `;`, with or without a last `;`.
     Seq {
@@ -220,7 +219,6 @@ pub enum Variable {
 
 /// A part of a `let`.
 #[cycle(expression)]
-#[derive(Drop)]
 pub enum Binding {
     /// A pattern, its type or none, `=` and an expression.
     Plain {
@@ -241,7 +239,6 @@ pub enum Binding {
 
 /// A case: a pattern, a guard or none, and a body.
 #[cycle(expression)]
-#[derive(Drop)]
 pub struct Case {
     pub pat: Pat,
     pub guard: Option<Box<Expr>>,
@@ -250,7 +247,6 @@ pub struct Case {
 
 /// An `else if`, whose `if` is `at`.
 #[cycle(expression)]
-#[derive(Drop)]
 pub struct Branch {
     pub at: u32,
     pub test: Expr,
@@ -259,7 +255,6 @@ pub struct Branch {
 
 /// An argument.
 #[cycle(expression)]
-#[derive(Drop)]
 pub enum Argument {
     Positional(Expr),
     /// A label without a colon, which is a value of that name too.
@@ -270,7 +265,6 @@ pub enum Argument {
 
 /// A parameter.
 #[cycle(expression)]
-#[derive(Drop)]
 pub enum Param {
     Pattern(Pat),
     /// A label without a colon, which binds a variable of that name.
@@ -315,7 +309,6 @@ pub enum Param {
 
 /// A part after a `.`
 #[cycle(expression)]
-#[derive(Drop)]
 pub enum Part {
     /// A field's name, after the names of modules, each with a `.`
     Select { path: Vec<Word>, label: Word },
@@ -327,7 +320,6 @@ pub enum Part {
 
 /// A field of a record.
 #[cycle(expression)]
-#[derive(Drop)]
 pub enum Field {
     /// A field whose value is the variable of its name.
     FieldPun {
@@ -347,7 +339,6 @@ pub enum Field {
 
 /// The module of a `let module`: a path, and the arguments after it.
 #[cycle(local)]
-#[derive(Drop)]
 pub struct LocalModule {
     pub path: Path,
     pub arguments: Vec<LocalArgument>,
@@ -355,8 +346,294 @@ pub struct LocalModule {
 
 /// An argument of it, in parentheses, or none.
 #[cycle(local)]
-#[derive(Drop)]
 pub enum LocalArgument {
     Module { open: u32, module: LocalModule },
     Nothing { open: u32 },
+}
+
+impl Drop for Expr {
+    #[cycle(expression)]
+    fn drop(self) {
+        match self {
+            Expr::Seq {
+                first: _,
+                rest: _,
+                last: _,
+            } => {}
+            Expr::Let {
+                at: _,
+                recursive: _,
+                first: _,
+                rest: _,
+                body: _,
+            } => {}
+            Expr::LetOpen {
+                at: _,
+                open: _,
+                bang: _,
+                path: _,
+                body: _,
+            } => {}
+            Expr::LetModule {
+                at: _,
+                module: _,
+                name: _,
+                equals: _,
+                value: _,
+                body: _,
+            } => {}
+            Expr::Fun {
+                at: _,
+                params: _,
+                body: _,
+            } => {}
+            Expr::Function {
+                at: _,
+                bar: _,
+                first: _,
+                rest: _,
+            } => {}
+            Expr::Match {
+                at: _,
+                subject: _,
+                bar: _,
+                first: _,
+                rest: _,
+            } => {}
+            Expr::Try {
+                at: _,
+                subject: _,
+                bar: _,
+                first: _,
+                rest: _,
+            } => {}
+            Expr::If {
+                at: _,
+                test: _,
+                then: _,
+                more: _,
+                otherwise: _,
+            } => {}
+            Expr::Assign { first: _, rest: _ } => {}
+            Expr::Tuple { first: _, rest: _ } => {}
+            Expr::Chain {
+                level: _,
+                first: _,
+                rest: _,
+            } => {}
+            Expr::Minus {
+                sign: _,
+                operand: _,
+            } => {}
+            Expr::Apply {
+                function: _,
+                arguments: _,
+            } => {}
+            Expr::ConstrApply {
+                path: _,
+                argument: _,
+            } => {}
+            Expr::TagApply {
+                tag: _,
+                argument: _,
+            } => {}
+            Expr::Assert { at: _, argument: _ } => {}
+            Expr::Lazy { at: _, argument: _ } => {}
+            Expr::Postfix { base: _, parts: _ } => {}
+            Expr::Prefixed {
+                operator: _,
+                operand: _,
+            } => {}
+            Expr::Literal(_) => {}
+            Expr::Bool { at: _, value: _ } => {}
+            Expr::Value { path: _, name: _ } => {}
+            Expr::Constr(_) => {}
+            Expr::Tag(_) => {}
+            Expr::Unit { at: _ } => {}
+            Expr::Paren { at: _, body: _ } => {}
+            Expr::Typed {
+                at: _,
+                body: _,
+                run: _,
+            } => {}
+            Expr::Coerced {
+                at: _,
+                body: _,
+                from: _,
+                to: _,
+            } => {}
+            Expr::EmptyBegin { at: _ } => {}
+            Expr::Begin { at: _, body: _ } => {}
+            Expr::Empty { at: _, bracket: _ } => {}
+            Expr::List {
+                at: _,
+                bracket: _,
+                first: _,
+                rest: _,
+                last: _,
+            } => {}
+            Expr::Record {
+                at: _,
+                base: _,
+                first: _,
+                rest: _,
+                last: _,
+            } => {}
+            Expr::Opened { path: _, body: _ } => {}
+            Expr::While {
+                at: _,
+                test: _,
+                body: _,
+            } => {}
+            Expr::For {
+                at: _,
+                variable: _,
+                equals: _,
+                from: _,
+                down: _,
+                to: _,
+                body: _,
+            } => {}
+        }
+    }
+}
+
+impl Drop for Binding {
+    #[cycle(expression)]
+    fn drop(self) {
+        match self {
+            Binding::Plain {
+                pat: _,
+                run: _,
+                equals: _,
+                value: _,
+            } => {}
+            Binding::Applied {
+                name: _,
+                params: _,
+                run: _,
+                equals: _,
+                value: _,
+            } => {}
+        }
+    }
+}
+
+impl Drop for Case {
+    #[cycle(expression)]
+    fn drop(self) {
+        let Case {
+            pat: _,
+            guard: _,
+            body: _,
+        } = self;
+    }
+}
+
+impl Drop for Branch {
+    #[cycle(expression)]
+    fn drop(self) {
+        let Branch {
+            at: _,
+            test: _,
+            then: _,
+        } = self;
+    }
+}
+
+impl Drop for Argument {
+    #[cycle(expression)]
+    fn drop(self) {
+        match self {
+            Argument::Positional(_) => {}
+            Argument::LabelPun(_) => {}
+            Argument::Labelled { label: _, value: _ } => {}
+        }
+    }
+}
+
+impl Drop for Param {
+    #[cycle(expression)]
+    fn drop(self) {
+        match self {
+            Param::Pattern(_) => {}
+            Param::Label(_) => {}
+            Param::LabelPattern { label: _, pat: _ } => {}
+            Param::Default {
+                label: _,
+                open: _,
+                pat: _,
+                run: _,
+                equals: _,
+                value: _,
+            } => {}
+            Param::Wrapped {
+                at: _,
+                optional: _,
+                open: _,
+                name: _,
+                run: _,
+            } => {}
+            Param::WrappedDefault {
+                at: _,
+                open: _,
+                name: _,
+                run: _,
+                equals: _,
+                value: _,
+            } => {}
+            Param::Types { open: _, names: _ } => {}
+        }
+    }
+}
+
+impl Drop for Part {
+    #[cycle(expression)]
+    fn drop(self) {
+        match self {
+            Part::Select { path: _, label: _ } => {}
+            Part::Index { open: _, index: _ } => {}
+            Part::CharIndex { open: _, index: _ } => {}
+        }
+    }
+}
+
+impl Drop for Field {
+    #[cycle(expression)]
+    fn drop(self) {
+        match self {
+            Field::FieldPun {
+                path: _,
+                label: _,
+                run: _,
+            } => {}
+            Field::Assigned {
+                path: _,
+                label: _,
+                run: _,
+                equals: _,
+                value: _,
+            } => {}
+        }
+    }
+}
+
+impl Drop for LocalModule {
+    #[cycle(local)]
+    fn drop(self) {
+        let LocalModule {
+            path: _,
+            arguments: _,
+        } = self;
+    }
+}
+
+impl Drop for LocalArgument {
+    #[cycle(local)]
+    fn drop(self) {
+        match self {
+            LocalArgument::Module { open: _, module: _ } => {}
+            LocalArgument::Nothing { open: _ } => {}
+        }
+    }
 }

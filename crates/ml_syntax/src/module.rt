@@ -4,7 +4,6 @@ use crate::word::{Path, Run, ValueName, Word};
 /// A module expression (the manual's chapter on module expressions). `at` is the token of its first word, where
 /// that word is fixed.
 #[cycle(module)]
-#[derive(Drop)]
 pub enum ModExpr {
     ModPath(Path),
     Struct {
@@ -34,7 +33,6 @@ pub enum ModExpr {
 
 /// An argument of a functor, whose `(` is `open`.
 #[cycle(module)]
-#[derive(Drop)]
 pub enum ModArgument {
     Given {
         open: u32,
@@ -52,7 +50,6 @@ pub enum ModArgument {
 
 /// A parameter of a functor, whose `(` is `open`.
 #[cycle(module)]
-#[derive(Drop)]
 pub enum FunctorParam {
     Named {
         open: u32,
@@ -73,7 +70,6 @@ pub enum ModuleName {
 
 /// A module type (the manual's chapter on module types).
 #[cycle(module)]
-#[derive(Drop)]
 pub enum ModType {
     TypePath(Path),
     Sig {
@@ -130,7 +126,6 @@ pub struct Constraint {
 
 /// An item of a structure.
 #[cycle(module)]
-#[derive(Drop)]
 pub enum Item {
     Expression(Expr),
     /// `;;`
@@ -170,7 +165,6 @@ pub enum Item {
 
 /// An item of a signature.
 #[cycle(module)]
-#[derive(Drop)]
 pub enum SigItem {
     SigSeparator,
     Val {
@@ -226,14 +220,12 @@ pub struct Open {
 }
 
 /// The tree of a file, with the file's number: a body or an interface.
-#[derive(Drop)]
 pub enum FileTree {
     Body(u32, Vec<Item>),
     Face(u32, Vec<SigItem>),
 }
 
 /// A unit, with a body, an interface or both.
-#[derive(Drop)]
 pub struct UnitTree {
     pub name: rotor_base::Name,
     pub body: Option<FileTree>,
@@ -241,7 +233,185 @@ pub struct UnitTree {
 }
 
 /// The units in link order.
-#[derive(Drop)]
 pub struct Project {
     pub units: Vec<UnitTree>,
+}
+
+impl Drop for ModExpr {
+    #[cycle(module)]
+    fn drop(self) {
+        match self {
+            ModExpr::ModPath(_) => {}
+            ModExpr::Struct { at: _, items: _ } => {}
+            ModExpr::Functor {
+                at: _,
+                params: _,
+                body: _,
+            } => {}
+            ModExpr::Apply {
+                function: _,
+                arguments: _,
+            } => {}
+            ModExpr::Paren { at: _, body: _ } => {}
+            ModExpr::Sealed {
+                at: _,
+                body: _,
+                signature: _,
+            } => {}
+        }
+    }
+}
+
+impl Drop for ModArgument {
+    #[cycle(module)]
+    fn drop(self) {
+        match self {
+            ModArgument::Given { open: _, module: _ } => {}
+            ModArgument::SealedModule {
+                open: _,
+                module: _,
+                signature: _,
+            } => {}
+            ModArgument::Nothing { open: _ } => {}
+        }
+    }
+}
+
+impl Drop for FunctorParam {
+    #[cycle(module)]
+    fn drop(self) {
+        match self {
+            FunctorParam::Named {
+                open: _,
+                name: _,
+                signature: _,
+            } => {}
+            FunctorParam::NoParam { open: _ } => {}
+        }
+    }
+}
+
+impl Drop for ModType {
+    #[cycle(module)]
+    fn drop(self) {
+        match self {
+            ModType::TypePath(_) => {}
+            ModType::Sig { at: _, items: _ } => {}
+            ModType::TypeOf { at: _, module: _ } => {}
+            ModType::TypeParen { at: _, body: _ } => {}
+            ModType::With {
+                body: _,
+                clauses: _,
+            } => {}
+            ModType::FunctorType {
+                at: _,
+                params: _,
+                result: _,
+            } => {}
+            ModType::ParamArrow {
+                param: _,
+                result: _,
+            } => {}
+            ModType::Arrow {
+                param: _,
+                result: _,
+            } => {}
+        }
+    }
+}
+
+impl Drop for Item {
+    #[cycle(module)]
+    fn drop(self) {
+        match self {
+            Item::Expression(_) => {}
+            Item::Separator => {}
+            Item::Value {
+                at: _,
+                recursive: _,
+                first: _,
+                rest: _,
+            } => {}
+            Item::External(_) => {}
+            Item::Type(_) => {}
+            Item::Exception { at: _, run: _ } => {}
+            Item::Module {
+                at: _,
+                name: _,
+                params: _,
+                signature: _,
+                equals: _,
+                body: _,
+            } => {}
+            Item::ModuleType {
+                at: _,
+                name: _,
+                equals: _,
+                signature: _,
+            } => {}
+            Item::Open(_) => {}
+            Item::Include { at: _, module: _ } => {}
+        }
+    }
+}
+
+impl Drop for SigItem {
+    #[cycle(module)]
+    fn drop(self) {
+        match self {
+            SigItem::SigSeparator => {}
+            SigItem::Val { name: _, run: _ } => {}
+            SigItem::SigExternal(_) => {}
+            SigItem::SigType(_) => {}
+            SigItem::SigException { at: _, run: _ } => {}
+            SigItem::SigModule {
+                at: _,
+                name: _,
+                params: _,
+                signature: _,
+            } => {}
+            SigItem::Alias {
+                at: _,
+                name: _,
+                equals: _,
+                path: _,
+            } => {}
+            SigItem::SigModuleType {
+                at: _,
+                name: _,
+                equals: _,
+                signature: _,
+            } => {}
+            SigItem::SigOpen(_) => {}
+            SigItem::SigInclude {
+                at: _,
+                signature: _,
+            } => {}
+        }
+    }
+}
+
+impl Drop for FileTree {
+    fn drop(self) {
+        match self {
+            FileTree::Body(_, _) => {}
+            FileTree::Face(_, _) => {}
+        }
+    }
+}
+
+impl Drop for UnitTree {
+    fn drop(self) {
+        let UnitTree {
+            name: _,
+            body: _,
+            face: _,
+        } = self;
+    }
+}
+
+impl Drop for Project {
+    fn drop(self) {
+        let Project { units: _ } = self;
+    }
 }

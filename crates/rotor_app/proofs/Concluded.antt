@@ -40,11 +40,11 @@ module _ (request : Option (List ℕ × List ℕ)) (f0 f1 s : ℕ) (c0 c1 : Opti
       let same : seen f1 s c1 t ≡ seen f0 s c0 t = ap (λ (f : ℕ). seen f s c1 t) ef ∙ ap (λ (c : Option FileMap). seen f0 s c t) ec in
       let to : IsReplyTo request (seen f0 s c0 t) reply = record { kind = kind; said = told c0 (λ files. Says request files reply) said; alone = by_itself; usage = usage } in
       carried_by to (subst (λ (m : Seen). Carried reply m now sink_same status) same h)
-      where
-    carried_by : IsReplyTo request (seen f0 s c0 t) reply → Carried reply (seen f0 s c0 t) now sink_same status → Ending request (seen f0 s c0 t) now tree_same sink_same status
-    carried_by to (whole s f w p) = carried alone reply to s f w p
-    carried_by to (write_failed s l f w p q) = unwritten reply to s l f w p q
-    carried_by to (put_failed s f w p) = unput alone reply to s f w p
+    where
+      carried_by : IsReplyTo request (seen f0 s c0 t) reply → Carried reply (seen f0 s c0 t) now sink_same status → Ending request (seen f0 s c0 t) now tree_same sink_same status
+      carried_by to (whole s f w p) = carried alone reply to s f w p
+      carried_by to (write_failed s l f w p q) = unwritten reply to s l f w p q
+      carried_by to (put_failed s f w p) = unput alone reply to s f w p
 
 -- over a folder that does not fail, there was no memory, or the reply is said, and where the output takes it the status is its
 pub completes_wanting : (request : Option (List ℕ × List ℕ)) (content : Option FileMap) (accepts : ℕ → Type 0) → (files : FileMap) → content ≡ Some files → IsComplete request files accepts Memory

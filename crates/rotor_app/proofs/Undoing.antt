@@ -188,8 +188,11 @@ module _ (files : FileMap) (source bytes : List ℕ) (request : List ℕ × List
       place = place_text source done.at;
       name = done.old;
       line = refl;
-      back = (undo_said, says_said (asked (rename_words (place_text source done.at) done.old)) (insert files source done.bytes),
-        (ap (λ (r : Reply). r.status) undo_reply, ap (λ (r : Reply). after r.writes (insert files source done.bytes)) undo_reply ∙ written_back files source bytes done.bytes plain.held));
+      back = (
+        undo_said,
+        says_said (asked (rename_words (place_text source done.at) done.old)) (insert files source done.bytes),
+        (ap (λ (r : Reply). r.status) undo_reply, ap (λ (r : Reply). after r.writes (insert files source done.bytes)) undo_reply ∙ written_back files source bytes done.bytes plain.held),
+      );
     };
   }
 

@@ -1,8 +1,10 @@
 //! The worked rows of shapes: sketches of shapes as they stand in a table, and the tests.
 #![tactic(auto)]
 
+#[cfg(test)]
 mod sketch;
 
+#[cfg(test)]
 pub use sketch::{Piece, Sketch, decl, entries, place, plain};
 
 #[cfg(test)]
