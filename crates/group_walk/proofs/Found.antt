@@ -1,12 +1,22 @@
--- The groups of modules and their items are those of their steps, in any scope.
-use Rattle.std.proofs.Common.{◌≡◌, ℕ, suc, ◌-◌, List, [], ◌∷◌, ◌++◌, refl, sym, ap, ◌∙◌, append-nil, append_assoc, map, Option, Some, None}
-use Rattle.ml_syntax.specs.Tree.{ModExpr, ModPath, Struct, Functor, ModApply, ModParen, Sealed, ModArgument, ModuleArgument, SealedArgument, NoArgument, ModArguments, no_mod_argument, more_mod_argument, FunctorParam, NamedParam, NoParam, FunctorParams, no_functor_param, more_functor_param, ModType, TypePath, Sig, TypeOf, TypeParen, With, FunctorType, ParamArrow, Arrow, MaybeType, no_type, some_type, Item, ExprItem, SeparatorItem, ValueItem, ExternalItem, TypeItem, ExceptionItem, ModuleItem, ModuleTypeItem, OpenItem, IncludeItem, Items, no_item, more_item, SigItem, SeparatorSig, ValSig, ExternalSig, TypeSig, ExceptionSig, ModuleSig, AliasSig, ModuleTypeSig, OpenSig, IncludeSig, SigItems, no_sig_item, more_sig_item, FileTree, Body, Face, UnitTree}
-use Rattle.shape_core.specs.Shape.{Shape, Struct as Structure, Entries, none, ◌⊕◌}
-use Rattle.binding_model.specs.Scopes.{applied, let_bound, let_scope, opens, sig_opens, mod_shape, params_in, param_in, adds, type_shape, sig_adds, after_unit}
-use Rattle.binding_model.specs.Steps.{Steps, quiet, ◌⨾◌, UseAlone, UseUnder, MatchOf, PinOf, TieOf, GroupOf, WeighedSite, OpenedSite, UnitStart, groups_of}
-use Rattle.binding_model.specs.Walk.{mod_steps, mod_argument_steps, mod_arguments_steps, functor_param_steps, functor_steps, type_steps, sealing_steps, item_steps, items_steps, sig_item_steps, sig_items_steps, file_steps, maybe_file_steps, unit_links, unit_steps, units_steps}
-use Rattle.group_walk.specs.Groups.{mod_groups, mod_argument_groups, mod_arguments_groups, functor_param_groups, functor_groups, type_groups, item_groups, items_groups, sig_item_groups, sig_items_groups, maybe_type_groups, file_groups, maybe_groups, unit_groups, units_groups}
-use Rattle.group_walk.proofs.AnyScope.{both, no_apply, expr_any, binding_any, bindings_any}
+-- The groups of trees are those of their steps, in any scope.
+use Rattle.std.proofs.Common.{◌≡◌, ℕ, suc, ◌-◌, List, [], ◌∷◌, ◌++◌, true, false, refl, sym, ap, ◌∙◌, append-nil, append_assoc, Option, Some, None}
+use Rattle.std.specs.Global.{Box}
+use Rattle.ml_syntax.specs.declared.expression.Branch.{Branch}
+use Rattle.ml_syntax.specs.declared.expression.Expr.{Expr as Expr_tree}
+use Rattle.ml_syntax.specs.Tok.{Name as Word}
+use Rattle.ml_syntax.specs.Places.{Site, punned, operated, operator_sites, name_sites, label_site}
+use Rattle.ml_syntax.specs.Tree.{ValueName, LocalModule, LocalPath, LocalArguments, no_local, more_local, no_module, Expr, Seq, Let, LetOpen, LetModule, Fun, Function, Match, Try, If, Chain, Minus, Apply, ConstrApply, TagApply, Assert, Lazy, Postfix, Prefixed, Literal, BoolExpr, Value, Constr, Tag, UnitExpr, Paren, Typed, Coerced, EmptyBegin, Begin, EmptyList, ListExpr, Record, Opened, While, For, Links, no_link, more_link, MaybeExpr, no_expr, some_expr, Tail, no_else, or_else, or_if, Binding, PlainBinding, AppliedBinding, Bindings, no_binding, more_binding, Case, CaseOf, Cases, no_case, more_case, Argument, Positional, LabelPun, Labelled, Arguments, no_argument, more_argument, Param, PatternParam, LabelParam, LabelPattern, DefaultParam, WrappedParam, WrappedDefault, TypesParam, Params, no_param, more_param, Part, LabelPart, IndexPart, CharPart, Parts, no_part, more_part, Field, FieldPun, AssignedField, Fields, no_field, more_field, ModExpr, ModPath, Struct, Functor, ModApply, ModParen, Sealed, ModArgument, ModuleArgument, SealedArgument, NoArgument, ModArguments, no_mod_argument, more_mod_argument, FunctorParam, NamedParam, NoParam, FunctorParams, no_functor_param, more_functor_param, ModType, TypePath, Sig, TypeOf, TypeParen, With, FunctorType, ParamArrow, Arrow, MaybeType, no_type, some_type, Item, ExprItem, SeparatorItem, ValueItem, ExternalItem, TypeItem, ExceptionItem, ModuleItem, ModuleTypeItem, OpenItem, IncludeItem, Items, no_item, more_item, SigItem, SeparatorSig, ValSig, ExternalSig, TypeSig, ExceptionSig, ModuleSig, AliasSig, ModuleTypeSig, OpenSig, IncludeSig, SigItems, no_sig_item, more_sig_item, FileTree, Body, Face, UnitTree}
+use Rattle.ml_syntax.specs.View.{view, maybe, otherwise, tail, links, commas}
+use Rattle.shape_core.specs.Shape.{Shape, Struct as Structure, Functor as FunctorShape, Unitary, Opaque, Entries, none, a_mod, ◌⊕◌, brought}
+use Rattle.binding_model.specs.Variables.{variables, param_variables, for_variables}
+use Rattle.binding_model.specs.Scopes.{path_shape, applied, local_shape, here, bound, let_bound, let_scope, params_bound, opens, sig_opens, mod_shape, params_in, param_in, adds, type_shape, sig_adds, after_unit}
+use Rattle.binding_model.specs.Steps.{Steps, groups_of}
+use Rattle.binding_model.specs.Walk.{path_start, pat_steps, apply_steps, local_steps, locals_steps, uses, uses_under, value_steps, expr_steps, links_steps, maybe_steps, tail_steps, binding_steps, bindings_steps, case_steps, cases_steps, argument_steps, arguments_steps, param_steps, params_steps, part_steps, parts_steps, field_steps, fields_steps, mod_steps, mod_argument_steps, mod_arguments_steps, functor_param_steps, functor_steps, type_steps, sealing_steps, item_steps, items_steps, sig_item_steps, sig_items_steps, file_steps, maybe_file_steps, unit_links, unit_steps, units_steps}
+use Rattle.group_walk.specs.Groups.{expr_groups, links_groups, optional_groups, tail_groups, binding_groups, bindings_groups, case_groups, cases_groups, argument_groups, arguments_groups, param_groups, params_groups, part_groups, parts_groups, field_groups, fields_groups, mod_groups, mod_argument_groups, mod_arguments_groups, functor_param_groups, functor_groups, type_groups, item_groups, items_groups, sig_item_groups, sig_items_groups, maybe_type_groups, branches_groups, file_groups, maybe_groups, unit_groups, units_groups}
+
+-- two parts of some steps
+both : {A : Type 0} {a a' b b' : List A} → a ≡ a' → b ≡ b' → a ++ b ≡ a' ++ b'
+both {A} {a} {a'} {b} {b'} h k = ap (λ s. s ++ b) h ∙ ap (λ s. a' ++ s) k
 
 -- parts of which one has no group
 last : {A : Type 0} {a a' : List A} → a ≡ a' → a ++ [] ≡ a'
@@ -18,7 +28,139 @@ ends {A} {a} {a'} {b} h k = ap (λ s. a ++ s) k ∙ last h
 none_then : {A : Type 0} {a b b' : List A} → a ≡ [] → b ≡ b' → a ++ b ≡ b'
 none_then {A} {a} {b} {b'} h k = ap (λ s. s ++ b) h ∙ k
 
+no_uses : (xs : List Site) (file : ℕ) (sc : Entries) → groups_of (uses file sc xs) ≡ []
+no_uses [] file sc = refl
+no_uses (x ∷ xs) file sc = no_uses xs file sc
+
+no_uses_under : (xs : List Site) (file : ℕ) (s : Shape) → groups_of (uses_under file s xs) ≡ []
+no_uses_under [] file s = refl
+no_uses_under (x ∷ xs) file s = no_uses_under xs file s
+
+no_value : (file : ℕ) (path : List Word) (x : ValueName) (sc : Entries) → groups_of (value_steps file sc path x) ≡ []
+no_value file [] x sc = no_uses (name_sites [] false x) file sc
+no_value file (X ∷ path) x sc = no_uses_under (name_sites [] false x) file (path_shape sc (X ∷ path))
+
+no_apply : (f a : Shape) → groups_of (apply_steps f a) ≡ []
+no_apply (Structure es) a = refl
+no_apply (FunctorShape p r) a = refl
+no_apply (Unitary r) a = refl
+no_apply Opaque a = refl
+
+mutual
+  no_local_groups : (m : LocalModule) (sc : Entries) → groups_of (local_steps sc m) ≡ []
+  no_local_groups (LocalPath path ms) sc = no_locals ms sc (path_shape sc path)
+
+  no_locals : (ms : LocalArguments) (sc : Entries) (f : Shape) → groups_of (locals_steps sc f ms) ≡ []
+  no_locals no_local sc f = refl
+  no_locals (more_local at m ms) sc f = none_then (no_local_groups m sc) (none_then (no_apply f (local_shape sc m)) (no_locals ms sc (applied f)))
+  no_locals (no_module at ms) sc f = none_then (no_apply f (Structure none)) (no_locals ms sc (applied f))
+
 module _ (file : ℕ) where
+  mutual
+    pub expr_found : (x : Expr) (sc : Entries) → groups_of (expr_steps file sc x) ≡ expr_groups file x
+    expr_found (Seq e es last) sc = both (expr_found e sc) (links_found es sc)
+    expr_found (Let at rec b bs e) sc = ap (λ l. let_bound file b bs ∷ l) (both (binding_found b (let_scope file rec sc b bs)) (both (bindings_found bs (let_scope file rec sc b bs)) (expr_found e (sc ⊕ let_bound file b bs))))
+    expr_found (LetOpen at at' bang path e) sc = expr_found e (sc ⊕ brought (path_shape sc path) (here file at'))
+    expr_found (LetModule at at' x eq m e) sc = none_then (no_local_groups m sc) (expr_found e (sc ⊕ a_mod x.text (local_shape sc m) none))
+    expr_found (Fun at ps e) sc = both (params_found ps sc) (expr_found e (sc ⊕ params_bound file ps))
+    expr_found (Function at bar c cs) sc = both (case_found c sc) (cases_found cs sc)
+    expr_found (Match at e bar c cs) sc = both (expr_found e sc) (both (case_found c sc) (cases_found cs sc))
+    expr_found (Try at e bar c cs) sc = both (expr_found e sc) (both (case_found c sc) (cases_found cs sc))
+    expr_found (If at c a tail) sc = both (expr_found c sc) (both (expr_found a sc) (tail_found tail sc))
+    expr_found (Chain n e es) sc = both (expr_found e sc) (links_found es sc)
+    expr_found (Minus x e) sc = none_then (no_uses (operated false x.at (126 ∷ x.text) ∷ []) file sc) (expr_found e sc)
+    expr_found (Apply f es) sc = both (expr_found f sc) (arguments_found es sc)
+    expr_found (ConstrApply path e) sc = expr_found e sc
+    expr_found (TagApply x e) sc = expr_found e sc
+    expr_found (Assert at e) sc = expr_found e sc
+    expr_found (Lazy at e) sc = expr_found e sc
+    expr_found (Postfix e ps) sc = both (expr_found e sc) (parts_found ps sc)
+    expr_found (Prefixed x e) sc = none_then (no_uses (operated false x.at x.text ∷ []) file sc) (expr_found e sc)
+    expr_found (Literal c x) sc = refl
+    expr_found (BoolExpr at b) sc = refl
+    expr_found (Value path x) sc = no_value file path x sc
+    expr_found (Constr path) sc = refl
+    expr_found (Tag x) sc = refl
+    expr_found (UnitExpr at) sc = refl
+    expr_found (Paren at e) sc = expr_found e sc
+    expr_found (Typed at e run) sc = expr_found e sc
+    expr_found (Coerced at e from to) sc = expr_found e sc
+    expr_found (EmptyBegin at) sc = refl
+    expr_found (Begin at e) sc = expr_found e sc
+    expr_found (EmptyList at b) sc = refl
+    expr_found (ListExpr at b e es last) sc = both (expr_found e sc) (links_found es sc)
+    expr_found (Record at base f fs last) sc = both (optional_found base sc) (both (field_found f sc) (fields_found fs sc))
+    expr_found (Opened path e) sc = expr_found e (sc ⊕ brought (path_shape sc path) (here file (path_start path)))
+    expr_found (While at c e) sc = both (expr_found c sc) (expr_found e sc)
+    expr_found (For at x eq a down b e) sc = both (expr_found a sc) (both (expr_found b sc) (ap (λ l. bound file (for_variables x) ∷ l) (expr_found e (sc ⊕ bound file (for_variables x)))))
+
+    pub links_found : (x : Links) (sc : Entries) → groups_of (links_steps file sc x) ≡ links_groups file x
+    links_found no_link sc = refl
+    links_found (more_link t e es) sc = none_then (no_uses (operator_sites [] false t) file sc) (both (expr_found e sc) (links_found es sc))
+
+    pub optional_found : (x : MaybeExpr) (sc : Entries) → groups_of (maybe_steps file sc x) ≡ optional_groups file x
+    optional_found no_expr sc = refl
+    optional_found (some_expr e) sc = expr_found e sc
+
+    pub tail_found : (x : Tail) (sc : Entries) → groups_of (tail_steps file sc x) ≡ tail_groups file x
+    tail_found no_else sc = refl
+    tail_found (or_else e) sc = expr_found e sc
+    tail_found (or_if at c a tail) sc = both (expr_found c sc) (both (expr_found a sc) (tail_found tail sc))
+
+    pub binding_found : (x : Binding) (sc : Entries) → groups_of (binding_steps file sc x) ≡ binding_groups file x
+    binding_found (PlainBinding p run at e) sc = ap (λ l. groups_of (pat_steps file p) ++ l) (expr_found e sc)
+    binding_found (AppliedBinding x ps run at e) sc = both (params_found ps sc) (expr_found e (sc ⊕ params_bound file ps))
+
+    pub bindings_found : (x : Bindings) (sc : Entries) → groups_of (bindings_steps file sc x) ≡ bindings_groups file x
+    bindings_found no_binding sc = refl
+    bindings_found (more_binding b bs) sc = both (binding_found b sc) (bindings_found bs sc)
+
+    pub case_found : (x : Case) (sc : Entries) → groups_of (case_steps file sc x) ≡ case_groups file x
+    case_found (CaseOf p guard e) sc = ap (λ l. groups_of (pat_steps file p) ++ l) (ap (λ l. bound file (variables p) ∷ l) (both (optional_found guard (sc ⊕ bound file (variables p))) (expr_found e (sc ⊕ bound file (variables p)))))
+
+    pub cases_found : (x : Cases) (sc : Entries) → groups_of (cases_steps file sc x) ≡ cases_groups file x
+    cases_found no_case sc = refl
+    cases_found (more_case c cs) sc = both (case_found c sc) (cases_found cs sc)
+
+    pub argument_found : (x : Argument) (sc : Entries) → groups_of (argument_steps file sc x) ≡ argument_groups file x
+    argument_found (Positional e) sc = expr_found e sc
+    argument_found (LabelPun x) sc = no_uses (label_site false x ∷ []) file sc
+    argument_found (Labelled x e) sc = expr_found e sc
+
+    pub arguments_found : (x : Arguments) (sc : Entries) → groups_of (arguments_steps file sc x) ≡ arguments_groups file x
+    arguments_found no_argument sc = refl
+    arguments_found (more_argument a es) sc = both (argument_found a sc) (arguments_found es sc)
+
+    pub param_found : (x : Param) (sc : Entries) → groups_of (param_steps file sc x) ≡ param_groups file x
+    param_found (PatternParam p) sc = refl
+    param_found (LabelParam x) sc = refl
+    param_found (LabelPattern x p) sc = refl
+    param_found (DefaultParam x at p run eq e) sc = ap (λ l. groups_of (pat_steps file p) ++ l) (ap (λ l. l ++ (bound file (variables p) ∷ [])) (expr_found e sc))
+    param_found (WrappedParam at optional at' x run) sc = refl
+    param_found (WrappedDefault at at' x run eq e) sc = ap (λ l. l ++ (bound file (punned true x.at x.text ∷ []) ∷ [])) (expr_found e sc)
+    param_found (TypesParam at xs) sc = refl
+
+    pub params_found : (x : Params) (sc : Entries) → groups_of (params_steps file sc x) ≡ params_groups file x
+    params_found no_param sc = refl
+    params_found (more_param p ps) sc = both (param_found p sc) (params_found ps (sc ⊕ bound file (param_variables p)))
+
+    pub part_found : (x : Part) (sc : Entries) → groups_of (part_steps file sc x) ≡ part_groups file x
+    part_found (LabelPart path x) sc = refl
+    part_found (IndexPart at e) sc = expr_found e sc
+    part_found (CharPart at e) sc = expr_found e sc
+
+    pub parts_found : (x : Parts) (sc : Entries) → groups_of (parts_steps file sc x) ≡ parts_groups file x
+    parts_found no_part sc = refl
+    parts_found (more_part p ps) sc = both (part_found p sc) (parts_found ps sc)
+
+    pub field_found : (x : Field) (sc : Entries) → groups_of (field_steps file sc x) ≡ field_groups file x
+    field_found (FieldPun path x run) sc = no_uses (punned false x.at x.text ∷ []) file sc
+    field_found (AssignedField path x run at e) sc = expr_found e sc
+
+    pub fields_found : (x : Fields) (sc : Entries) → groups_of (fields_steps file sc x) ≡ fields_groups file x
+    fields_found no_field sc = refl
+    fields_found (more_field f fs) sc = both (field_found f sc) (fields_found fs sc)
+
   mutual
     pub mod_found : (x : ModExpr) (sc : Entries) → groups_of (mod_steps file sc x) ≡ mod_groups file x
     mod_found (ModPath path) sc = refl
@@ -56,9 +198,9 @@ module _ (file : ℕ) where
     type_found (Arrow s t) sc = both (type_found s sc) (type_found t sc)
 
     pub item_found : (x : Item) (sc : Entries) → groups_of (item_steps file sc x) ≡ item_groups file x
-    item_found (ExprItem e) sc = expr_any file e sc none
+    item_found (ExprItem e) sc = expr_found e sc
     item_found SeparatorItem sc = refl
-    item_found (ValueItem at rec b bs) sc = ap (λ l. let_bound file b bs ∷ l) (both (binding_any file b (let_scope file rec sc b bs) (let_scope file rec none b bs)) (bindings_any file bs (let_scope file rec sc b bs) (let_scope file rec none b bs)))
+    item_found (ValueItem at rec b bs) sc = ap (λ l. let_bound file b bs ∷ l) (both (binding_found b (let_scope file rec sc b bs)) (bindings_found bs (let_scope file rec sc b bs)))
     item_found (ExternalItem x run at ts) sc = refl
     item_found (TypeItem run) sc = refl
     item_found (ExceptionItem at run) sc = refl
@@ -90,6 +232,26 @@ module _ (file : ℕ) where
     sealed_found : (x : MaybeType) (sc : Entries) (b : Steps) (s : Shape) (gs : List Entries) → groups_of b ≡ gs → groups_of (sealing_steps file sc x b s) ≡ maybe_type_groups file x ++ gs
     sealed_found no_type sc b s gs h = h
     sealed_found (some_type t) sc b s gs h = both (type_found t sc) (last h)
+
+-- expressions between commas, and an `if` branch by branch
+pub commas_same : (file : ℕ) (es : List Expr_tree) → links_groups file (commas es) ≡ links_groups file (links es)
+commas_same file [] = refl
+commas_same file (e ∷ es) = ap (λ l. expr_groups file (view e) ++ l) (commas_same file es)
+
+other_same : (file : ℕ) (o : Option (Box Expr_tree)) → tail_groups file (otherwise o) ≡ optional_groups file (maybe o)
+other_same file None = refl
+other_same file (Some e) = refl
+
+pub tail_same : (file : ℕ) (bs : List Branch) (o : Option (Box Expr_tree)) → tail_groups file (tail bs o) ≡ branches_groups file bs ++ optional_groups file (maybe o)
+tail_same file [] o = other_same file o
+tail_same file (b ∷ bs) o =
+    let t = expr_groups file (view b.test) in
+    let a = expr_groups file (view b.then) in
+    ap (λ l. t ++ (a ++ l)) (tail_same file bs o) ∙ ap (λ l. t ++ l) (sym (append_assoc a (branches_groups file bs) (optional_groups file (maybe o))))
+    ∙ sym (append_assoc t (a ++ branches_groups file bs) (optional_groups file (maybe o)))
+    ∙ ap (λ l. l ++ optional_groups file (maybe o)) (sym (append_assoc t a (branches_groups file bs)))
+
+pub ruleset rows_same = (commas_same, tail_same)
 
 file_found : (t : FileTree) (sc : Entries) → groups_of (file_steps sc t) ≡ file_groups t
 file_found (Body file is) sc = items_found file is sc

@@ -1,9 +1,8 @@
 -- The groups that are in hand after some steps.
-use Rattle.std.proofs.Common.{◌≡◌, ℕ, List, [], ◌∷◌, ◌++◌, Bool, true, false, if◌then◌else◌, map, refl, sym, ap, ◌∙◌, append-nil, append_assoc, nat_le, nat_lt, ◌+◌}
+use Rattle.std.proofs.Common.{◌≡◌, ℕ, List, [], ◌∷◌, ◌++◌, Bool, true, false, if◌then◌else◌, map, refl, sym, ap, ◌∙◌, append-nil, append_assoc, nat_le, nat_lt, ◌+◌, Result, Ok, Err}
+use Rattle.std.specs.Prelude.{OnOk}
 use Rattle.rotor_base.specs.declared.place.Place.{Place}
-use Rattle.shape_core.specs.declared.shared.SharedEntry.{SharedEntry}
-use Rattle.shape_core.specs.Shape.{Entries, none, weight}
-use Rattle.shape_core.specs.Node.{entries_of}
+use Rattle.shape_core.specs.Shape.{Entries, weight}
 use Rattle.shape_core.specs.Links.{link}
 use Rattle.binding_model.specs.declared.found.Sums.{Sums}
 use Rattle.binding_model.specs.declared.found.Found.{Found}
@@ -73,12 +72,6 @@ groups_taken ss n m h = by (taken (Going n) ss) h (grew ss n)
             got (HeavyAt at) = []
     by (HeavyAt at) e g = absurd cc
 
--- the same from an empty scope, where the sums were forgotten
-pub grown_from_nothing : (A : Entries → Steps) (o n m : Found) (s : List SharedEntry) → s ≡ [] → n.groups ≡ o.groups → taken (Going n) (A (entries_of s)) ≡ Going m
-    → m.groups ≡ o.groups ++ map decls (groups_of (A none))
-grown_from_nothing A o n m s h e k =
-    groups_taken (A (entries_of s)) n m k ∙ ap (λ g. g ++ map decls (groups_of (A (entries_of s)))) e ∙ ap (λ l. o.groups ++ map decls (groups_of (A (entries_of l)))) h
-
 pub joined_groups : (a b : List Entries) (g : List (List Place)) → (g ++ map decls a) ++ map decls b ≡ g ++ map decls (a ++ b)
 joined_groups a b g = append_assoc g (map decls a) (map decls b) ∙ ap (λ x. g ++ x) (map-both decls a b)
 
@@ -89,3 +82,19 @@ pub parts_grown : (a b c : List Entries) → (a ++ b) ++ c ≡ a ++ (b ++ c)
 parts_grown = append_assoc
 
 pub ruleset groups_grown = (joined_groups, none_grown, parts_grown)
+
+-- three and four parts, one after another
+pub three_grown : (g0 g1 g2 g3 : List (List Place)) (a b c : List Entries) → g1 ≡ g0 ++ map decls a → g2 ≡ g1 ++ map decls b → g3 ≡ g2 ++ map decls c
+    → g3 ≡ g0 ++ map decls (a ++ (b ++ c))
+three_grown g0 g1 g2 g3 a b c h i j =
+    j ∙ ap (λ g. g ++ map decls c) i ∙ joined_groups b c g1 ∙ ap (λ g. g ++ map decls (b ++ c)) h ∙ joined_groups a (b ++ c) g0
+
+pub four_grown : (g0 g1 g2 g3 g4 : List (List Place)) (a b c d : List Entries) → g1 ≡ g0 ++ map decls a → g2 ≡ g1 ++ map decls b → g3 ≡ g2 ++ map decls c → g4 ≡ g3 ++ map decls d
+    → g4 ≡ g0 ++ map decls (a ++ (b ++ (c ++ d)))
+four_grown g0 g1 g2 g3 g4 a b c d h i j k =
+    three_grown g1 g2 g3 g4 b c d i j k ∙ ap (λ g. g ++ map decls (b ++ (c ++ d))) h ∙ joined_groups a (b ++ (c ++ d)) g0
+
+-- a fact of an answer that is a value
+pub on_ok : {A E : Type 0} (r : Result A E) (P Q : Type 0) → (P → Q) → OnOk r P → OnOk r Q
+on_ok (Ok x) P Q f h = f h
+on_ok (Err e) P Q f h = h

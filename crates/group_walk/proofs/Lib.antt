@@ -1,3 +1,2 @@
-pub mod AnyScope
 pub mod Found
 pub mod Grown

@@ -1,6 +1,7 @@
-//! The groups of modules and their items, found without resolving them.
+//! The groups of expressions, modules and units, found without resolving them.
 #![tactic(auto)]
 
+mod expressions;
 mod leaves;
 mod walk;
 

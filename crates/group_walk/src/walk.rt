@@ -8,7 +8,8 @@ ghost use Rattle.ml_syntax.specs.View.{view_mod, view_mod_type, view_mod_argumen
 ghost use Rattle.binding_model.specs.Facts.{decls};
 ghost use Rattle.group_walk.specs.Groups.{mod_groups, mod_argument_groups, mod_arguments_groups, functor_param_groups, functor_groups, type_groups, item_groups, items_groups, sig_item_groups, sig_items_groups, maybe_type_groups, file_groups, maybe_groups, unit_groups, units_groups};
 
-use crate::leaves::{expression_groups, value_groups};
+use crate::expressions::{binding, expression, more_bindings};
+use crate::leaves::let_variables;
 use binding_model::Found;
 use ml_syntax::{FileTree, FunctorParam, Item, ModArgument, ModExpr, ModType, SigItem, UnitTree};
 use rotor_base::Memory;
@@ -169,14 +170,13 @@ fn item(alloc: Global, found: &mut Found, file: u32, part: &Item) -> Result<(), 
     ensures { OnOk result (found.new.groups ≡ found.old.groups ++ map decls (item_groups file (view_item part.now))) }
 {
     match part {
-        Item::Expression(e) => expression_groups(alloc, found, file, e),
+        Item::Expression(e) => expression(alloc, found, file, e),
         Item::Separator => Ok(()),
-        Item::Value {
-            recursive,
-            first,
-            rest,
-            ..
-        } => value_groups(alloc, found, file, *recursive, first, rest),
+        Item::Value { first, rest, .. } => {
+            let_variables(alloc, found, file, first, rest)?;
+            binding(alloc, found, file, first)?;
+            more_bindings(alloc, found, file, rest)
+        }
         Item::External(_) => Ok(()),
         Item::Type(_) => Ok(()),
         Item::Exception { .. } => Ok(()),
