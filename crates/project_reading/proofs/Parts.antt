@@ -27,7 +27,7 @@ none_right : (a b : Bool) → (a || b) ≡ false → b ≡ false
 none_right false b h = h
 none_right true b h = cc
 
-itself : (n : List ℕ) → bytes_eq n n ≡ true
+pub itself : (n : List ℕ) → bytes_eq n n ≡ true
 itself n = (bytes_eq-Decides n n).1 refl
 
 -- ---- a further source

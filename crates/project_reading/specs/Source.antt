@@ -1,5 +1,5 @@
 -- What one source is read as, and why it is not (the OCaml manual, "Lexical conventions" and "Compilation units").
-use Rattle.std.specs.Prelude.{◌≡◌, ℕ, List, Option, Some, None, if◌then◌else◌, map}
+use Rattle.std.specs.Prelude.{◌≡◌, ◌⊎◌, ℕ, List, Option, Some, None, if◌then◌else◌, map}
 use Rattle.rotor_base.specs.Stem.{is_body_name}
 use Rattle.rotor_base.specs.declared.place.Place.{Place}
 use Rattle.rotor_base.specs.declared.refusal.Refusal.{Refusal}
@@ -65,3 +65,7 @@ pub data IsUnread (number : ℕ) (source : SourceFile) : Refusal → Type 0 wher
   -- there is none of either, and no tree of its kind has its words
   syntax : (xs : List Lexeme) → IsPlain source.bytes xs → HasNoTree (kind_of_source source.name) number (lexeme_toks 1 xs)
       → IsUnread number source (refusal.Syntax number)
+
+-- a source is refused so: rightly, or for want of memory
+abbrev pub IsSourceRefused : ℕ → SourceFile → Refusal → Type 0
+IsSourceRefused number source why = IsUnread number source why ⊎ (why ≡ refusal.Memory)

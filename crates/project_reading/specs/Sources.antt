@@ -1,6 +1,7 @@
 -- What the sources of a project are read as, one after another, each with its number.
-use Rattle.std.specs.Prelude.{◌⊎◌, ℕ, suc, List, [], ◌∷◌}
+use Rattle.std.specs.Prelude.{◌≡◌, ◌⊎◌, ℕ, suc, List, [], ◌∷◌}
 use Rattle.rotor_base.specs.declared.refusal.Refusal.{Refusal}
+use Rattle.rotor_base.specs.declared.refusal.Refusal.TheVariants as refusal
 use Rattle.rotor_base.specs.declared.source.SourceFile.{SourceFile}
 use Rattle.ml_lexer.specs.Lexed.{Lexeme, Lexed}
 use Rattle.ml_syntax.specs.Tree.{FileTree}
@@ -25,3 +26,7 @@ AreCut [] [] = Unit {0}
 AreCut [] (xs ∷ lists) = ⊥
 AreCut (source ∷ sources) [] = ⊥
 AreCut (source ∷ sources) (xs ∷ lists) = Lexed source.bytes xs × AreCut sources lists
+
+-- sources, numbered from 0, are refused so: rightly, or for want of memory
+abbrev pub AreSourcesRefused : List SourceFile → Refusal → Type 0
+AreSourcesRefused sources why = FirstUnread 0 sources why ⊎ (why ≡ refusal.Memory)

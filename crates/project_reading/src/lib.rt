@@ -2,6 +2,9 @@
 //! as the units of a project, in the order of linking.
 #![tactic(auto)]
 
+mod order;
 mod project;
+mod sources;
+mod units;
 
 pub use project::{Read, read_project};

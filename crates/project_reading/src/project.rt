@@ -7,6 +7,9 @@ ghost use Rattle.ml_syntax.specs.View.{view_project};
 ghost use Rattle.project_reading.specs.Reads.{IsRefused, Reads};
 ghost use Rattle.project_reading.specs.Sources.{AreCut};
 
+use crate::order::{link_order, units_at};
+use crate::sources::read_sources;
+use crate::units::gathered;
 use ml_syntax::Project;
 use rotor_base::{Files, Refusal, Token};
 use std::alloc::Global;
@@ -34,7 +37,19 @@ pub fn read_project<'a>(alloc: Global, files: &'a Files) -> Result<Read<'a>, Ref
     ensures tokens { IfOk result (λ read. AreCut files.now.entries (map (λ list. view_tokens list.items) read.tokens.items)) }
     ensures refused { IfErr result (IsRefused files.now) }
 {
-    let _ = alloc;
-    let _ = files;
-    Err(Refusal::Memory)
+    let sources = files.entries();
+    let (trees, tokens) = match read_sources(alloc, sources) {
+        Ok(read) => read,
+        Err(why) => return Err(why),
+    };
+    let units = gathered(alloc, sources, trees)?;
+    let positions = match link_order(alloc, &units, files.manifest()) {
+        Ok(positions) => positions,
+        Err(why) => return Err(why),
+    };
+    let units = units_at(alloc, units, &positions)?;
+    Ok(Read {
+        project: Project { units },
+        tokens,
+    })
 }
