@@ -6,3 +6,8 @@ pub mod Putting
 pub mod Gathering
 pub mod Reading
 pub mod TakingOut
+pub mod Ordered
+pub mod Linked
+pub mod Soundness
+pub mod Made
+pub mod OneReading

@@ -19,11 +19,11 @@ use Rattle.project_reading.specs.Units.{unit_names, part_of, unit_from, units_of
 use Rattle.project_reading.specs.Gathered.{with_part, empty_unit, put_part}
 use Rattle.project_reading.proofs.Names.{IsBelow, same_name, below_too, apart_before, apart_behind, other_behind, not_among, among_insert, sorted_names}
 
-none_left : (a b : Bool) → (a || b) ≡ false → a ≡ false
+pub none_left : (a b : Bool) → (a || b) ≡ false → a ≡ false
 none_left false b h = refl
 none_left true b h = h
 
-none_right : (a b : Bool) → (a || b) ≡ false → b ≡ false
+pub none_right : (a b : Bool) → (a || b) ≡ false → b ≡ false
 none_right false b h = h
 none_right true b h = cc
 
