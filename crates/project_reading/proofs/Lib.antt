@@ -11,3 +11,4 @@ pub mod Linked
 pub mod Soundness
 pub mod Made
 pub mod OneReading
+pub mod Twins

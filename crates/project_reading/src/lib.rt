@@ -2,9 +2,11 @@
 //! as the units of a project, in the order of linking.
 #![tactic(auto)]
 
+mod laws;
 mod order;
 mod project;
 mod sources;
 mod units;
 
+pub use laws::{one_reading, read_is_sound, trees_are_parts};
 pub use project::{Read, read_project};
