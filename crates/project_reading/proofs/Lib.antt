@@ -12,3 +12,6 @@ pub mod Soundness
 pub mod Made
 pub mod OneReading
 pub mod Twins
+pub mod HeadsKept
+pub mod OrderKept
+pub mod ReadingKept
