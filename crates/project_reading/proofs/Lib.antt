@@ -15,3 +15,4 @@ pub mod Twins
 pub mod HeadsKept
 pub mod OrderKept
 pub mod ReadingKept
+mod Rows
