@@ -1,8 +1,7 @@
 -- The units of the sources of a project, their order, and the positions in it.
-use Rattle.std.proofs.Common.{◌≡◌, ℕ, zero, suc, ◌<◌, ◌≤◌, ◌≢◌, List, [], ◌∷◌, All, Bool, true, false, ◌||◌, cond, Option, Some, None, map, length, get_or, refl, ap, sym, subst, ◌∙◌, arith}
+use Rattle.std.proofs.Common.{◌≡◌, ℕ, zero, suc, ◌<◌, ◌≤◌, List, [], ◌∷◌, All, true, false, ◌||◌, cond, None, map, length, refl, ap, sym, subst, ◌∙◌, arith}
 use Rattle.std.specs.List.{list_any}
 use Rattle.std.specs.List.Sorted.{IsStrictlySortedBy}
-use Rattle.std.specs.Option.{option_or}
 use Rattle.std.specs.Ordering.{nat_cmp}
 use Rattle.std.specs.Cmp.Lexicographic.{slice_cmp}
 use Rattle.std.specs.Str.{bytes_eq}
@@ -13,7 +12,7 @@ use Rattle.std.proofs.lemmas.List.Elements.{All-head, All-tail}
 use Rattle.rotor_base.specs.Files as files
 use Rattle.rotor_base.specs.Files.{FileSet, IsProject, bad_manifest}
 use Rattle.rotor_base.specs.declared.source.SourceFile.{SourceFile}
-use Rattle.rotor_base.specs.declared.refusal.LoadError.{LoadError}
+use Rattle.rotor_base.proofs.Kept.{neither}
 use Rattle.rotor_base.specs.Unit.{unit_of}
 use Rattle.ml_syntax.specs.declared.module.UnitTree as trees
 use Rattle.ml_syntax.specs.Sound.{AreDistinct}
@@ -21,7 +20,7 @@ use Rattle.ml_syntax.specs.Tree.{FileTree, UnitTree}
 use Rattle.ml_syntax.specs.View.{view_unit}
 use Rattle.unit_order.specs.Heads.{is_among}
 use Rattle.unit_order.specs.Order.{order_of, takes_all, IsListed}
-use Rattle.unit_order.specs.Positions.{blank, unit_at, names_at, views}
+use Rattle.unit_order.specs.Positions.{unit_at, names_at, views}
 use Rattle.unit_order.proofs.Taken.{AreApart, sorted_apart}
 use Rattle.project_reading.specs.Units.{unit_names, unit_from, units_of, unit_named, in_order}
 use Rattle.project_reading.proofs.Names.{sorted_names, among_names, few_names}
@@ -41,7 +40,8 @@ names_seen : (us : List trees.UnitTree) → map (λ u. u.name) us ≡ names (vie
 names_seen [] = refl
 names_seen (u ∷ us) = ap (λ xs. u.name ∷ xs) (names_seen us)
 
-pub sorted_units : (us : List trees.UnitTree) (ss : List SourceFile) (ts : List FileTree) → views us ≡ units_of ss ts → IsStrictlySortedBy (slice_cmp nat_cmp) (map (λ u. u.name) us)
+pub sorted_units : (us : List trees.UnitTree) (ss : List SourceFile) (ts : List FileTree) → views us ≡ units_of ss ts
+    → IsStrictlySortedBy (slice_cmp nat_cmp) (map (λ u. u.name) us)
 sorted_units us ss ts e =
     let same : map (λ u. u.name) us ≡ unit_names ss = names_seen us ∙ ap names e ∙ names_are ss ts in
     subst (IsStrictlySortedBy (slice_cmp nat_cmp)) (sym same) (sorted_names ss)
@@ -56,29 +56,18 @@ units_apart ss ts = sorted_apart (units_of ss ts) (subst (IsStrictlySortedBy (sl
 
 -- ---- the manifest
 
-no_first : (a b : Option LoadError) → option_or a b ≡ None → a ≡ None
-no_first None b h = refl
-no_first (Some x) b h = h
-
-no_second : (a b : Option LoadError) → option_or a b ≡ None → b ≡ None
-no_second None b h = h
-no_second (Some x) b h = cc
-
-pub good_manifest : (fs : FileSet) → IsProject fs → bad_manifest (files.units_of fs.entries) fs.manifest ≡ None
-good_manifest fs h =
+-- the last two reasons not to take the files of a project do not stand
+last_reasons : (fs : FileSet) → IsProject fs
+    → (files.double_unit (files.units_of fs.entries) ≡ None) × (bad_manifest (files.units_of fs.entries) fs.manifest ≡ None)
+last_reasons fs h =
     let units = files.units_of fs.entries in
-    let after_count = no_second (files.too_many fs.entries) _ h.taken in
-    let after_size = no_second (files.too_large fs.entries) _ after_count in
-    let after_manifest = no_second (files.long_manifest fs.manifest) _ after_size in
-    no_second (files.double_unit units) (bad_manifest units fs.manifest) after_manifest
+    let after_count = (neither (files.too_many fs.entries) _ h.taken).1 in
+    let after_size = (neither (files.too_large fs.entries) _ after_count).1 in
+    let after_manifest = (neither (files.long_manifest fs.manifest) _ after_size).1 in
+    neither (files.double_unit units) (bad_manifest units fs.manifest) after_manifest
 
 pub no_double : (fs : FileSet) → IsProject fs → files.double_unit (files.units_of fs.entries) ≡ None
-no_double fs h =
-    let units = files.units_of fs.entries in
-    let after_count = no_second (files.too_many fs.entries) _ h.taken in
-    let after_size = no_second (files.too_large fs.entries) _ after_count in
-    let after_manifest = no_second (files.long_manifest fs.manifest) _ after_size in
-    no_first (files.double_unit units) (bad_manifest units fs.manifest) after_manifest
+no_double fs h = (last_reasons fs h).0
 
 given_names : (ss : List SourceFile) (x : List ℕ) → list_any (is_named x) (files.units_of ss) ≡ list_any (λ s. bytes_eq (unit_of s.name) x) ss
 given_names [] x = refl
@@ -88,10 +77,11 @@ pub units_listed : (fs : FileSet) (ts : List FileTree) → IsProject fs → IsLi
 units_listed fs ts h =
     listed_alike (files.units_of fs.entries) (units_of fs.entries ts) fs.manifest
     (λ x. given_names fs.entries x ∙ sym (among_names fs.entries x) ∙ ap (λ ns. is_among ns x) (sym (names_are fs.entries ts)))
-    (good_manifest fs h)
+    (last_reasons fs h).1
 
 -- the order has the names of the units, each once
-pub order_of_units : (fs : FileSet) (ts : List FileTree) → IsProject fs → (fs.manifest ≡ None → takes_all (units_of fs.entries ts) ≡ true) → IsOrder (units_of fs.entries ts) (order_of (units_of fs.entries ts) fs.manifest)
+pub order_of_units : (fs : FileSet) (ts : List FileTree) → IsProject fs → (fs.manifest ≡ None → takes_all (units_of fs.entries ts) ≡ true)
+    → IsOrder (units_of fs.entries ts) (order_of (units_of fs.entries ts) fs.manifest)
 order_of_units fs ts h all = order_is (units_of fs.entries ts) fs.manifest (units_apart fs.entries ts) (units_listed fs ts h) all
 
 -- ---- positions
@@ -104,7 +94,7 @@ named_at [] k apart lt = absurd (omega (arith, lt))
 named_at (u ∷ us) zero apart lt = ap (λ b. cond b u (unit_named us u.name)) (itself u.name)
 named_at (u ∷ us) (suc k) apart lt =
     let other : bytes_eq u.name (unit_at us k).name ≡ false =
-        false_from_ne_true _ (λ e. apart 0 (suc k) (omega arith) lt (λ z. omega (arith, z)) ((bytes_eq-Decides u.name (unit_at us k).name).0 e))
+    false_from_ne_true _ (λ e. apart 0 (suc k) (omega arith) lt (λ z. omega (arith, z)) ((bytes_eq-Decides u.name (unit_at us k).name).0 e))
     in
     ap (λ b. cond b u (unit_named us (unit_at us k).name)) other ∙ named_at us k (tail_apart u us apart) (omega (arith, lt))
 

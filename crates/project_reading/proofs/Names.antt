@@ -1,5 +1,5 @@
 -- Names put into their order, each once.
-use Rattle.std.proofs.Common.{◌≡◌, ℕ, List, [], ◌∷◌, Bool, true, false, ◌||◌, map, length, ◌≤◌, suc, refl, sym, ap, subst, ◌∙◌, arith}
+use Rattle.std.proofs.Common.{◌≡◌, ℕ, List, [], ◌∷◌, Bool, true, false, ◌||◌, length, ◌≤◌, suc, refl, sym, ap, ◌∙◌, arith}
 use Rattle.std.specs.List.{list_any, AllByRecursion}
 use Rattle.std.specs.List.Sorted.{IsStrictlySortedBy}
 use Rattle.std.specs.BTreeSet.{insert_key}
@@ -53,12 +53,14 @@ below_insert : (x k : List ℕ) (ys : List (List ℕ)) → slice_cmp nat_cmp x k
 below_insert x k [] l h = (l, tt)
 below_insert x k (y ∷ ys) l h = by (slice_cmp nat_cmp k y) (below_insert x k ys l h.1)
   where
-    by : (r : Ordering) → IsBelow x (insert_key (slice_cmp nat_cmp) ys k) → IsBelow x (match_ordering r (k ∷ y ∷ ys) (y ∷ ys) (y ∷ insert_key (slice_cmp nat_cmp) ys k))
+    by : (r : Ordering) → IsBelow x (insert_key (slice_cmp nat_cmp) ys k)
+        → IsBelow x (match_ordering r (k ∷ y ∷ ys) (y ∷ ys) (y ∷ insert_key (slice_cmp nat_cmp) ys k))
     by Less rest = (l, h)
     by Equal rest = h
     by Greater rest = (h.0, rest)
 
-pub sorted_insert : (xs : List (List ℕ)) (k : List ℕ) → IsStrictlySortedBy (slice_cmp nat_cmp) xs → IsStrictlySortedBy (slice_cmp nat_cmp) (insert_key (slice_cmp nat_cmp) xs k)
+pub sorted_insert : (xs : List (List ℕ)) (k : List ℕ) → IsStrictlySortedBy (slice_cmp nat_cmp) xs
+    → IsStrictlySortedBy (slice_cmp nat_cmp) (insert_key (slice_cmp nat_cmp) xs k)
 unfolding IsStrictlySortedBy
 sorted_insert [] k h = (tt, tt)
 sorted_insert (x ∷ xs) k h = by (slice_cmp nat_cmp k x) refl (sorted_insert xs k h.1)
@@ -88,7 +90,8 @@ among_insert [] k n = refl
 among_insert (x ∷ xs) k n = by (slice_cmp nat_cmp k x) refl (among_insert xs k n)
   where
     by : (r : Ordering) → slice_cmp nat_cmp k x ≡ r → is_among (insert_key (slice_cmp nat_cmp) xs k) n ≡ (bytes_eq k n || is_among xs n)
-        → is_among (match_ordering r (k ∷ x ∷ xs) (x ∷ xs) (x ∷ insert_key (slice_cmp nat_cmp) xs k)) n ≡ (bytes_eq k n || (bytes_eq x n || is_among xs n))
+        → is_among (match_ordering r (k ∷ x ∷ xs) (x ∷ xs) (x ∷ insert_key (slice_cmp nat_cmp) xs k)) n ≡
+        (bytes_eq k n || (bytes_eq x n || is_among xs n))
     by Less p rest = refl
     by Equal p rest = or_twice (bytes_eq x n) (is_among xs n) ∙ ap (λ y. bytes_eq y n || (bytes_eq x n || is_among xs n)) (sym (same_name k x p))
     by Greater p rest = ap (λ b. bytes_eq x n || b) rest ∙ or_swap (bytes_eq x n) (bytes_eq k n) (is_among xs n)

@@ -1,22 +1,20 @@
 -- Files are read as one project at most, or refused for one reason at most, and not both.
-use Rattle.std.proofs.Common.{◌≡◌, ℕ, suc, ◌<◌, ◌≤◌, inl, inr, List, [], ◌∷◌, ◌++◌, All, Option, Some, None, true, false, length, refl, ap, sym, subst, ◌∙◌, arith}
+use Rattle.std.proofs.Common.{◌≡◌, ℕ, suc, inl, inr, List, [], ◌∷◌, ◌++◌, All, Some, None, true, false, refl, ap, sym, subst, ◌∙◌, arith}
 use Rattle.std.proofs.lemmas.Bool.{cases_order}
 use Rattle.std.proofs.lemmas.List.Elements.{All-head, All-tail}
-use Rattle.rotor_base.specs.Files.{FileSet}
 use Rattle.rotor_base.specs.declared.refusal.Refusal.{Refusal}
 use Rattle.rotor_base.specs.declared.refusal.Refusal.TheVariants as refusal
 use Rattle.rotor_base.specs.declared.source.SourceFile.{SourceFile}
 use Rattle.rotor_base.specs.declared.token.FormKind.{FormKind}
-use Rattle.ml_lexer.specs.Lexed.{Lexeme, Lexed, LexFault, Bad, LongName}
+use Rattle.ml_lexer.specs.Lexed.{Lexeme, Bad, LongName}
 use Rattle.ml_lexer.proofs.OneCutting.{one_lexed, one_fault, not_both}
 use Rattle.ml_syntax.specs.RespelledFile.{lexeme_toks}
 use Rattle.ml_syntax.specs.Tree.{FileTree, UnitTree}
-use Rattle.parse_base.specs.Nesting.{nesting, DeepIs, IsFirstDeep}
-use Rattle.parse_module.specs.Whole.{HasNoTree}
+use Rattle.parse_base.specs.Nesting.{IsFirstDeep}
 use Rattle.unit_order.specs.Order.{order_of, takes_all, LiesOnCycle, IsStuck}
 use Rattle.project_reading.specs.Laws.{OneProject, OneRefusal, ReadOrRefused}
-use Rattle.project_reading.specs.Reads.{Reads, AreStuck, IsOrderless, Unread}
-use Rattle.project_reading.specs.Source.{kind_of_source, tokens_of, form_among, IsDeepAt, ReadsAs, IsUnread, bad, long_name, form, deep, syntax, place}
+use Rattle.project_reading.specs.Reads.{AreStuck}
+use Rattle.project_reading.specs.Source.{tokens_of, form_among, IsDeepAt, ReadsAs, IsUnread, bad, long_name, form, deep, syntax, place}
 use Rattle.project_reading.specs.Sources.{ReadAll, FirstUnread}
 use Rattle.project_reading.specs.Units.{units_of, in_order}
 
@@ -122,16 +120,20 @@ tail_same : (u v : UnitTree) (us vs : List UnitTree) → u ∷ us ≡ v ∷ vs �
 tail_same u v us vs e = cc
 
 module _ (C : UnitTree → Type 0) where
-  one_first : (before ahead : List UnitTree) (u v : UnitTree) (us vs : List UnitTree) → before ++ u ∷ us ≡ ahead ++ v ∷ vs → All (λ w. C w → ⊥) before → All (λ w. C w → ⊥) ahead → C u → C v → u ≡ v
+  one_first : (before ahead : List UnitTree) (u v : UnitTree) (us vs : List UnitTree) → before ++ u ∷ us ≡ ahead ++ v ∷ vs
+      → All (λ w. C w → ⊥) before → All (λ w. C w → ⊥) ahead → C u → C v → u ≡ v
   one_first [] [] u v us vs e h k c d = head_same u v us vs e
   one_first [] (w ∷ ahead) u v us vs e h k c d = absurd (All-head (λ z. C z → ⊥) w ahead k (subst C (head_same u w us (ahead ++ v ∷ vs) e) c))
-  one_first (w ∷ before) [] u v us vs e h k c d = absurd (All-head (λ z. C z → ⊥) w before h (subst C (sym (head_same w v (before ++ u ∷ us) vs e)) d))
+  one_first (w ∷ before) [] u v us vs e h k c d = absurd
+      (All-head (λ z. C z → ⊥) w before h (subst C (sym (head_same w v (before ++ u ∷ us) vs e)) d))
   one_first (w ∷ before) (z ∷ ahead) u v us vs e h k c d =
-      one_first before ahead u v us vs (tail_same w z (before ++ u ∷ us) (ahead ++ v ∷ vs) e) (All-tail (λ z. C z → ⊥) w before h) (All-tail (λ z. C z → ⊥) z ahead k) c d
+      one_first before ahead u v us vs (tail_same w z (before ++ u ∷ us) (ahead ++ v ∷ vs) e) (All-tail (λ z. C z → ⊥) w before h)
+      (All-tail (λ z. C z → ⊥) z ahead k) c d
 
 one_stuck : (us : List UnitTree) (a b : List ℕ) → IsStuck us a → IsStuck us b → a ≡ b
 one_stuck us a b h k =
-    let same : h.at ≡ k.at = one_first (LiesOnCycle us) h.before k.before h.at k.at h.behind k.behind (sym h.split ∙ k.split) h.first k.first h.cycle k.cycle in
+    let same : h.at ≡ k.at = one_first (LiesOnCycle us) h.before k.before h.at k.at h.behind k.behind
+    (sym h.split ∙ k.split) h.first k.first h.cycle k.cycle in
     h.named ∙ ap (λ u. u.name) same ∙ sym k.named
 
 -- ---- files

@@ -1,5 +1,5 @@
 -- What the program does to the list of units is `put_part`.
-use Rattle.std.proofs.Common.{◌≡◌, ℕ, zero, suc, ◌<◌, ◌≤◌, List, [], ◌∷◌, ◌++◌, Bool, true, false, not, cond, map, length, get_or, Option, Some, None, option_map, refl, ap, sym, subst, ◌∙◌, arith}
+use Rattle.std.proofs.Common.{◌≡◌, ℕ, zero, suc, List, [], ◌∷◌, ◌++◌, Bool, true, false, not, cond, get_or, Option, Some, None, option_map, refl, ap, sym, ◌∙◌}
 use Rattle.std.specs.Prelude.{slice_set}
 use Rattle.std.specs.List.{position, insert}
 use Rattle.std.specs.declared.cmp.Ordering.{Ordering}
@@ -45,17 +45,20 @@ module _ (body : Bool) (n : List ℕ) (t : FileTree) where
     where
       by : (r : Ordering) → cond (not (is_gt r)) (Some 0) (option_map suc (position is_place us)) ≡ None
           → (position is_place us ≡ None → view_unit v ≡ fresh → views (us ++ v ∷ []) ≡ put us)
-          → view_unit u ∷ views (us ++ v ∷ []) ≡ match_ordering r (fresh ∷ view_unit u ∷ views us) (with_part body t (view_unit u) ∷ views us) (view_unit u ∷ put us)
+          → view_unit u ∷ views (us ++ v ∷ []) ≡ match_ordering r (fresh ∷ view_unit u ∷ views us) (with_part body t (view_unit u) ∷ views us)
+          (view_unit u ∷ put us)
       by Less q rest = cc
       by Equal q rest = cc
       by Greater q rest = ap (λ vs. view_unit u ∷ vs) (rest (none_of (position is_place us) q) e)
 
-  pub put_between : (us : List trees.UnitTree) (k : ℕ) (d v : trees.UnitTree) → position is_place us ≡ Some k → bytes_eq (get_or us k d).name n ≡ false → view_unit v ≡ fresh → views (insert us k v) ≡ put us
+  pub put_between : (us : List trees.UnitTree) (k : ℕ) (d v : trees.UnitTree) → position is_place us ≡ Some k
+      → bytes_eq (get_or us k d).name n ≡ false → view_unit v ≡ fresh → views (insert us k v) ≡ put us
   put_between [] k d v h ne e = cc
   put_between (u ∷ us) zero d v h ne e = by (slice_cmp nat_cmp n u.name) refl (sym (position_cons is_place u us) ∙ h)
     where
       by : (r : Ordering) → slice_cmp nat_cmp n u.name ≡ r → cond (not (is_gt r)) (Some 0) (option_map suc (position is_place us)) ≡ Some 0
-          → view_unit v ∷ view_unit u ∷ views us ≡ match_ordering r (fresh ∷ view_unit u ∷ views us) (with_part body t (view_unit u) ∷ views us) (view_unit u ∷ put us)
+          → view_unit v ∷ view_unit u ∷ views us ≡ match_ordering r (fresh ∷ view_unit u ∷ views us) (with_part body t (view_unit u) ∷ views us)
+          (view_unit u ∷ put us)
       by Less p q = ap (λ w. w ∷ view_unit u ∷ views us) e
       by Equal p q = let bad : true ≡ false = sym (itself u.name) ∙ ap (bytes_eq u.name) (sym (same_name n u.name p)) ∙ ne in cc
       by Greater p q = absurd (not_zero (position is_place us) q)
@@ -63,31 +66,37 @@ module _ (body : Bool) (n : List ℕ) (t : FileTree) where
     where
       by : (r : Ordering) → cond (not (is_gt r)) (Some 0) (option_map suc (position is_place us)) ≡ Some (suc k)
           → (position is_place us ≡ Some k → bytes_eq (get_or us k d).name n ≡ false → view_unit v ≡ fresh → views (insert us k v) ≡ put us)
-          → view_unit u ∷ views (insert us k v) ≡ match_ordering r (fresh ∷ view_unit u ∷ views us) (with_part body t (view_unit u) ∷ views us) (view_unit u ∷ put us)
+          → view_unit u ∷ views (insert us k v) ≡ match_ordering r (fresh ∷ view_unit u ∷ views us) (with_part body t (view_unit u) ∷ views us)
+          (view_unit u ∷ put us)
       by Less q rest = cc
       by Equal q rest = cc
       by Greater q rest = ap (λ vs. view_unit u ∷ vs) (rest (some_of (position is_place us) k q) ne e)
 
-  pub put_at : (us : List trees.UnitTree) (k : ℕ) (d d' v : trees.UnitTree) → position is_place us ≡ Some k → bytes_eq (get_or us k d).name n ≡ true → view_unit v ≡ with_part body t (view_unit (get_or us k d')) → views (slice_set us k v) ≡ put us
+  pub put_at : (us : List trees.UnitTree) (k : ℕ) (d d' v : trees.UnitTree) → position is_place us ≡ Some k → bytes_eq (get_or us k d).name n ≡ true
+      → view_unit v ≡ with_part body t (view_unit (get_or us k d')) → views (slice_set us k v) ≡ put us
   put_at [] k d d' v h eq e = cc
   put_at (u ∷ us) zero d d' v h eq e = by (slice_cmp nat_cmp n u.name) refl (sym (position_cons is_place u us) ∙ h)
     where
       by : (r : Ordering) → slice_cmp nat_cmp n u.name ≡ r → cond (not (is_gt r)) (Some 0) (option_map suc (position is_place us)) ≡ Some 0
-          → view_unit v ∷ views us ≡ match_ordering r (fresh ∷ view_unit u ∷ views us) (with_part body t (view_unit u) ∷ views us) (view_unit u ∷ put us)
+          → view_unit v ∷ views us ≡ match_ordering r (fresh ∷ view_unit u ∷ views us) (with_part body t (view_unit u) ∷ views us)
+          (view_unit u ∷ put us)
       by Less p q = let bad : true ≡ false = sym eq ∙ other_before n u.name p in cc
       by Equal p q = ap (λ w. w ∷ views us) e
       by Greater p q = absurd (not_zero (position is_place us) q)
   put_at (u ∷ us) (suc k) d d' v h eq e = by (slice_cmp nat_cmp n u.name) (sym (position_cons is_place u us) ∙ h) (put_at us k d d' v)
     where
       by : (r : Ordering) → cond (not (is_gt r)) (Some 0) (option_map suc (position is_place us)) ≡ Some (suc k)
-          → (position is_place us ≡ Some k → bytes_eq (get_or us k d).name n ≡ true → view_unit v ≡ with_part body t (view_unit (get_or us k d')) → views (slice_set us k v) ≡ put us)
-          → view_unit u ∷ views (slice_set us k v) ≡ match_ordering r (fresh ∷ view_unit u ∷ views us) (with_part body t (view_unit u) ∷ views us) (view_unit u ∷ put us)
+          → (position is_place us ≡ Some k → bytes_eq (get_or us k d).name n ≡ true → view_unit v ≡ with_part body t (view_unit (get_or us k d'))
+          → views (slice_set us k v) ≡ put us)
+          → view_unit u ∷ views (slice_set us k v) ≡ match_ordering r (fresh ∷ view_unit u ∷ views us) (with_part body t (view_unit u) ∷ views us)
+          (view_unit u ∷ put us)
       by Less q rest = cc
       by Equal q rest = cc
       by Greater q rest = ap (λ vs. view_unit u ∷ vs) (rest (some_of (position is_place us) k q) eq e)
 
 -- the place that is found is that of this name in these units
-pub placed : (n m : List ℕ) (us vs : List trees.UnitTree) (o p : Option ℕ) → o ≡ position (λ u. not (is_gt (slice_cmp nat_cmp m u.name))) vs → m ≡ n → vs ≡ us → o ≡ p
+pub placed : (n m : List ℕ) (us vs : List trees.UnitTree) (o p : Option ℕ) → o ≡ position (λ u. not (is_gt (slice_cmp nat_cmp m u.name))) vs → m ≡ n
+    → vs ≡ us → o ≡ p
     → position (λ u. not (is_gt (slice_cmp nat_cmp n u.name))) us ≡ p
 placed n m us vs o p found name list is =
     ap (λ x. position (λ u. not (is_gt (slice_cmp nat_cmp x u.name))) us) (sym name)

@@ -1,7 +1,6 @@
 -- Small folders: what their sources are cut into, what units they give, and in what order.
-use Rattle.std.proofs.Common.{◌≡◌, ℕ, List, [], ◌∷◌, inl, inr, true, false, Some, None, codes, refl, rules}
+use Rattle.std.proofs.Common.{◌≡◌, ℕ, List, [], ◌∷◌, inl, Some, None, codes, refl, rules}
 use Prim.Native.String.{String}
-use Rattle.rotor_base.specs.Files.{FileSet}
 use Rattle.rotor_base.specs.Name.{is_keyword_word}
 use Rattle.rotor_base.specs.Stem.{ends_stem}
 use Rattle.rotor_base.specs.Unit.{unit_of}
@@ -18,8 +17,8 @@ use Rattle.ml_lexer.specs.Trivia.{plain_part, comment_part, level_end, comment_l
 use Rattle.ml_syntax.specs.Tok.{Name}
 use Rattle.ml_syntax.specs.Tree as pure
 use Rattle.parse_module.specs.declared.files.FileKind.TheVariants as kind
-use Rattle.unit_order.specs.Order.{taking, derived_order, order_of, takes_all}
-use Rattle.project_reading.specs.Source.{kind_of_source, form_among, IsUnread, bad, form, place}
+use Rattle.unit_order.specs.Order.{taking, order_of}
+use Rattle.project_reading.specs.Source.{kind_of_source, bad, form, place}
 use Rattle.project_reading.specs.Sources.{FirstUnread}
 use Rattle.project_reading.specs.Reads.{AreStuck}
 use Rattle.project_reading.specs.Units.{units_of, in_order}
@@ -54,7 +53,8 @@ abbrev unit : String → pure.FileTree → pure.UnitTree
 unit name tree = record { name = codes name; body = Some tree; face = None }
 
 -- `A.ml` and `a.mli` are the first source and the third, and the body and the interface of one unit
-parts : units_of (file "A.ml" "" ∷ file "B.ml" "" ∷ file "a.mli" "" ∷ []) (body 0 [] ∷ body 1 [] ∷ face 2 ∷ []) ≡ record { name = codes "A"; body = Some (body 0 []); face = Some (face 2) } ∷ unit "B" (body 1 []) ∷ []
+parts : units_of (file "A.ml" "" ∷ file "B.ml" "" ∷ file "a.mli" "" ∷ []) (body 0 [] ∷ body 1 [] ∷ face 2 ∷ [])
+    ≡ record { name = codes "A"; body = Some (body 0 []); face = Some (face 2) } ∷ unit "B" (body 1 []) ∷ []
 unfolding unit_of ends_stem
 parts = refl
 
@@ -91,7 +91,16 @@ unfolding taking
 stuck = record {
   derived = refl;
   left = refl;
-  stuck = record { before = []; at = unit "A" (body 0 ("B" ∷ [])); behind = unit "B" (body 1 ("A" ∷ [])) ∷ unit "C" (body 2 ("A" ∷ [])) ∷ []; split = refl; named = refl; cycle = (1, refl); first = search rules };
+  stuck = record {
+    before = [];
+    at = unit "A" (body 0 ("B" ∷ []));
+    behind = unit "B" (body 1 ("A" ∷ [])) ∷ unit "C"
+        (body 2 ("A" ∷ [])) ∷ [];
+    split = refl;
+    named = refl;
+    cycle = (1, refl);
+    first = search rules;
+  };
 }
 
 -- ---- sources that are not read
@@ -99,12 +108,17 @@ stuck = record {
 -- no lexeme begins at the `\` of `x \`
 no_lexeme : FirstUnread 0 (file "a.ml" "x \\" ∷ []) (refusal.Lex 0 2)
 unfolding piece_at lexeme_at word_at word_class marked_word_at label_at operator_of operator_at mark_length begins_label begins_operator sign_at number_at digits_length base_of fraction_length exponent_length float_part_length char_length text_end opens_quoted closes_quoted quoted_end quoted_length plain_part comment_part level_end comment_length attribute_part attribute_length is_keyword_word
-no_lexeme = inl (bad 2 (lexed.lexeme class.Lower (codes "x") (codes " \\") refl refl (lexed.trivia (codes " ") (codes "\\") refl refl (lexed.bad (λ e. cc) refl))))
+no_lexeme = inl (bad 2 (lexed.lexeme class.Lower (codes "x") (codes " \\") refl refl
+    (lexed.trivia (codes " ") (codes "\\") refl refl (lexed.bad (λ e. cc) refl))))
 
 -- `class` is refused at the second token of `x class`
 abbrev lexemes : List Lexeme
-lexemes = record { class = class.Lower; start = 0; end = 1; bytes = codes "x" } ∷ record { class = class.Keyword; start = 2; end = 7; bytes = codes "class" } ∷ []
+lexemes =
+    record { class = class.Lower; start = 0; end = 1; bytes = codes "x" }
+    ∷ record { class = class.Keyword; start = 2; end = 7; bytes = codes "class" } ∷ []
 
 object : FirstUnread 0 (file "a.ml" "x class" ∷ []) (refusal.Form (place 0 2) forms.Object)
 unfolding piece_at lexeme_at word_at word_class marked_word_at label_at operator_of operator_at mark_length begins_label begins_operator sign_at number_at digits_length base_of fraction_length exponent_length float_part_length char_length text_end opens_quoted closes_quoted quoted_end quoted_length plain_part comment_part level_end comment_length attribute_part attribute_length is_keyword_word
-object = inl (form lexemes 2 forms.Object (lexed.lexeme class.Lower (codes "x") (codes " class") refl refl (lexed.trivia (codes " ") (codes "class") refl refl (lexed.lexeme class.Keyword (codes "class") [] refl refl lexed.nothing))) refl)
+object = inl (form lexemes 2 forms.Object
+    (lexed.lexeme class.Lower (codes "x") (codes " class") refl refl
+    (lexed.trivia (codes " ") (codes "class") refl refl (lexed.lexeme class.Keyword (codes "class") [] refl refl lexed.nothing))) refl)

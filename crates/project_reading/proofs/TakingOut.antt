@@ -1,10 +1,8 @@
 -- Units that are taken out of their list one by one, each position once.
-use Rattle.std.proofs.Common.{◌≡◌, ◌≢◌, ℕ, suc, ◌+◌, ◌<◌, List, [], ◌∷◌, ◌++◌, All, map, length, get_or, set, drop, Option, Some, None, append_assoc, refl, ap, sym, subst, ◌∙◌, arith, length-set}
+use Rattle.std.proofs.Common.{◌≡◌, ◌≢◌, ℕ, ◌<◌, List, [], ◌∷◌, ◌++◌, All, map, length, get_or, set, Option, Some, None, append_assoc, refl, ap, sym, ◌∙◌, arith, length-set}
 use Rattle.std.proofs.lemmas.List.{map-append, get_or-map, get_or-set_other, get_or_default, length-map}
 use Rattle.std.proofs.lemmas.List.Elements.{All-head, All-tail}
-use Rattle.std.specs.Prelude.{slice_set}
 use Rattle.ml_syntax.specs.declared.module.UnitTree as trees
-use Rattle.ml_syntax.specs.Tree.{UnitTree}
 use Rattle.ml_syntax.specs.View.{view_unit}
 use Rattle.ml_syntax.specs.Sound.{AreDistinct}
 use Rattle.unit_order.specs.Positions.{blank, unit_at, views}
@@ -23,16 +21,19 @@ pub record TakesOut (us : List trees.UnitTree) (all ps : List ℕ) (left : List 
 some_same : (u v : trees.UnitTree) → Some u ≡ Some v → u ≡ v
 some_same u v e = cc
 
-elsewhere : (us : List trees.UnitTree) (left : List (Option trees.UnitTree)) (p : ℕ) (ps : List ℕ) → All (λ q. p ≢ q) ps → All (IsHere us left) ps → All (IsHere us (set left p None)) ps
+elsewhere : (us : List trees.UnitTree) (left : List (Option trees.UnitTree)) (p : ℕ) (ps : List ℕ) → All (λ q. p ≢ q) ps → All (IsHere us left) ps
+    → All (IsHere us (set left p None)) ps
 elsewhere us left p ps other h = λ k d lt e. get_or-set_other left p (get_or ps k d) None (Some e) (λ same. other k d lt (sym same)) ∙ h k d lt e
 
-pub one_taken : (us : List trees.UnitTree) (all ps : List ℕ) (p : ℕ) (left : List (Option trees.UnitTree)) (o : Option trees.UnitTree) (list : List trees.UnitTree) (u : trees.UnitTree)
+pub one_taken : (us : List trees.UnitTree) (all ps : List ℕ) (p : ℕ) (left : List (Option trees.UnitTree)) (o : Option trees.UnitTree)
+    (list : List trees.UnitTree) (u : trees.UnitTree)
     → TakesOut us all (p ∷ ps) left list → o ≡ get_or left p o → o ≡ Some u → TakesOut us all ps (set left p None) (list ++ u ∷ [])
 one_taken us all ps p left o list u h is some =
     let inside : p < length us = All-head (λ q. q < length us) p ps h.inside in
     let within : p < length left = omega (arith, inside, h.size) in
     let found : Some u ≡ Some (get_or us p u) = sym some ∙ is ∙ get_or_default left p o (Some u) within ∙ All-head (IsHere us left) p ps h.here u in
-    let same : view_unit u ≡ unit_at (views us) p = ap view_unit (some_same u (get_or us p u) found) ∙ sym (get_or-map view_unit us p u blank inside) in
+    let same : view_unit u ≡ unit_at (views us) p = ap view_unit (some_same u (get_or us p u) found)
+    ∙ sym (get_or-map view_unit us p u blank inside) in
     record {
       here = elsewhere us left p ps h.once.0 (All-tail (IsHere us left) p ps h.here);
       once = h.once.1;
@@ -45,7 +46,8 @@ one_taken us all ps p left o list u h is some =
       size = length-set left p None ∙ h.size;
     }
 
-pub none_taken : (us : List trees.UnitTree) (all ps : List ℕ) (p : ℕ) (left : List (Option trees.UnitTree)) (o : Option trees.UnitTree) (list : List trees.UnitTree)
+pub none_taken : (us : List trees.UnitTree) (all ps : List ℕ) (p : ℕ) (left : List (Option trees.UnitTree)) (o : Option trees.UnitTree)
+    (list : List trees.UnitTree)
     → TakesOut us all (p ∷ ps) left list → o ≡ get_or left p o → o ≡ None → ⊥
 none_taken us all ps p left o list h is none =
     let d : trees.UnitTree = record { name = []; body = None; face = None } in

@@ -9,7 +9,7 @@ use Rattle.ml_syntax.specs.Respelled.{Spelling, spelled, spell_tok}
 use Rattle.ml_syntax.specs.RespelledFile.{lexeme_toks}
 use Rattle.parse_base.specs.Forms.{first_form}
 use Rattle.parse_base.specs.Gives.{lexeme, from}
-use Rattle.parse_base.specs.Kept.{touches, AreAlike, AreRespelled}
+use Rattle.parse_base.specs.Kept.{touches, AreAlike}
 use Rattle.parse_base.specs.Nesting.{DeepIs}
 use Rattle.parse_base.proofs.FormsKept.{forms_are_kept}
 use Rattle.parse_base.proofs.Kept.{nesting_is_kept}
@@ -61,7 +61,11 @@ as_many (t ∷ ts) = ap suc (as_many ts)
 
 pub deep_same : (ts : List Token) (deep : Option ℕ) → DeepIs ts deep → IsDeepAt (view_tokens ts) deep
 deep_same ts deep h =
-    nesting_is_kept kept ts (tokens_of (view_tokens ts)) deep (record { many = as_many ts; same = λ at. from_same at ts ∙ sym (toks_kept (from ts at)) }) h
+    nesting_is_kept kept ts (tokens_of (view_tokens ts)) deep (record {
+      many = as_many ts;
+      same = λ at. from_same at ts
+          ∙ sym (toks_kept (from ts at));
+    }) h
 
 -- ---- the words
 

@@ -25,7 +25,9 @@ fn is_behind(name: &[u8], other: &[u8]) -> bool
 fn place_of(units: &[UnitTree], name: &[u8]) -> Option<usize>
     ensures { result ≡ position (λ unit. not (is_gt (slice_cmp nat_cmp name.now unit.name))) units.now }
 {
-    units.iter().position(|unit| !is_behind(name, unit.name.as_bytes()))
+    units
+        .iter()
+        .position(|unit| !is_behind(name, unit.name.as_bytes()))
 }
 
 /// A unit with one tree: its body, or its interface.

@@ -16,9 +16,12 @@ loop-at-preserved c =
     let left = c.loop-at.left.items in
     elim c.match-take.branch [
       | in-Some-take+in_ok-push-2 w ↦
-          let list : c.match-take.list.items ≡ c.loop-at.list.items ++ w.in-Some-take.unit ∷ [] = ap (λ v. v.items) w.list-is ∙ w.in_ok-push-2.ensures.items in
+          let list : c.match-take.list.items ≡ c.loop-at.list.items ++ w.in-Some-take.unit ∷ [] = ap (λ v. v.items) w.list-is
+          ∙ w.in_ok-push-2.ensures.items in
           subst (λ x. TakesOut us ps rest (slice_set left p x) c.match-take.list.items) (sym c.take.ensures.after)
           (subst (λ l. TakesOut us ps rest (slice_set left p None) l) (sym list)
-          (one_taken us ps rest p left c.index_mut.result.now c.loop-at.list.items w.in-Some-take.unit h c.index_mut.ensures.value (sym c.take.ensures.value ∙ w.in-Some-take.is)))
-      | in_default w ↦ absurd (none_taken us ps rest p left c.index_mut.result.now c.loop-at.list.items h c.index_mut.ensures.value (sym c.take.ensures.value ∙ w.in_default.is))
+          (one_taken us ps rest p left c.index_mut.result.now c.loop-at.list.items w.in-Some-take.unit h c.index_mut.ensures.value
+          (sym c.take.ensures.value ∙ w.in-Some-take.is)))
+      | in_default w ↦ absurd (none_taken us ps rest p left c.index_mut.result.now c.loop-at.list.items h c.index_mut.ensures.value
+          (sym c.take.ensures.value ∙ w.in_default.is))
     ]
