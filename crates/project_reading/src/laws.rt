@@ -1,0 +1,20 @@
+//! The laws of reading, each as the contract of a function.
+
+ghost use Rattle.project_reading.specs.Laws.{OneProject, OneRefusal, ReadIsSound, ReadOrRefused, TreesAreParts};
+
+/// Files are read as one project at most, or refused for one reason at most, and not both.
+pub fn one_reading()
+    ensures project { OneProject }
+    ensures refusal { OneRefusal }
+    ensures apart { ReadOrRefused }
+{}
+
+/// What the files of a project are read as is sound.
+pub fn read_is_sound()
+    ensures { ReadIsSound }
+{}
+
+/// The tree of each source is the body or the interface of a unit of the project.
+pub fn trees_are_parts()
+    ensures { TreesAreParts }
+{}

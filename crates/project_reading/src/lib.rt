@@ -1,0 +1,12 @@
+//! What reads the files of a project: each source is cut into lexemes and read as a tree, and the trees are put together
+//! as the units of a project, in the order of linking.
+#![tactic(auto)]
+
+mod laws;
+mod order;
+mod project;
+mod sources;
+mod units;
+
+pub use laws::{one_reading, read_is_sound, trees_are_parts};
+pub use project::{Read, read_project};
