@@ -6,6 +6,7 @@ use Rattle.std.specs.List.{list_any, fold}
 use Rattle.std.specs.Ordering.{nat_cmp, is_lt}
 use Rattle.std.specs.Cmp.Lexicographic.{slice_cmp}
 use Rattle.std.specs.Str.{bytes_eq}
+use Rattle.std.proofs.lemmas.Bool.{or_right}
 use Rattle.std.proofs.lemmas.Option.{slice_get_within, get_or_from_slice_get}
 use Rattle.std.proofs.lemmas.Slice.Eq.{bytes_eq-Decides}
 use Rattle.rotor_base.specs.Files as files
@@ -113,10 +114,6 @@ given_at [] k lt = absurd (omega (arith, lt))
 given_at (s ∷ ss) zero lt = ap (λ b. b || list_any (λ x. bytes_eq (unit_of x.name) (unit_of s.name)) ss) (itself (unit_of s.name))
 given_at (s ∷ ss) (suc k) lt = or_right (bytes_eq (unit_of s.name) (unit_of (source_at ss k).name))
     (list_any (λ x. bytes_eq (unit_of x.name) (unit_of (source_at ss k).name)) ss) (given_at ss k (omega (arith, lt)))
-  where
-    or_right : (a b : Bool) → b ≡ true → (a || b) ≡ true
-    or_right true b h = refl
-    or_right false b h = h
 
 there : (f : List ℕ → UnitTree) (order : List (List ℕ)) (x : List ℕ) → is_among order x ≡ true → Contains (map f order) (f x)
 there f [] x h = cc
