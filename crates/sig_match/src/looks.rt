@@ -20,7 +20,7 @@ use std::alloc::Global;
 
 /// A test of a value by its name and its goal.
 #[derive(Clone, Copy)]
-enum Test {
+pub enum Test {
     /// Its goal is in the footprint.
     InFoot,
     /// It has the old name, and its goal is not in the footprint.
@@ -30,7 +30,7 @@ enum Test {
 }
 
 /// A position in a list, the declaration there, and the number of Dark entries after it.
-type Spot = (u64, Place, u64);
+pub type Spot = (u64, Place, u64);
 
 // Whether a goal is in the footprint.
 fn is_member(watch: &Watch, goal: Goal) -> bool
@@ -74,8 +74,8 @@ fn place_of(goal: Goal) -> Place
     }
 }
 
-// The last value of a list that a test takes.
-fn last_where(test: Test, watch: &Watch, list: &[SharedEntry]) -> Option<Spot>
+/// The last value of a list that a test takes. It takes no memory.
+pub fn last_where(test: Test, watch: &Watch, list: &[SharedEntry]) -> Option<Spot>
     ensures { result ≡ pure.last_where (test_of test watch.now) (entries_of list.now) }
 {
     let mut last = None;
@@ -115,8 +115,8 @@ fn with_entry(
     }
 }
 
-// The number of Dark entries of a list, and the place of the last one.
-fn darks_of(list: &[SharedEntry]) -> (u64, Option<Place>)
+/// The number of Dark entries of a list, and the place of the last one. It takes no memory.
+pub fn darks_of(list: &[SharedEntry]) -> (u64, Option<Place>)
     ensures number { result.0 ≡ length (shapes.darks (entries_of list.now)) }
     ensures last { result.1 ≡ shapes.last_place (shapes.darks (entries_of list.now)) }
 {
@@ -175,8 +175,9 @@ fn is_pinned(source: Option<&Shared>) -> bool
     }
 }
 
-// The look of the link of a value, where the value has the old or the new name.
-fn look_of_value(
+/// The look of the link of a value, where the value has the old or the new name: `rest` is what stands after the value in
+/// its list, and `source` the structure in which the link's source is looked up. It takes no memory.
+pub fn look_of_value(
     name: &[u8],
     goal: Goal,
     rest: &[SharedEntry],

@@ -66,7 +66,11 @@ pub fn told(alloc: Global, why: &Refusal) -> Result<String, Fail> {
         Refusal::Lex { file, offset } => write!(text, "lex {file}@{offset}")?,
         Refusal::LongName { file, offset } => write!(text, "longname {file}@{offset}")?,
         Refusal::Form { at, kind } => {
-            let word = if *kind == FormKind::Object { "object" } else { "other" };
+            let word = if *kind == FormKind::Object {
+                "object"
+            } else {
+                "other"
+            };
             write!(text, "form {}#{} {word}", at.file, at.token)?;
         }
         Refusal::Deep { at } => write!(text, "deep {}#{}", at.file, at.token)?,

@@ -52,10 +52,19 @@ fn long_names_and_deep_nesting_are_told(rt: HostRuntime) -> Result<(), Fail> {
     let alloc = rt.alloc();
     let mut long = String::from_str(alloc, "let ")?;
     long.push_str(repeated(alloc, "x", 256)?.as_str())?;
-    assert_eq!(rt; read_pair(alloc, long.as_str(), "let y = 1", None)?.as_str(), "longname 0@4");
+    assert_eq!(rt;
+        read_pair(alloc, long.as_str(), "let y = 1", None)?.as_str(),
+        "longname 0@4"
+    );
     let deep = nested(alloc, 257)?;
-    assert_eq!(rt; read_pair(alloc, deep.as_str(), "let y = 1", None)?.as_str(), "deep 0#260");
+    assert_eq!(rt;
+        read_pair(alloc, deep.as_str(), "let y = 1", None)?.as_str(),
+        "deep 0#260"
+    );
     let shallow = nested(alloc, 255)?;
-    assert_eq!(rt; read_pair(alloc, shallow.as_str(), "let y = 1", None)?.as_str(), "A B | 514 4");
+    assert_eq!(rt;
+        read_pair(alloc, shallow.as_str(), "let y = 1", None)?.as_str(),
+        "A B | 514 4"
+    );
     Ok(())
 }

@@ -1,0 +1,9 @@
+//! The facts and the looks that a resolver has found, in the order of their places.
+#![tactic(auto)]
+
+mod recorders;
+mod results;
+mod sorting;
+
+pub use recorders::recorder_of;
+pub use results::{facts_in, from_nothing, from_sums, groups_in, looks_in};

@@ -1,0 +1,3 @@
+pub mod AnyScope
+pub mod Found
+pub mod Grown

@@ -1,0 +1,21 @@
+//! What the resolvers of expressions and of modules share: the state that grows, scopes, uses and variables.
+#![tactic(auto)]
+
+mod binders;
+mod found;
+mod linked;
+mod paths;
+mod recording;
+mod scopes;
+mod sites;
+mod uses;
+
+pub use binders::{bind, bind_name, bind_variable, variables};
+pub use found::{
+    group, opened_nothing, opened_site, unit_start, use_alone, use_under, weighed_site,
+};
+pub use linked::{matched, pinned, tied};
+pub use paths::{opening, path_in, start_of};
+pub use scopes::go_on_with;
+pub use sites::{label_of, operator_of};
+pub use uses::{use_label, use_minus, use_name, use_name_in, use_operator, use_word};

@@ -1,0 +1,159 @@
+//! The looks that a recorder keeps, where there is one.
+
+ghost use Rattle.std.specs.Prelude.{◌≡◌, OnOk};
+ghost use Rattle.shape_core.specs.Shape.{entries_in, value_in};
+ghost use Rattle.shape_core.specs.Node.{entries_of};
+ghost use Rattle.binding_model.specs.Looks.{ref_look};
+ghost use Rattle.binding_model.specs.Steps.{UseUnder, MatchOf, PinOf};
+ghost use Rattle.binding_model.specs.Taken.{recorded};
+ghost use Rattle.sig_match.specs.Matched.{listed};
+ghost use Rattle.resolve_base.specs.Recorded.{use_recorded, tie_recorded, joined_looks};
+
+use binding_model::Recorder;
+use rotor_base::{Goal, Looks, Memory, Place, RefLook, Watch};
+use shape_core::{Kind, Shared, SharedEntry, entries, kind};
+use sig_match::{Test, darks_of, last_where, look_of_value, match_looks, pin_looks};
+use std::alloc::Global;
+
+/// Records the look of a value that is looked up in a list. `Memory` is the only error.
+pub fn record_use(
+    recorder: &mut Option<Recorder>,
+    list: &[SharedEntry],
+    at: Place,
+    name: &[u8],
+    goal: Goal,
+) -> Result<(), Memory>
+    ensures { OnOk result (recorder.new ≡ use_recorded recorder.old at name.now goal (entries_of list.now)) }
+{
+    let Some(recorder) = recorder else {
+        return Ok(());
+    };
+    if let Some(look) = look_of_use(&recorder.watch, list, at, name, goal) {
+        recorder.looks.refs.push(look)?;
+    }
+    Ok(())
+}
+
+/// The look of a reference, where it has the old or the new name.
+fn look_of_use(
+    watch: &Watch,
+    list: &[SharedEntry],
+    at: Place,
+    name: &[u8],
+    goal: Goal,
+) -> Option<RefLook>
+    ensures { listed result ≡ ref_look watch.now at name.now goal (entries_of list.now) }
+{
+    let is_old = name == watch.old.as_bytes();
+    let is_new = name == watch.new.as_bytes();
+    if !(is_old || is_new) {
+        return None;
+    }
+    let (darks, by) = darks_of(list);
+    Some(RefLook {
+        at,
+        goal,
+        is_new,
+        darks,
+        by,
+        foot: last_where(Test::InFoot, watch, list),
+        new: last_where(Test::NamedNew, watch, list),
+    })
+}
+
+/// Records the look of a value that is looked up under a module. `Memory` is the only error.
+#[tactic(auto, using(crate::proofs::Recorders::uses_under))]
+pub fn record_under(
+    recorder: &mut Option<Recorder>,
+    shape: &Shared,
+    at: Place,
+    name: &[u8],
+    goal: Goal,
+) -> Result<(), Memory>
+    requires { goal ≡ value_in shape.now name.now }
+    ensures { OnOk result (recorder.new ≡ recorded recorder.old (UseUnder at name.now shape.now)) }
+{
+    match kind(shape) {
+        Kind::Struct => record_use(recorder, entries(shape), at, name, goal),
+        Kind::Functor => Ok(()),
+        Kind::Unitary => Ok(()),
+        Kind::Opaque => Ok(()),
+    }
+}
+
+/// Records the looks of a match. `Memory` is the only error.
+#[tactic(auto, using(crate::proofs::Recorders::match_recorded))]
+pub fn record_match(
+    alloc: Global,
+    recorder: &mut Option<Recorder>,
+    source: &Shared,
+    target: &Shared,
+) -> Result<(), Memory>
+    ensures { OnOk result (recorder.new ≡ recorded recorder.old (MatchOf source.now target.now)) }
+{
+    let Some(recorder) = recorder else {
+        return Ok(());
+    };
+    let looks = match_looks(alloc, source, target, &recorder.watch)?;
+    add_looks(&mut recorder.looks, &looks)
+}
+
+/// Records the looks of a pinning. `Memory` is the only error.
+#[tactic(auto, using(crate::proofs::Recorders::pin_recorded))]
+pub fn record_pin(
+    alloc: Global,
+    recorder: &mut Option<Recorder>,
+    shape: &Shared,
+) -> Result<(), Memory>
+    ensures { OnOk result (recorder.new ≡ recorded recorder.old (PinOf shape.now)) }
+{
+    let Some(recorder) = recorder else {
+        return Ok(());
+    };
+    let looks = pin_looks(alloc, shape, &recorder.watch)?;
+    add_looks(&mut recorder.looks, &looks)
+}
+
+/// Adds looks of links, numbered behind those before them.
+fn add_looks(all: &mut Looks, more: &Looks) -> Result<(), Memory>
+    ensures { OnOk result (all.new ≡ joined_looks all.old more.now) }
+{
+    let first = all.passed;
+    let Some(passed) = first.checked_add(more.passed) else {
+        return Err(Memory);
+    };
+    for look in more.links.as_slice() {
+        let Some(number) = first.checked_add(look.number) else {
+            return Err(Memory);
+        };
+        let mut next = *look;
+        next.number = number;
+        all.links.push(next)?;
+    }
+    all.passed = passed;
+    Ok(())
+}
+
+/// Records the look of a variable of an or-pattern that is looked up in a part. `Memory` is the only error.
+pub fn record_tie(
+    recorder: &mut Option<Recorder>,
+    name: &[u8],
+    goal: Goal,
+    source: &Shared,
+) -> Result<(), Memory>
+    ensures { OnOk result (recorder.new ≡ tie_recorded recorder.old name.now goal (entries_in source.now)) }
+{
+    let Some(recorder) = recorder else {
+        return Ok(());
+    };
+    let number = recorder.looks.passed;
+    let Some(passed) = number.checked_add(1) else {
+        return Err(Memory);
+    };
+    recorder.looks.passed = passed;
+    let look = look_of_value(name, goal, &[], Some(source), number, &recorder.watch);
+    if let Some(look) = look {
+        recorder.looks.links.push(look)?;
+    }
+    Ok(())
+}
