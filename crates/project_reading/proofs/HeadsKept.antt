@@ -1,4 +1,4 @@
--- The heads of a respelled tree are the tree's: only names of values are respelled, and they stand in no path.
+-- The heads of a respelled tree are the tree's: only names of values are respelled, and no path has them as its head.
 use Rattle.std.proofs.Common.{◌≡◌, ℕ, List, [], ◌∷◌, ◌++◌, Some, refl, ap, ◌∙◌}
 use Rattle.ml_syntax.specs.Respelled.{Spelling, spell_file, spell_argument, spell_arguments, spell_binding, spell_bindings, spell_case, spell_cases, spell_expr, spell_field, spell_fields, spell_functor_param, spell_functor_params, spell_item, spell_items, spell_links, spell_maybe_expr, spell_maybe_type, spell_mod_argument, spell_mod_arguments, spell_mod_expr, spell_mod_type, spell_param, spell_params, spell_part, spell_parts, spell_pat, spell_pat_field, spell_pat_fields, spell_pats, spell_sig_item, spell_sig_items, spell_tail}
 use Rattle.ml_syntax.specs.Tree.{FileTree, Body, Face, AliasSig, AnyPat, AppliedBinding, Apply, Argument, Arguments, Arrow, AsPat, Assert, AssignedField, Begin, Binding, Bindings, BoolExpr, BoolPat, Case, CaseOf, Cases, Chain, CharPart, Coerced, ConsPat, Constr, ConstrApply, ConstrApplyPat, ConstrPat, DefaultParam, EmptyBegin, EmptyList, EmptyPat, ExceptionItem, ExceptionPat, ExceptionSig, Expr, ExprItem, ExternalItem, ExternalSig, Field, FieldPun, Fields, For, Fun, Function, Functor, FunctorParam, FunctorParams, FunctorType, If, IncludeItem, IncludeSig, IndexPart, Item, Items, LabelParam, LabelPart, LabelPattern, LabelPun, Labelled, Lazy, LazyPat, Let, LetModule, LetOpen, Links, ListExpr, ListPat, Literal, LiteralPat, Match, MatchedField, MaybeExpr, MaybeType, Minus, ModApply, ModArgument, ModArguments, ModExpr, ModParen, ModPath, ModType, ModuleArgument, ModuleItem, ModuleSig, ModuleTypeItem, ModuleTypeSig, NamedParam, NegativePat, NoArgument, NoParam, OpenItem, OpenSig, Opened, OpenedPat, OrPat, Param, ParamArrow, Params, Paren, ParenPat, Part, Parts, Pat, PatField, PatFields, Pats, PatternParam, PlainBinding, Positional, Postfix, Prefixed, PunnedField, RangePat, Record, RecordPat, Sealed, SealedArgument, SeparatorItem, SeparatorSig, Seq, Sig, SigItem, SigItems, Struct, Tag, TagApply, TagApplyPat, TagPat, Tail, Try, TuplePat, TypeItem, TypeOf, TypeParen, TypePath, TypeSig, Typed, TypedPat, TypesParam, UnitExpr, UnitPat, ValSig, Value, ValueItem, ValuePat, While, With, WrappedDefault, WrappedParam, more_argument, more_binding, more_case, more_field, more_functor_param, more_item, more_link, more_mod_argument, more_param, more_part, more_pat, more_pat_field, more_sig_item, no_argument, no_binding, no_case, no_else, no_expr, no_field, no_functor_param, no_item, no_link, no_mod_argument, no_param, no_part, no_pat, no_pat_field, no_sig_item, no_type, or_else, or_if, some_expr, some_type}

@@ -14,5 +14,6 @@ pub mod OneReading
 pub mod Twins
 pub mod HeadsKept
 pub mod OrderKept
+pub mod UnitsKept
 pub mod ReadingKept
 mod Rows

@@ -56,7 +56,7 @@ units_apart ss ts = sorted_apart (units_of ss ts) (subst (IsStrictlySortedBy (sl
 
 -- ---- the manifest
 
--- the last two reasons not to take the files of a project do not stand
+-- the last two reasons not to take files do not hold of a project
 last_reasons : (fs : FileSet) → IsProject fs
     → (files.double_unit (files.units_of fs.entries) ≡ None) × (bad_manifest (files.units_of fs.entries) fs.manifest ≡ None)
 last_reasons fs h =

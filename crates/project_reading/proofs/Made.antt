@@ -13,7 +13,7 @@ use Rattle.project_reading.proofs.Soundness.{read_is_sound}
 
 module _ (fs : FileSet) (ts : List FileTree) (us : List UnitTree) (manifest : Option (List ℕ)) (project : IsProject fs)
     (read : ReadAll 0 fs.entries ts) (are : us ≡ units_of fs.entries ts) (given : manifest ≡ fs.manifest) where
-  -- positions that the order gives stand in it once
+  -- the order has each position once
   pub positions_once : (ps : List ℕ) → (manifest ≡ None → takes_all us ≡ true) → names_at us ps ≡ order_of us manifest → AreDistinct ps
   positions_once ps all order =
       let taken : fs.manifest ≡ None → takes_all (units_of fs.entries ts) ≡ true = λ none. ap takes_all (sym are) ∙ all (given ∙ none) in

@@ -15,7 +15,7 @@ use Rattle.rotor_base.specs.Unit.{unit_of}
 use Rattle.unit_order.specs.Heads.{is_among}
 use Rattle.project_reading.specs.Units.{unit_names}
 
--- a name stands before each of these
+-- a name is before each of these
 abbrev pub IsBelow : List ℕ → List (List ℕ) → Type 0
 IsBelow x ys = AllByRecursion (λ y. slice_cmp nat_cmp x y ≡ Less) ys
 
@@ -29,7 +29,7 @@ pub below_too : (k x : List ℕ) (xs : List (List ℕ)) → slice_cmp nat_cmp k 
 below_too k x [] l h = tt
 below_too k x (y ∷ xs) l h = (nat_list_cmp_total.trans k x y l h.0, below_too k x xs l h.1)
 
--- a name is another than one that it stands before, or behind
+-- a name is another than one that it is before, or behind
 pub other_before : (k x : List ℕ) → slice_cmp nat_cmp k x ≡ Less → bytes_eq x k ≡ false
 other_before k x p = sym (is_eq-slice_cmp x k) ∙ ap is_eq (nat_list_cmp_total.antisymm x k ∙ ap ordering_reverse p)
 

@@ -111,7 +111,7 @@ all_or_first number (s ∷ ss) [] why h k = h
 all_or_first number (s ∷ ss) (t ∷ ts) why h (inl k) = read_or_not number s t why h.0 k
 all_or_first number (s ∷ ss) (t ∷ ts) why h (inr k) = all_or_first (suc number) ss ts why h.1 k.2
 
--- ---- the unit that is told
+-- ---- the unit that a refusal names
 
 head_same : (u v : UnitTree) (us vs : List UnitTree) → u ∷ us ≡ v ∷ vs → u ≡ v
 head_same u v us vs e = cc

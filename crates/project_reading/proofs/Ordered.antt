@@ -3,7 +3,7 @@ use Rattle.std.proofs.Common.{◌≡◌, ◌≢◌, ℕ, zero, suc, ◌+◌, ◌
 use Rattle.std.specs.List.{list_any}
 use Rattle.std.specs.Str.{bytes_eq}
 use Rattle.std.specs.Str.Lines.{lines}
-use Rattle.std.proofs.lemmas.Bool.{eqb-true}
+use Rattle.std.proofs.lemmas.Bool.{eqb-true, or_right, and_parts, not-true}
 use Rattle.std.proofs.lemmas.Slice.Eq.{bytes_eq-Decides}
 use Rattle.std.proofs.lemmas.List.Sums.{sum_by-cons}
 use Rattle.std.proofs.lemmas.List.Elements.{All-nil, All-cons, All-push}
@@ -51,14 +51,6 @@ both_true false false f g = refl
 
 -- ---- the units that are taken without a manifest
 
-not_true : (a : Bool) → not a ≡ true → a ≡ false
-not_true true h = cc
-not_true false h = refl
-
-left_true : (a b : Bool) → (a && b) ≡ true → a ≡ true
-left_true true b h = refl
-left_true false b h = h
-
 -- a unit that is taken next
 record IsNext (taken : List (List ℕ)) (vs : List UnitTree) (name : List ℕ) : Type 0 where
   fresh : is_among taken name ≡ false
@@ -77,15 +69,14 @@ next_is us taken (v ∷ vs) name h = by (not (is_among taken v.name) && is_ready
         let same : v.name ≡ name = cc in
         record {
           fresh = subst (λ x. is_among taken x ≡ false) same
-              (not_true (is_among taken v.name)
-              (left_true (not (is_among taken v.name)) (is_ready us taken v) p));
+              (not-true (is_among taken v.name) (and_parts (not (is_among taken v.name)) (is_ready us taken v) p).0);
           at = 0;
           inside = omega arith;
           named = same;
         }
     by false p q rest = let r = rest q in record { fresh = r.fresh; at = suc r.at; inside = omega (arith, r.inside); named = r.named }
 
--- what stands of the names that are taken, turn by turn
+-- what holds of the names that are taken, turn by turn
 record IsTaking (us : List UnitTree) (taken : List (List ℕ)) : Type 0 where
   once : AreDistinct taken
   named : (x : List ℕ) → is_among taken x ≡ true → is_among (names us) x ≡ true
@@ -95,10 +86,6 @@ name_at : (vs : List UnitTree) (k : ℕ) (x : List ℕ) → k < length vs → by
 name_at [] k x lt h = absurd (omega (arith, lt))
 name_at (v ∷ vs) zero x lt h = ap (λ b. b || is_among (names vs) x) h
 name_at (v ∷ vs) (suc k) x lt h = or_right (bytes_eq v.name x) (is_among (names vs) x) (name_at vs k x (omega (arith, lt)) h)
-  where
-    or_right : (a b : Bool) → b ≡ true → (a || b) ≡ true
-    or_right true b h = refl
-    or_right false b h = h
 
 by_either : (a b : Bool) (P : Type 0) → (a || b) ≡ true → (a ≡ true → P) → (b ≡ true → P) → P
 by_either true b P h f g = f refl
@@ -169,7 +156,10 @@ derived_is_order us apart all =
 abbrev pub is_named : List ℕ → SourceUnit → Bool
 is_named x u = bytes_eq u.name x
 
--- a unit gives this name, whichever of two names of units are given
+and_false : (b : Bool) → (b && false) ≡ false
+and_false true = refl
+and_false false = refl
+
 or_and : (a b c : Bool) → (c ≡ true → a ≡ false) → (a || (b && not c)) ≡ ((a || b) && not c)
 or_and true b true h = let bad : true ≡ false = h refl in cc
 or_and true b false h = refl
@@ -177,10 +167,6 @@ or_and false b c h = refl
 
 and_none : (a b c : Bool) → (a ≡ true → c ≡ true) → (b && not c) ≡ ((a || b) && not c)
 and_none true b true h = and_false b
-  where
-    and_false : (b : Bool) → (b && false) ≡ false
-    and_false true = refl
-    and_false false = refl
 and_none true b false h = let bad : false ≡ true = h refl in cc
 and_none false b c h = refl
 
@@ -234,7 +220,7 @@ lists_them ((b ∷ bs) ∷ ls) us h =
     record {
       once = (
         none_is y (filter is_filled ls)
-            (r.same y ∙ left_named us y y ∙ ap (λ q. list_any (is_named y) us && not q) (itself y) ∙ and_none_of (list_any (is_named y) us)),
+            (r.same y ∙ left_named us y y ∙ ap (λ q. list_any (is_named y) us && not q) (itself y) ∙ and_false (list_any (is_named y) us)),
         r.once,
       );
       same = λ x.
@@ -242,10 +228,6 @@ lists_them ((b ∷ bs) ∷ ls) us h =
           (λ e. ap (λ z. list_any (is_named z) us) (sym ((bytes_eq-Decides y x).0 e)) ∙ t.0)
           (r.same x ∙ left_named us x y);
     }
-  where
-    and_none_of : (b : Bool) → (b && false) ≡ false
-    and_none_of true = refl
-    and_none_of false = refl
 
 units_named : (us : List UnitTree) (x : List ℕ)
     → list_any (is_named x) (map (λ u. record { name = u.name; is_body = true }) us) ≡ is_among (names us) x

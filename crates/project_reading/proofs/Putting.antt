@@ -17,7 +17,7 @@ use Rattle.project_reading.proofs.Names.{same_name, other_before}
 use Rattle.project_reading.proofs.Parts.{itself}
 
 module _ (body : Bool) (n : List ℕ) (t : FileTree) where
-  -- the unit does not stand before the name
+  -- the unit is not before the name
   abbrev is_place : trees.UnitTree → Bool
   is_place u = not (is_gt (slice_cmp nat_cmp n u.name))
 

@@ -67,7 +67,7 @@ sources_refused k ss s ts why lt is h r = elim r [
   | inr memory ↦ inr memory
 ]
 
--- what stands once a turn is over, from what stood before it
+-- what holds after a turn, from what held before it
 pub trees_more : (k : ℕ) (ss : List SourceFile) (s : SourceFile) (ts : List Source) (t : Source) → k < length ss → s ≡ get_or ss k s
     → ReadAll 0 (take k ss) (map view_file ts) → ReadsAs k s (view_file t) → ReadAll 0 (take (k + 1) ss) (map view_file (ts ++ t ∷ []))
 trees_more k ss s ts t lt is h r =

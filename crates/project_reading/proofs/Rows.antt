@@ -58,7 +58,7 @@ parts : units_of (file "A.ml" "" ∷ file "B.ml" "" ∷ file "a.mli" "" ∷ []) 
 unfolding unit_of ends_stem
 parts = refl
 
--- `B.ml` stands before `a.ml`, and the unit `A` before the unit `B`
+-- `B.ml` is before `a.ml`, and the unit `A` before the unit `B`
 turned : units_of (file "B.ml" "" ∷ file "a.ml" "" ∷ []) (body 0 [] ∷ body 1 [] ∷ []) ≡ unit "A" (body 1 []) ∷ unit "B" (body 0 []) ∷ []
 unfolding unit_of ends_stem
 turned = refl
@@ -82,7 +82,7 @@ derived = refl
 given : in_order pair (order_of pair (Some (codes "A\n\nB\n"))) ≡ pair
 given = refl
 
--- `A` and `B` need each other, and `C` needs `A`: `A` is told
+-- `A` and `B` need each other, and `C` needs `A`: the refusal names `A`
 abbrev ring : List pure.UnitTree
 ring = unit "A" (body 0 ("B" ∷ [])) ∷ unit "B" (body 1 ("A" ∷ [])) ∷ unit "C" (body 2 ("A" ∷ [])) ∷ []
 

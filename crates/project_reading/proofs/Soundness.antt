@@ -2,6 +2,7 @@
 use Rattle.std.proofs.Common.{◌≡◌, ◌≢◌, ℕ, suc, ◌+◌, ◌<◌, ◌≤◌, List, [], ◌∷◌, ◌++◌, All, Bool, true, false, ◌&&◌, ◌||◌, cond, Option, Some, None, map, length, get_or, refl, ap, sym, subst, ◌∙◌, arith}
 use Rattle.std.specs.Bool.{beq}
 use Rattle.std.specs.Str.{bytes_eq}
+use Rattle.std.proofs.lemmas.Bool.{or_right}
 use Rattle.std.proofs.lemmas.Slice.Eq.{bytes_eq-Decides}
 use Rattle.std.proofs.lemmas.List.Elements.{All-nil, All-cons, All-append, All-head, All-tail, All-map, All-weaker}
 use Rattle.rotor_base.proofs.Kept.{small_files}
@@ -160,7 +161,7 @@ module _ (ss : List SourceFile) (ts : List FileTree) (small : All (λ s. length 
       (All-append (λ n. name ≢ unit_of (source_at ss n).name) (part_files (part_of false x ss ts)) (unit_files (map (unit_from ss ts) ns))
       (part false) (others name ns (All-tail (λ y. name ≢ y) x ns h)))
 
-  -- lists that are told apart by a fact have no number in common
+  -- lists that differ in a fact of all their numbers have no number in common
   apart : (Q : ℕ → Type 0) (xs ys : List ℕ) → AreDistinct xs → AreDistinct ys → All Q xs → All (λ n. Q n → ⊥) ys → AreDistinct (xs ++ ys)
   apart Q [] ys h k q r = k
   apart Q (x ∷ xs) ys h k q r = (
@@ -231,10 +232,6 @@ all_among ns [] h = All-nil (λ x. is_among ns x ≡ true)
 all_among ns (y ∷ order) h =
     All-cons (λ x. is_among ns x ≡ true) y order (h y (ap (λ b. b || is_among order y) (itself y)))
     (all_among ns order (λ x e. h x (or_right (bytes_eq y x) (is_among order x) e)))
-  where
-    or_right : (a b : Bool) → b ≡ true → (a || b) ≡ true
-    or_right true b h = refl
-    or_right false b h = h
 
 named_from : (ss : List SourceFile) (ts : List FileTree) (ns : List (List ℕ)) (x : List ℕ) → is_among ns x ≡ true
     → unit_named (map (unit_from ss ts) ns) x ≡ unit_from ss ts x

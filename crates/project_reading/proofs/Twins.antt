@@ -1,12 +1,14 @@
 -- No two sources of one kind give one unit, so the tree of each source is a part of its unit.
 use Rattle.std.proofs.Common.{◌≡◌, ℕ, zero, suc, ◌+◌, ◌<◌, ◌⊎◌, inl, inr, List, [], ◌∷◌, Bool, true, false, ◌&&◌, ◌||◌, cond, Option, Some, None, option_map, map, length, get_or, refl, ap, sym, subst, ◌∙◌, arith}
-use Rattle.std.specs.Prelude.{Contains}
+use Rattle.std.specs.Prelude.{Contains, slice_get}
 use Rattle.std.specs.Bool.{beq}
 use Rattle.std.specs.List.{list_any, fold}
 use Rattle.std.specs.Ordering.{nat_cmp, is_lt}
 use Rattle.std.specs.Cmp.Lexicographic.{slice_cmp}
 use Rattle.std.specs.Str.{bytes_eq}
-use Rattle.std.proofs.lemmas.Option.{slice_get_within, get_or_from_slice_get}
+use Rattle.std.proofs.lemmas.Bool.{or_right}
+use Rattle.std.proofs.lemmas.List.{length-map, get_or-map}
+use Rattle.std.proofs.lemmas.Option.{slice_get_within, slice_get-get_or, get_or_from_slice_get}
 use Rattle.std.proofs.lemmas.Slice.Eq.{bytes_eq-Decides}
 use Rattle.rotor_base.specs.Files as files
 use Rattle.rotor_base.specs.Files.{FileSet, IsProject, are_twins, doubled_units, double_unit, least_word, lesser}
@@ -17,7 +19,7 @@ use Rattle.rotor_base.specs.Stem.{is_body_name}
 use Rattle.rotor_base.specs.Unit.{unit_of}
 use Rattle.ml_syntax.specs.Tree.{FileTree, Body, no_item, UnitTree}
 use Rattle.unit_order.specs.Heads.{is_among}
-use Rattle.project_reading.specs.Laws.{TreesAreParts}
+use Rattle.project_reading.specs.Laws.{TreesAreParts, PartsAreTrees}
 use Rattle.project_reading.specs.Source.{ReadsAs}
 use Rattle.project_reading.specs.Sources.{ReadAll}
 use Rattle.project_reading.specs.Units.{part_of, unit_from}
@@ -25,7 +27,7 @@ use Rattle.project_reading.proofs.Names.{among_names}
 use Rattle.project_reading.proofs.Linked.{names_are, no_double, order_of_units}
 use Rattle.project_reading.proofs.OneReading.{one_tree}
 use Rattle.project_reading.proofs.Parts.{itself, none_left, none_right}
-use Rattle.project_reading.proofs.Soundness.{source_at, no_source, IsMadeOf, made_of}
+use Rattle.project_reading.proofs.Soundness.{source_at, no_source, IsMadeOf, made_of, part_is}
 
 -- ---- no unit is doubled
 
@@ -113,10 +115,6 @@ given_at [] k lt = absurd (omega (arith, lt))
 given_at (s ∷ ss) zero lt = ap (λ b. b || list_any (λ x. bytes_eq (unit_of x.name) (unit_of s.name)) ss) (itself (unit_of s.name))
 given_at (s ∷ ss) (suc k) lt = or_right (bytes_eq (unit_of s.name) (unit_of (source_at ss k).name))
     (list_any (λ x. bytes_eq (unit_of x.name) (unit_of (source_at ss k).name)) ss) (given_at ss k (omega (arith, lt)))
-  where
-    or_right : (a b : Bool) → b ≡ true → (a || b) ≡ true
-    or_right true b h = refl
-    or_right false b h = h
 
 there : (f : List ℕ → UnitTree) (order : List (List ℕ)) (x : List ℕ) → is_among order x ≡ true → Contains (map f order) (f x)
 there f [] x h = cc
@@ -160,3 +158,26 @@ trees_are_parts fs project h r number source tree got read =
       body_or_face fs.entries r.trees
           (is_body_name (source_at fs.entries number).name) x tree part,
     )
+
+-- ---- the source of a part
+
+from_name : (f : List ℕ → UnitTree) (order : List (List ℕ)) (u : UnitTree) → Contains (map f order) u → (x : List ℕ) × (f x ≡ u)
+from_name f order u c =
+    let inside : c.0 < length order = omega (arith, c.1, length-map order f) in
+    (get_or order c.0 [], sym (get_or-map f order c.0 [] u inside) ∙ c.2)
+
+pub parts_are_trees : PartsAreTrees
+parts_are_trees fs project h r u tree c part =
+    let ss = fs.entries in
+    let m = made_of fs r.trees project h (order_of_units fs r.trees h r.taken) r.linked in
+    let named = from_name (unit_from ss r.trees) m.order u (subst (λ us. Contains us u) m.made c) in
+    elim part [
+      | inl e ↦ source_of ss r.trees true named.0 tree r.read (ap (λ v. v.body) named.1 ∙ e)
+      | inr e ↦ source_of ss r.trees false named.0 tree r.read (ap (λ v. v.face) named.1 ∙ e)
+    ]
+  where
+    source_of : (ss : List SourceFile) (ts : List FileTree) (b : Bool) (x : List ℕ) (tree : FileTree) → ReadAll 0 ss ts → part_of b x ss ts ≡ Some tree
+        → (number : ℕ) × (source : SourceFile) × (slice_get ss number ≡ Some source) × ReadsAs number source tree
+    source_of ss ts b x tree read e =
+        let p = part_is b x 0 ss ts tree read e in
+        (p.at, source_at ss p.at, slice_get-get_or ss p.at no_source p.inside, subst (λ n. ReadsAs n (source_at ss p.at) tree) (from_zero p.at) p.read)

@@ -1,4 +1,4 @@
--- How the tree of a further source comes to the units, which stand in byte order of their names.
+-- How the tree of a further source is added to units, which are in byte order of their names.
 use Rattle.std.specs.Prelude.{ℕ, List, [], ◌∷◌, Bool, true, false, Some, None}
 use Rattle.std.specs.Cmp.Lexicographic.{slice_cmp}
 use Rattle.std.specs.Ordering.{nat_cmp, match_ordering}
@@ -13,7 +13,7 @@ with_part false tree u = record { name = u.name; body = u.body; face = Some tree
 abbrev pub empty_unit : List ℕ → UnitTree
 empty_unit name = record { name = name; body = None; face = None }
 
--- the tree comes to the unit of this name, or a unit of this name comes to its place
+-- the tree is added to the unit of this name, and a new unit is inserted at its place if there is none
 abbrev pub put_part : Bool → List ℕ → FileTree → List UnitTree → List UnitTree
 put_part body name tree [] = with_part body tree (empty_unit name) ∷ []
 put_part body name tree (u ∷ us) =

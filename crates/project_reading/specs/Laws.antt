@@ -30,3 +30,10 @@ TreesAreParts =
     (files : FileSet) (project : List UnitTree) → IsProject files → Reads files project
     → (number : ℕ) (source : SourceFile) (tree : FileTree) → slice_get files.entries number ≡ Some source → ReadsAs number source tree
     → (u : UnitTree) × Contains project u × ((u.body ≡ Some tree) ⊎ (u.face ≡ Some tree))
+
+-- the body and the interface of each unit of the project are what a source is read as
+abbrev pub PartsAreTrees : Type 0
+PartsAreTrees =
+    (files : FileSet) (project : List UnitTree) → IsProject files → Reads files project
+    → (u : UnitTree) (tree : FileTree) → Contains project u → (u.body ≡ Some tree) ⊎ (u.face ≡ Some tree)
+    → (number : ℕ) × (source : SourceFile) × (slice_get files.entries number ≡ Some source) × ReadsAs number source tree

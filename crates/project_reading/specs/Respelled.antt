@@ -3,12 +3,13 @@ use Rattle.std.specs.Prelude.{◌≡◌, ℕ, suc, List, [], ◌∷◌, Option, 
 use Rattle.rotor_base.specs.Files.{FileSet, IsProject}
 use Rattle.rotor_base.specs.declared.source.SourceFile.{SourceFile}
 use Rattle.ml_lexer.specs.Lexed.{Lexeme, Lexed}
-use Rattle.ml_lexer.specs.Respelled.{respelled}
+use Rattle.ml_lexer.specs.Respelled.{respelled, respelled_lexemes}
 use Rattle.ml_syntax.specs.Places.{sites}
 use Rattle.ml_syntax.specs.Respelled.{Spelling, spell_file}
 use Rattle.ml_syntax.specs.RespelledFile.{new_words, ChangesNames}
 use Rattle.ml_syntax.specs.Tree.{FileTree, Body, Face, UnitTree}
 use Rattle.project_reading.specs.Reads.{Reads}
+use Rattle.project_reading.specs.Sources.{AreCut}
 
 -- for each file, the new word of a token and its word
 abbrev pub Spellings : Type 0
@@ -45,8 +46,22 @@ AreRespelled w number [] (new ∷ news) = ⊥
 AreRespelled w number (old ∷ olds) [] = ⊥
 AreRespelled w number (old ∷ olds) (new ∷ news) = IsRespelled (w number) old new × AreRespelled w (suc number) olds news
 
--- Respelling keeps the reading: where names of places alone are changed, to value names, the respelled files are read
--- as the respelled project, with the units in the same order.
+-- the lexemes of these sources, numbered from here, respelled: as many, of the same classes
+abbrev pub respelled_lists : Spellings → ℕ → List (List Lexeme) → List (List Lexeme)
+respelled_lists w number [] = []
+respelled_lists w number (xs ∷ lists) = respelled_lexemes xs (new_words (w number) 1 xs) ∷ respelled_lists w (suc number) lists
+
+-- Respelling keeps the lexemes. If names of places alone are changed, to value names, the respelled sources are cut into
+-- the respelled lexemes.
+abbrev pub RespellingKeepsTheLexemes : Type 0
+RespellingKeepsTheLexemes =
+    (w : Spellings) (old new : FileSet) (project : List UnitTree) (lists : List (List Lexeme))
+    → IsProject old → Reads old project → All (λ u. ChangesNamesIn w u.body × ChangesNamesIn w u.face) project
+    → AreRespelled w 0 old.entries new.entries → AreCut old.entries lists
+    → AreCut new.entries (respelled_lists w 0 lists)
+
+-- Respelling keeps the reading. If names of places alone are changed, to value names, the respelled files are read as
+-- the respelled project. Its units have the same order.
 abbrev pub RespellingKeepsTheReading : Type 0
 RespellingKeepsTheReading =
     (w : Spellings) (old new : FileSet) (project : List UnitTree)

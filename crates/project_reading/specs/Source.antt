@@ -20,7 +20,7 @@ use Rattle.parse_module.specs.Whole.{IsTreeOf, HasNoTree}
 abbrev pub kind_of_source : List ℕ → FileKind
 kind_of_source name = if is_body_name name then kind.Body else kind.Face
 
--- lexemes as tokens: the rules of forms and of nesting speak of tokens, whose bytes are lent
+-- A lexeme as a token of the program. The rules of forms and of nesting are defined on tokens.
 abbrev pub token_of : Lexeme → Token
 token_of x = record { class = x.class; start = x.start; end = x.end; bytes = record { ref_ptr = (0, 0); now = x.bytes } }
 
@@ -35,7 +35,7 @@ form_among xs = first_form 1 (tokens_of xs)
 abbrev pub IsDeepAt : List Lexeme → Option ℕ → Type 0
 IsDeepAt xs deep = DeepIs (tokens_of xs) deep
 
--- the bytes are cut into these lexemes, among them stands no refused form, and their nesting is never over the limit
+-- the bytes are cut into these lexemes, which have no refused form, and their nesting is never over the limit
 pub record IsPlain (bytes : List ℕ) (xs : List Lexeme) : Type 0 where
   pub cut : Lexed bytes xs
   pub no_form : form_among xs ≡ None
@@ -56,7 +56,7 @@ pub data IsUnread (number : ℕ) (source : SourceFile) : Refusal → Type 0 wher
   bad : (offset : ℕ) → LexFault source.bytes (Bad offset) → IsUnread number source (refusal.Lex number offset)
   -- at the offset a word is too long
   long_name : (offset : ℕ) → LexFault source.bytes (LongName offset) → IsUnread number source (refusal.LongName number offset)
-  -- the first refused form stands at this token
+  -- the first refused form begins at this token
   form : (xs : List Lexeme) (token : ℕ) (kind : FormKind) → Lexed source.bytes xs → form_among xs ≡ Some (token, kind)
       → IsUnread number source (refusal.Form (place number token) kind)
   -- there is none, and this is the first token after which the nesting is over the limit

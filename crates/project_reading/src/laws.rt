@@ -1,6 +1,7 @@
 //! The laws of reading, each as the contract of a function.
 
-ghost use Rattle.project_reading.specs.Laws.{OneProject, OneRefusal, ReadIsSound, ReadOrRefused, TreesAreParts};
+ghost use Rattle.project_reading.specs.Laws.{OneProject, OneRefusal, PartsAreTrees, ReadIsSound, ReadOrRefused, TreesAreParts};
+ghost use Rattle.project_reading.specs.Respelled.{RespellingKeepsTheLexemes};
 
 /// Files are read as one project at most, or refused for one reason at most, and not both.
 pub fn one_reading()
@@ -14,7 +15,14 @@ pub fn read_is_sound()
     ensures { ReadIsSound }
 {}
 
-/// The tree of each source is the body or the interface of a unit of the project.
+/// The tree of each source is the body or the interface of a unit of the project, and each body and interface is the tree
+/// of a source.
 pub fn trees_are_parts()
-    ensures { TreesAreParts }
+    ensures trees { TreesAreParts }
+    ensures parts { PartsAreTrees }
+{}
+
+/// If names of places alone are changed, to value names, the respelled sources are cut into the respelled lexemes.
+pub fn respelling_keeps_the_lexemes()
+    ensures { RespellingKeepsTheLexemes }
 {}

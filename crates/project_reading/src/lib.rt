@@ -1,5 +1,5 @@
-//! What reads the files of a project: each source is cut into lexemes and read as a tree, and the trees are put together
-//! as the units of a project, in the order of linking.
+//! What reads the files of a project. Each source is cut into lexemes and read as a tree. The trees are put together as
+//! the units of a project, in the order of linking.
 #![tactic(auto)]
 
 mod laws;
@@ -8,5 +8,5 @@ mod project;
 mod sources;
 mod units;
 
-pub use laws::{one_reading, read_is_sound, trees_are_parts};
+pub use laws::{one_reading, read_is_sound, respelling_keeps_the_lexemes, trees_are_parts};
 pub use project::{Read, read_project};

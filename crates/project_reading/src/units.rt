@@ -14,14 +14,14 @@ use rotor_base::{Memory, Name, SourceFile, source_unit};
 use std::alloc::Global;
 use std::cmp::Ordering;
 
-/// Whether a name stands behind another.
+/// Whether a name is behind another in byte order.
 fn is_behind(name: &[u8], other: &[u8]) -> bool
     ensures { result ≡ is_gt (slice_cmp nat_cmp name.now other.now) }
 {
     name.cmp(other) == Ordering::Greater
 }
 
-/// The position of the first unit that does not stand before this name.
+/// The position of the first unit that is not before this name.
 fn place_of(units: &[UnitTree], name: &[u8]) -> Option<usize>
     ensures { result ≡ position (λ unit. not (is_gt (slice_cmp nat_cmp name.now unit.name))) units.now }
 {

@@ -1,0 +1,13 @@
+//! The laws, each as the contract of a function.
+
+ghost use Rattle.respelled_reading.specs.Renamed.{RenamedFilesAreCut, WatchesGiveValueNames};
+
+/// Renamed files are cut into the respelled lexemes.
+pub fn renamed_files_are_cut()
+    ensures { RenamedFilesAreCut }
+{}
+
+/// The renaming of a watch gives value names.
+pub fn watches_give_value_names()
+    ensures { WatchesGiveValueNames }
+{}

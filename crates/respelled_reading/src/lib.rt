@@ -1,0 +1,6 @@
+//! The laws between a renaming of places and the reading of the renamed files.
+#![tactic(auto)]
+
+mod laws;
+
+pub use laws::{renamed_files_are_cut, watches_give_value_names};
