@@ -1,5 +1,5 @@
 -- Each ladder gives one refusal, and a target has one goal.
-use Rattle.std.proofs.Common.{◌≡◌, ℕ, suc, ◌≤◌, ◌⊎◌, refl, ap, sym, ◌∙◌, subst, inl, inr, arith, List, [], ◌∷◌, Option, Some, None}
+use Rattle.std.proofs.Common.{◌≡◌, ℕ, suc, ◌≤◌, ◌⊎◌, refl, ap, sym, ◌∙◌, subst, inl, inr, arith, List, [], ◌∷◌, Option, Some}
 use Rattle.std.specs.Prelude.{slice_get}
 use Rattle.rotor_base.specs.declared.place.Place.{Place}
 use Rattle.rotor_base.specs.declared.place.Goal.{Goal}
@@ -29,10 +29,10 @@ use Rattle.binding_model.specs.Renaming.{name_of}
 use Rattle.capture_check.specs.Fault.{Names as NamesOf, IsLeastRepeat, before, of_ref, of_link, IsFirstDiffering}
 use Rattle.capture_check.proofs.Before.{not_before, not_both, Upto}
 use Rattle.rename_model.specs.Ladder.{no_more, GivesOne, IsLeast}
-use Rattle.rename_model.specs.Target.{number_of, token_over, IsSpot, dotted, Names, Aims}
-use Rattle.rename_model.specs.Project.{IsDuplicate, IsHeavy, IsUnmatched, refusals_of_project}
+use Rattle.rename_model.specs.Target.{number_of, token_over, IsSpot, dotted, Names}
+use Rattle.rename_model.specs.Project.{IsDuplicate, IsHeavy, IsUnmatched}
 use Rattle.rename_model.specs.Bytes.{new_texts, IsRespelled, AreRespelled, position_with}
-use Rattle.rename_model.specs.Renaming.{watch_of, renamed, renamed_words, IsHit, IsPunAt, IsBlurredAt, IsOperator, IsBadName, IsSameName, IsOutside, IsPun, IsBlurred, IsGrown, IsClash, IsCapture, IsMislink, HasNoTarget, refusals_of_binder, ForTarget, refusals_of_renaming}
+use Rattle.rename_model.specs.Renaming.{watch_of, renamed, renamed_words, IsHit, IsPunAt, IsBlurredAt, IsOperator, IsBadName, IsSameName, IsOutside, IsPun, IsBlurred, IsGrown, IsClash, IsCapture, IsMislink, HasNoTarget, refusals_of_binder, ForTarget}
 use Rattle.rename_model.specs.Laws.{ProjectsAreRefusedOnce, TargetsHaveOneGoal, RenamingsAreRefusedOnce}
 
 -- ---- ladders

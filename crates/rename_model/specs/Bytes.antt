@@ -1,6 +1,5 @@
 -- Respell, on bytes: a source whose tokens take new words (the OCaml manual, "Lexical conventions").
 use Rattle.std.specs.Prelude.{◌≡◌, ℕ, suc, List, [], ◌∷◌, ◌++◌, Bool, Option, Some, None, option_map, take, not, bytes_eq, codes, filter, if◌then◌else◌}
-use Rattle.rotor_base.specs.declared.place.Place.{Place}
 use Rattle.rotor_base.specs.declared.token.Class.{Class}
 use Rattle.rotor_base.specs.declared.token.Class.TheVariants as class
 use Rattle.rotor_base.specs.declared.source.SourceFile.{SourceFile}

@@ -1,8 +1,5 @@
 -- Law: each ladder gives at most one refusal, and a target has one goal.
-use Rattle.std.specs.Prelude.{◌≡◌, List}
-use Rattle.rotor_base.specs.declared.place.Place.{Place}
-use Rattle.rotor_base.specs.declared.place.Foot.{Foot}
-use Rattle.rotor_base.specs.declared.source.SourceFile.{SourceFile}
+use Rattle.std.specs.Prelude.{List}
 use Rattle.rotor_base.specs.declared.target.Target.{Target}
 use Rattle.rotor_base.specs.Files.{FileSet}
 use Rattle.ml_syntax.specs.Tree.{UnitTree}

@@ -1,6 +1,5 @@
 -- The goal of a target: the binder that a target word names (this project's own).
 use Rattle.std.specs.Prelude.{◌≡◌, ℕ, suc, List, [], ◌∷◌, Bool, Option, Some, None, option_map, slice_get, bytes_eq, nat_le, nat_lt, ◌==◌, ◌&&◌, if◌then◌else◌}
-use Rattle.std.specs.List.{position}
 use Rattle.rotor_base.specs.declared.place.Place.{Place}
 use Rattle.rotor_base.specs.declared.place.Goal.{Goal}
 use Rattle.rotor_base.specs.declared.place.Goal.TheVariants.{Decl, Blur}
@@ -14,9 +13,14 @@ use Rattle.shape_core.specs.Shape.{Name, Opaque, Entries, none, or_else, or_valu
 use Rattle.binding_model.specs.Scopes.{after_units}
 use Rattle.binding_model.specs.Least.{IsBinder}
 
+-- the position of the first item that passes a test
+abbrev pub first_at : {X : Type 0} → (X → Bool) → List X → Option ℕ
+first_at test [] = None
+first_at test (x ∷ xs) = if test x then Some 0 else option_map suc (first_at test xs)
+
 -- the number of the source of a name: its position, from 0
 abbrev pub number_of : List SourceFile → Name → Option ℕ
-number_of files name = position (λ file. bytes_eq file.name name) files
+number_of files name = first_at (λ file. bytes_eq file.name name) files
 
 -- ---- by line and column
 
@@ -45,7 +49,7 @@ abbrev pub holds : ℕ → Lexeme → Bool
 holds offset x = nat_le x.start offset && nat_lt offset x.end
 
 abbrev pub lexeme_over : ℕ → List Lexeme → Option ℕ
-lexeme_over offset xs = option_map suc (position (holds offset) xs)
+lexeme_over offset xs = option_map suc (first_at (holds offset) xs)
 
 abbrev pub and_then : {A B : Type 0} → Option A → (A → Option B) → Option B
 and_then None f = None

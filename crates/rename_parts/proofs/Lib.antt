@@ -1,0 +1,5 @@
+pub mod Searches
+pub mod Spots
+pub mod Walks
+pub mod Leasts
+pub mod Marks
