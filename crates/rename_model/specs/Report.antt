@@ -1,16 +1,17 @@
 -- What `footprint` shows, and what `rename` has done.
-use Rattle.std.specs.Prelude.{◌≡◌, ℕ, suc, List, [], ◌∷◌, ◌++◌, Bool, map, filter, length, ◌==◌, if◌then◌else◌}
+use Rattle.std.specs.Prelude.{◌≡◌, ℕ, suc, List, [], ◌∷◌, ◌++◌, Bool, false, map, filter, length, ◌==◌, if◌then◌else◌}
 use Rattle.std.specs.List.{list_any}
 use Rattle.rotor_base.specs.declared.place.Place.{Place}
 use Rattle.rotor_base.specs.declared.place.Ref.{Ref}
 use Rattle.rotor_base.specs.declared.place.Facts.{Facts}
 use Rattle.rotor_base.specs.declared.place.Foot.{Foot}
+use Rattle.rotor_base.specs.declared.place.Goal.{Goal}
 use Rattle.rotor_base.specs.declared.place.Goal.TheVariants.{Decl}
 use Rattle.rotor_base.specs.declared.report.FootReport.{FootReport}
 use Rattle.rotor_base.specs.declared.report.Renamed.{Renamed}
 use Rattle.rotor_base.specs.declared.source.SourceFile.{SourceFile}
 use Rattle.rotor_base.specs.Files.{FileSet}
-use Rattle.rotor_base.specs.Place.{same_goal}
+use Rattle.rotor_base.specs.Place.{same_place}
 use Rattle.ml_syntax.specs.Tree.{UnitTree}
 use Rattle.shape_core.specs.Shape.{Name}
 use Rattle.binding_model.specs.Facts.{facts}
@@ -18,12 +19,17 @@ use Rattle.binding_model.specs.Renaming.{name_of}
 use Rattle.rename_model.specs.Bytes.{AreRespelled}
 use Rattle.rename_model.specs.Renaming.{watch_of, renamed_words}
 
--- the references to members of a footprint
-abbrev pub leads_in : Foot → Ref → Bool
-leads_in foot r = list_any (λ d. same_goal (Decl d) r.goal) foot.decls
+-- a place is a member of a footprint, and a goal is the declaration of one
+abbrev pub is_in : Foot → Place → Bool
+is_in foot p = list_any (same_place p) foot.decls
 
+abbrev pub leads_in : Foot → Goal → Bool
+leads_in foot (Decl d) = is_in foot d
+leads_in foot _ = false
+
+-- the references to members of a footprint
 abbrev pub refs_to : Foot → List Ref → List Ref
-refs_to foot refs = filter (leads_in foot) refs
+refs_to foot refs = filter (λ r. leads_in foot r.goal) refs
 
 -- the name of a binder, its footprint, and the number of references to it
 abbrev pub shown_of : List UnitTree → Place → Foot → FootReport

@@ -3,3 +3,4 @@ pub mod Spots
 pub mod Walks
 pub mod Leasts
 pub mod Marks
+pub mod Sets

@@ -1,1 +1,2 @@
 pub mod Binders
+pub mod Members

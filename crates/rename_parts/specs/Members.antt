@@ -1,0 +1,18 @@
+-- Sets of places.
+use Rattle.std.specs.Prelude.{◌≡◌, Bool, false}
+use Rattle.std.specs.BTreeSet.{BTreeSet, contains}
+use Rattle.rotor_base.specs.declared.place.Foot.{Foot}
+use Rattle.rotor_base.specs.declared.place.Place.{Place}
+use Rattle.rotor_base.specs.declared.place.Goal.{Goal}
+use Rattle.rotor_base.specs.declared.place.Goal.TheVariants.{Decl}
+use Rattle.dependency_kernel.specs.Neighbors.{place_cmp}
+use Rattle.rename_model.specs.Report.{is_in}
+
+-- the set has the members of a footprint, and no more
+abbrev pub IsSetOf : Foot → BTreeSet Place → Type 0
+IsSetOf foot set = (p : Place) → contains place_cmp set p ≡ is_in foot p
+
+-- a goal is a declaration in a set
+abbrev pub leads_into : BTreeSet Place → Goal → Bool
+leads_into set (Decl d) = contains place_cmp set d
+leads_into set _ = false
