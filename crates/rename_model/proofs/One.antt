@@ -131,7 +131,7 @@ one_spot files name spot p q h k =
     let t : p.token ≡ q.token = some_is p.token q.token (sym h.token ∙ (two (λ (z : SourceFile) (xs : List Lexeme). token_over spot z.bytes xs) h.source k.source h.lexemes k.lexemes s x ∙ k.token)) in
     two (λ m n. record { file = m; token = n }) p.file q.file p.token q.token f t
 
-one_name : (files : FileSet) (us : List UnitTree) (target : Target) → GivesOne (Names files us target)
+pub one_name : (files : FileSet) (us : List UnitTree) (target : Target) → GivesOne (Names files us target)
 one_name files us (At file token) p q h k =
     two (λ m n. record { file = m; token = n }) p.file q.file p.token q.token (both_some (number_of files.entries file) p.file q.file h.0 k.0) (sym h.1 ∙ k.1)
 one_name files us (Spot file line column) p q h k = one_spot files.entries file (line, column) p q h k

@@ -1,6 +1,6 @@
 //! The place that a target names.
 
-ghost use Rattle.std.specs.Prelude.{◌≡◌, ◌≤◌, length};
+ghost use Rattle.std.specs.Prelude.{◌≡◌, ◌<◌, ◌≤◌, IfSome, length};
 ghost use Rattle.std.specs.Option.{option_copied};
 ghost use Rattle.ml_lexer.specs.Lexed.{view_tokens};
 ghost use Rattle.shape_core.specs.Node.{entries_of};
@@ -13,7 +13,8 @@ use shape_core::{Scope, Shared, mod_in, mod_of, mty_in, mty_of, val_in, val_of};
 /// The number of the source of a name.
 pub fn number_of(files: &[SourceFile], name: &[u8]) -> Option<u32>
     requires { length files.now ≤ 2000 }
-    ensures { result ≡ number_of files.now name.now }
+    ensures found { result ≡ number_of files.now name.now }
+    ensures within { IfSome result (λ number. number < length files.now) }
 {
     let mut number: u32 = 0;
     for file in files {
