@@ -25,14 +25,16 @@ use Rattle.shape_core.specs.Respell.{Words}
 use Rattle.binding_model.specs.Scopes.{after_units}
 use Rattle.binding_model.specs.Facts.{facts, unmatched}
 use Rattle.binding_model.specs.Sums.{heavy}
-use Rattle.binding_model.specs.Renaming.{name_of}
 use Rattle.capture_check.specs.Fault.{Names as NamesOf, IsLeastRepeat, before, of_ref, of_link, IsFirstDiffering}
 use Rattle.capture_check.proofs.Before.{not_before, not_both, Upto}
 use Rattle.rename_model.specs.Ladder.{no_more, GivesOne, IsLeast}
 use Rattle.rename_model.specs.Target.{number_of, token_over, IsSpot, dotted, Names}
 use Rattle.rename_model.specs.Project.{IsDuplicate, IsHeavy, IsUnmatched}
-use Rattle.rename_model.specs.Bytes.{new_texts, IsRespelled, AreRespelled, position_with}
-use Rattle.rename_model.specs.Renaming.{watch_of, renamed, renamed_words, IsHit, IsPunAt, IsBlurredAt, IsOperator, IsBadName, IsSameName, IsOutside, IsPun, IsBlurred, IsGrown, IsClash, IsCapture, IsMislink, HasNoTarget, refusals_of_binder, ForTarget}
+use Rattle.ml_syntax.specs.RespelledFile.{new_words}
+use Rattle.binding_model.specs.Renaming.{in_file, name_of}
+use Rattle.rename_model.specs.Foot.{IsHit}
+use Rattle.rename_model.specs.Bytes.{IsRespelled, AreRespelled, position_with}
+use Rattle.rename_model.specs.Renaming.{watch_of, renamed, renamed_words, IsPunAt, IsBlurredAt, IsOperator, IsBadName, IsSameName, IsOutside, IsPun, IsBlurred, IsGrown, IsClash, IsCapture, IsMislink, HasNoTarget, refusals_of_binder, ForTarget}
 use Rattle.rename_model.specs.Laws.{ProjectsAreRefusedOnce, TargetsHaveOneGoal, RenamingsAreRefusedOnce}
 
 -- ---- ladders
@@ -146,7 +148,7 @@ one_source : (w : Words) (file : ℕ) (old a b : SourceFile) → IsRespelled w f
 one_source w file old a b h k =
     let x : h.lexemes ≡ k.lexemes = one_lexed h.cut k.cut in
     let n : a.name ≡ b.name = h.name ∙ sym k.name in
-    let c : a.bytes ≡ b.bytes = h.bytes ∙ (ap (λ (xs : List Lexeme). respelled old.bytes xs (new_texts w file 1 xs)) x ∙ sym k.bytes) in
+    let c : a.bytes ≡ b.bytes = h.bytes ∙ (ap (λ (xs : List Lexeme). respelled old.bytes xs (new_words (in_file w file) 1 xs)) x ∙ sym k.bytes) in
     two (λ y z. record { name = y; bytes = z }) a.name b.name a.bytes b.bytes n c
 
 pub one_sources : (w : Words) (n : ℕ) (olds a b : List SourceFile) → AreRespelled w n olds a → AreRespelled w n olds b → a ≡ b
@@ -157,10 +159,10 @@ one_sources w n (o ∷ olds) [] b h k = absurd h
 one_sources w n (o ∷ olds) (x ∷ a) [] h k = absurd k
 one_sources w n (o ∷ olds) (x ∷ a) (y ∷ b) h k = two (λ z zs. z ∷ zs) x y a b (one_source w n o x y h.0 k.0) (one_sources w (suc n) olds a b h.1 k.1)
 
-one_operator : (us : List UnitTree) (d : Place) → GivesOne (IsOperator us d)
-one_operator us d refusal.Operator refusal.Operator h k = refl
-one_operator us d refusal.Operator _ h k = absurd k
-one_operator us d _ _ h k = absurd h
+one_operator : (us : List UnitTree) (foot : Foot) → GivesOne (IsOperator us foot)
+one_operator us foot refusal.Operator refusal.Operator h k = refl
+one_operator us foot refusal.Operator _ h k = absurd k
+one_operator us foot _ _ h k = absurd h
 
 one_bad_name : (new : Name) → GivesOne (IsBadName new)
 one_bad_name new refusal.BadName refusal.BadName h k = refl
@@ -178,7 +180,7 @@ one_outside foot (refusal.Outside p) _ h k = absurd k
 one_outside foot _ _ h k = absurd h
 
 one_pun : (us : List UnitTree) (foot : Foot) → GivesOne (IsPun us foot)
-one_pun us foot (refusal.Pun p) (refusal.Pun q) h k = ap (λ (x : Place). refusal.Pun x) (one_least (λ z. IsHit (facts us) foot z × IsPunAt us z) p q h k)
+one_pun us foot (refusal.Pun p) (refusal.Pun q) h k = ap (λ (x : Place). refusal.Pun x) (one_least (λ z. IsHit us foot z × IsPunAt us z) p q h k)
 one_pun us foot (refusal.Pun p) _ h k = absurd k
 one_pun us foot _ _ h k = absurd h
 
@@ -221,7 +223,7 @@ pub one_binder : (sources : List SourceFile) (us : List UnitTree) (d : Place) (f
 one_binder sources us d foot new =
     let w = watch_of us d foot new in
     let vs = renamed us w in
-    rung (IsOperator us d) (one_operator us d)
+    rung (IsOperator us foot) (one_operator us foot)
     (rung (IsBadName new) (one_bad_name new)
     (rung (IsSameName us d new) (one_same_name us d new)
     (rung (IsOutside foot) (one_outside foot)

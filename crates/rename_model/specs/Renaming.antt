@@ -1,5 +1,5 @@
 -- The refusals of a renaming, in their order, each a condition of its own.
-use Rattle.std.specs.Prelude.{◌≡◌, ◌⊎◌, List, Some, Contains, IsTrue, IsFalse}
+use Rattle.std.specs.Prelude.{◌≡◌, List, Some, Contains, IsTrue, IsFalse}
 use Rattle.rotor_base.specs.declared.place.Place.{Place}
 use Rattle.rotor_base.specs.declared.place.Goal.{Goal}
 use Rattle.rotor_base.specs.declared.place.Goal.TheVariants.{Decl}
@@ -15,7 +15,6 @@ use Rattle.rotor_base.specs.Files.{FileSet, are_over}
 use Rattle.rotor_base.specs.Name.{is_value_name}
 use Rattle.ml_syntax.specs.Places.{Site}
 use Rattle.ml_syntax.specs.Tree.{UnitTree}
-use Rattle.dependency_kernel.specs.Foot.{IsFoot}
 use Rattle.shape_core.specs.Shape.{Name}
 use Rattle.shape_core.specs.Respell.{Words}
 use Rattle.binding_model.specs.Steps.{a_ref}
@@ -24,26 +23,11 @@ use Rattle.binding_model.specs.Renaming.{places, at_place, name_of, respell, wor
 use Rattle.binding_model.specs.Local.{renaming}
 use Rattle.capture_check.specs.Fault.{before, IsLeastRepeat, IsFirstDiffering, of_ref, of_link}
 use Rattle.rename_model.specs.Ladder.{no_more, IsLeast}
+use Rattle.rename_model.specs.Foot.{IsTheFoot, IsIn, IsHit}
 use Rattle.rename_model.specs.Target.{Aims}
 use Rattle.rename_model.specs.Bytes.{AreRespelled, position_with}
 
 -- ---- what a renaming is about
-
--- the footprint of a binder
-abbrev pub IsTheFoot : List UnitTree → Place → Foot → Type 0
-IsTheFoot us d foot = IsFoot (facts us).links d foot
-
--- a place is a member of the footprint
-abbrev pub IsIn : Foot → Place → Type 0
-IsIn foot p = Contains foot.decls p
-
--- a goal is the declaration of a member
-abbrev pub LeadsIn : Foot → Goal → Type 0
-LeadsIn foot g = (d : Place) × IsIn foot d × (g ≡ Decl d)
-
--- a place takes the new word: it is a member, or a reference to one
-abbrev pub IsHit : Facts → Foot → Place → Type 0
-IsHit fs foot p = IsIn foot p ⊎ ((g : Goal) × Contains fs.refs (a_ref p g) × LeadsIn foot g)
 
 -- the old name, the new one, and the footprint
 abbrev pub watch_of : List UnitTree → Place → Foot → Name → Watch
@@ -59,10 +43,14 @@ renamed_words us w = words_of (renaming w) (facts us).refs
 
 -- ---- the conditions
 
--- 12: the target's name is an operator
-abbrev pub IsOperator : List UnitTree → Place → Refusal → Type 0
-IsOperator us d refusal.Operator = (x : Site) × (at_place (places us) d ≡ Some x) × IsTrue x.operator
-IsOperator us d _ = ⊥
+-- a place whose name is an operator
+abbrev pub IsOperatorAt : List UnitTree → Place → Type 0
+IsOperatorAt us p = (x : Site) × (at_place (places us) p ≡ Some x) × IsTrue x.operator
+
+-- 12: the target's name, which all members and all references to them have, is an operator
+abbrev pub IsOperator : List UnitTree → Foot → Refusal → Type 0
+IsOperator us foot refusal.Operator = (p : Place) × IsHit us foot p × IsOperatorAt us p
+IsOperator us foot _ = ⊥
 
 -- 13: the new name is no value name
 abbrev pub IsBadName : Name → Refusal → Type 0
@@ -85,7 +73,7 @@ IsPunAt us p = (x : Site) × (at_place (places us) p ≡ Some x) × IsTrue x.pun
 
 -- 16: a member, or a reference to one, is a pun; the least one
 abbrev pub IsPun : List UnitTree → Foot → Refusal → Type 0
-IsPun us foot (refusal.Pun at) = IsLeast (λ p. IsHit (facts us) foot p × IsPunAt us p) at
+IsPun us foot (refusal.Pun at) = IsLeast (λ p. IsHit us foot p × IsPunAt us p) at
 IsPun us foot _ = ⊥
 
 -- a place at which a Dark entry hides what a member is: a reference with a member behind its Blur; a member that is the
@@ -131,7 +119,7 @@ HasNoTarget files us target _ = ⊥
 -- the refusals of a renaming of a binder and its footprint, in their order
 abbrev pub refusals_of_binder : List SourceFile → List UnitTree → Place → Foot → Name → Refusal → Type 0
 refusals_of_binder sources us d foot new =
-    before (IsOperator us d)
+    before (IsOperator us foot)
     (before (IsBadName new)
     (before (IsSameName us d new)
     (before (IsOutside foot)

@@ -42,7 +42,7 @@ fn binder_in(alloc: Global, part: &Option<FileTree>, place: Place) -> Result<Opt
 fn binder_of(alloc: Global, tree: &FileTree, place: Place) -> Result<Option<Mark>, Memory>
     ensures { IfOk result (λ found. found ≡ mark_at (file_places (Some (view_file tree.now))) place) }
 {
-    if number_of(tree) != place.file {
+    if number_of_file(tree) != place.file {
         return Ok(None);
     }
     let mut marks = binders(alloc, tree)?;
@@ -91,7 +91,7 @@ fn add_part(alloc: Global, list: &mut Vec<Place>, part: &Option<FileTree>) -> Re
 fn add_file(alloc: Global, list: &mut Vec<Place>, tree: &FileTree) -> Result<(), Memory>
     ensures { OnOk result (list.new.items ≡ list.old.items ++ map (λ e. e.0) (binding (file_places (Some (view_file tree.now))))) }
 {
-    let file = number_of(tree);
+    let file = number_of_file(tree);
     let marks = binders(alloc, tree)?;
     for mark in &marks {
         list.push(Place {
@@ -103,7 +103,7 @@ fn add_file(alloc: Global, list: &mut Vec<Place>, tree: &FileTree) -> Result<(),
 }
 
 /// The number of a file.
-fn number_of(tree: &FileTree) -> u32
+pub fn number_of_file(tree: &FileTree) -> u32
     ensures { result ≡ number_of (view_file tree.now) }
 {
     match tree {

@@ -1,9 +1,9 @@
 //! The links that lack their source.
 
 ghost use Rattle.std.specs.Prelude.{◌≡◌, Some};
-ghost use Rattle.binding_model.specs.Facts.{earlier, least, unmatched_items};
+ghost use Rattle.binding_model.specs.Facts.{least, unmatched_items};
 
-use capture_check::is_before;
+use crate::leasts::earlier;
 use rotor_base::{Goal, Link, Place};
 
 /// The least item of a link that lacks its source.
@@ -23,14 +23,4 @@ pub fn least_unmatched(links: &[Link]) -> Option<Place>
         }
     }
     least
-}
-
-/// The earlier of two places, of which there may be but one.
-fn earlier(best: Option<Place>, place: Place) -> Place
-    ensures { Some result ≡ earlier best place }
-{
-    match best {
-        Some(other) if !is_before(place, other) => other,
-        _ => place,
-    }
 }

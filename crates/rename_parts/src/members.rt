@@ -1,23 +1,43 @@
 //! The members of a footprint, and the references to them.
 
-ghost use Rattle.std.specs.Prelude.{◌≡◌, IfOk, length, filter};
+ghost use Rattle.std.specs.Prelude.{◌≡◌, IfOk, length};
 ghost use Rattle.rotor_base.specs.declared.place.Foot.{Foot};
-ghost use Rattle.rename_model.specs.Report.{refs_to};
-ghost use Rattle.rename_parts.specs.Members.{IsSetOf, leads_into};
+ghost use Rattle.rename_model.specs.Foot.{hits, refs_to};
+ghost use Rattle.rename_parts.specs.Members.{HasPlaces, IsSetOf, leads_into};
 
 use rotor_base::{Foot, Goal, Memory, Place, Ref};
 use std::alloc::Global;
 use std::collections::BTreeSet;
 
-/// The members of a footprint, as a set.
-pub fn members_of(alloc: Global, foot: &Foot) -> Result<BTreeSet<Place>, Memory>
-    ensures { IfOk result (IsSetOf foot.now) }
+/// Some places, as a set.
+pub fn set_of(alloc: Global, places: &[Place]) -> Result<BTreeSet<Place>, Memory>
+    ensures { IfOk result (HasPlaces places.now) }
 {
     let mut set = BTreeSet::new(alloc);
-    for place in foot.decls.as_slice() {
+    for place in places {
         set.insert(*place)?;
     }
     Ok(set)
+}
+
+/// The places that take the new word: the members of a footprint, and the references to them.
+pub fn hit_places(
+    alloc: Global,
+    refs: &[Ref],
+    foot: &Foot,
+    members: &BTreeSet<Place>,
+) -> Result<Vec<Place>, Memory>
+    requires { IsSetOf foot.now members.now }
+    ensures { IfOk result (λ list. list.items ≡ hits refs.now foot.now) }
+{
+    let mut list = Vec::new(alloc);
+    list.extend_from_slice(foot.decls.as_slice())?;
+    for reference in refs {
+        if leads_into(reference.goal, members) {
+            list.push(reference.at)?;
+        }
+    }
+    Ok(list)
 }
 
 /// The number of references to members of a footprint.
