@@ -17,4 +17,6 @@ pub use fault::{Change, Fault, Repeat};
 pub use first::first_fault;
 pub use laws::{faults_are_one, looks_tell_faults, no_fault_keeps_facts};
 pub use local::local_fault;
+pub use order::is_before;
 pub use repeats::{NameTable, first_repeat};
+pub use table::names_of;

@@ -1,0 +1,4 @@
+pub mod Having
+pub mod Rungs
+pub mod Found
+pub mod Judged
