@@ -16,4 +16,5 @@ pub mod HeadsKept
 pub mod OrderKept
 pub mod UnitsKept
 pub mod ReadingKept
+pub mod RespellingKept
 mod Rows

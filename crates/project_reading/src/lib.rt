@@ -8,5 +8,8 @@ mod project;
 mod sources;
 mod units;
 
-pub use laws::{one_reading, read_is_sound, respelling_keeps_the_lexemes, trees_are_parts};
+pub use laws::{
+    one_reading, read_is_sound, respelling_keeps_the_lexemes, respelling_keeps_the_reading,
+    trees_are_parts,
+};
 pub use project::{Read, read_project};

@@ -1,6 +1,11 @@
 //! The laws, each as the contract of a function.
 
-ghost use Rattle.respelled_reading.specs.Renamed.{RenamedFilesAreCut, WatchesGiveValueNames};
+ghost use Rattle.respelled_reading.specs.Renamed.{RenamedFilesAreCut, RenamedFilesAreRead, WatchesGiveValueNames};
+
+/// Renamed files are read as the respelled project.
+pub fn renamed_files_are_read()
+    ensures { RenamedFilesAreRead }
+{}
 
 /// Renamed files are cut into the respelled lexemes.
 pub fn renamed_files_are_cut()

@@ -3,4 +3,4 @@
 
 mod laws;
 
-pub use laws::{renamed_files_are_cut, watches_give_value_names};
+pub use laws::{renamed_files_are_cut, renamed_files_are_read, watches_give_value_names};
