@@ -54,3 +54,9 @@ WatchesGiveValueNames =
     (us : List UnitTree) (w : Watch) → IsWatched us w → IsTrue (is_value_name w.new)
     → ((d : Place) → Contains w.foot.decls d → (x : Site) × (at_place (places us) d ≡ Some x))
     → GivesValueNames us (renaming w)
+
+-- Files that are renamed back are the old files, if the trees that are respelled back are the old trees
+abbrev pub RenamedBackAreTheFiles : Type 0
+RenamedBackAreTheFiles =
+    (us : List UnitTree) (r back : Renaming) (old new undone : FileSet) → IsProject old → Reads old us → GivesValueNames us r
+    → AreRenamed us r old new → AreRenamed (respell us r) back new undone → respell (respell us r) back ≡ us → undone ≡ old

@@ -3,4 +3,7 @@
 
 mod laws;
 
-pub use laws::{renamed_files_are_cut, renamed_files_are_read, watches_give_value_names};
+pub use laws::{
+    renamed_back_are_the_files, renamed_files_are_cut, renamed_files_are_read,
+    watches_give_value_names,
+};
