@@ -152,11 +152,13 @@ trees_are_parts fs project h r number source tree got read =
     (subst (λ s. ReadsAs number s (tree_at r.trees number)) is own) read in
     let m = made_of fs r.trees project h (order_of_units fs r.trees h r.taken) r.linked in
     let x = unit_of (source_at fs.entries number).name in
-    let part = own_part 0 fs.entries r.trees number r.read (none_doubled (files.units_of fs.entries) (no_double fs h)) inside ∙ ap Some (sym same) in (
-      unit_from fs.entries r.trees x,
+    let part =
+    own_part 0 fs.entries r.trees number r.read (none_doubled (files.units_of fs.entries) (no_double fs h)) inside ∙ ap Some (sym same)
+    in
+    let unit = unit_from fs.entries r.trees x in (
+      unit,
       unit_is_there fs r.trees project number m inside,
-      body_or_face fs.entries r.trees
-          (is_body_name (source_at fs.entries number).name) x tree part,
+      body_or_face fs.entries r.trees (is_body_name (source_at fs.entries number).name) x tree part,
     )
 
 -- ---- the source of a part
@@ -176,8 +178,9 @@ parts_are_trees fs project h r u tree c part =
       | inr e ↦ source_of ss r.trees false named.0 tree r.read (ap (λ v. v.face) named.1 ∙ e)
     ]
   where
-    source_of : (ss : List SourceFile) (ts : List FileTree) (b : Bool) (x : List ℕ) (tree : FileTree) → ReadAll 0 ss ts → part_of b x ss ts ≡ Some tree
-        → (number : ℕ) × (source : SourceFile) × (slice_get ss number ≡ Some source) × ReadsAs number source tree
+    source_of : (ss : List SourceFile) (ts : List FileTree) (b : Bool) (x : List ℕ) (tree : FileTree) → ReadAll 0 ss ts
+        → part_of b x ss ts ≡ Some tree → (number : ℕ) × (source : SourceFile) × (slice_get ss number ≡ Some source) × ReadsAs number source tree
     source_of ss ts b x tree read e =
         let p = part_is b x 0 ss ts tree read e in
-        (p.at, source_at ss p.at, slice_get-get_or ss p.at no_source p.inside, subst (λ n. ReadsAs n (source_at ss p.at) tree) (from_zero p.at) p.read)
+        let read' = subst (λ n. ReadsAs n (source_at ss p.at) tree) (from_zero p.at) p.read in
+        (p.at, source_at ss p.at, slice_get-get_or ss p.at no_source p.inside, read')

@@ -15,14 +15,17 @@ use Rattle.project_reading.specs.Sources.{AreCut}
 abbrev pub Spellings : Type 0
 Spellings = ℕ → Spelling
 
+-- a tree with the words of its file
 abbrev pub spell_tree : Spellings → FileTree → FileTree
 spell_tree w (Body file is) = spell_file (w file) (Body file is)
 spell_tree w (Face file is) = spell_file (w file) (Face file is)
 
+-- a body or an interface so, or none
 abbrev pub spell_part : Spellings → Option FileTree → Option FileTree
 spell_part w None = None
 spell_part w (Some tree) = Some (spell_tree w tree)
 
+-- a unit whose trees are respelled
 abbrev pub spell_unit : Spellings → UnitTree → UnitTree
 spell_unit w u = record { name = u.name; body = spell_part w u.body; face = spell_part w u.face }
 
@@ -32,7 +35,7 @@ ChangesNamesIn w None = Unit {0}
 ChangesNamesIn w (Some (Body file is)) = ChangesNames (w file) (sites (Body file is))
 ChangesNamesIn w (Some (Face file is)) = ChangesNames (w file) (sites (Face file is))
 
--- a source whose lower-case words are respelled
+-- the new source is the old one with its lower-case words respelled
 pub record IsRespelled (w : Spelling) (old new : SourceFile) : Type 0 where
   pub lexemes : List Lexeme
   pub cut : Lexed old.bytes lexemes

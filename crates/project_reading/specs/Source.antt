@@ -24,6 +24,7 @@ kind_of_source name = if is_body_name name then kind.Body else kind.Face
 abbrev pub token_of : Lexeme → Token
 token_of x = record { class = x.class; start = x.start; end = x.end; bytes = record { ref_ptr = (0, 0); now = x.bytes } }
 
+-- these lexemes as tokens
 abbrev pub tokens_of : List Lexeme → List Token
 tokens_of = map token_of
 
@@ -47,6 +48,7 @@ pub record ReadsAs (number : ℕ) (source : SourceFile) (tree : FileTree) : Type
   pub plain : IsPlain source.bytes lexemes
   pub parsed : IsTreeOf (kind_of_source source.name) number (lexeme_toks 1 lexemes) tree
 
+-- the token with this number in the file with this number
 abbrev pub place : ℕ → ℕ → Place
 place file token = record { file = file; token = token }
 
