@@ -174,7 +174,7 @@ module _ (f : Ref → Ref) (stays : (r : Ref) → (f r).at ≡ r.at) where
       let one : f r ≡ r = ap (λ (p : Place). of_ref p (f r).goal) (stays r) ∙ ap (of_ref r.at) goal in
       ap (λ (q : Ref). q ∷ map f rs) one ∙ ap (λ (qs : List Ref). r ∷ qs) rest
 
-abbrev IsAtDecl : Link → Type 0
+abbrev pub IsAtDecl : Link → Type 0
 IsAtDecl l = (a : Place) × (l.item ≡ Decl a)
 
 module _ (w : Watch) (ls : List LinkLook) where
@@ -210,7 +210,7 @@ item_decl l j = chosen l.item refl j.1 where
   chosen Hidden e h = absurd h
   chosen (Blur p n b) e h = absurd h
 
-items_decl : (us : List UnitTree) → IsSound us → Each IsAtDecl (facts us).links
+pub items_decl : (us : List UnitTree) → IsSound us → Each IsAtDecl (facts us).links
 items_decl us s =
     let named = units_named Anything us none tt (each_map (λ e. at_place (places us) e.0 ≡ Some e.1) (PlaceNamed Anything) (places us) (λ e h. tt) (found_all (places us) (apart_of us s))) in
     each_map (Joins Anything) IsAtDecl (facts us).links item_decl (steps_join Anything (steps us) named)
