@@ -28,7 +28,7 @@ same_false p q e = by (same_place p q) refl where
       let right : is_at (place_cmp p) p ≡ true = ap is_eq (tied_itself place_total p) in
       absurd (let z : true ≡ false = sym right ∙ wrong in cc)
 
-tests_same : (p q : Place) → is_at (place_cmp p) q ≡ same_place p q
+pub tests_same : (p q : Place) → is_at (place_cmp p) q ≡ same_place p q
 tests_same p q = by (is_at (place_cmp p) q) refl where
   by : (b : Bool) → is_at (place_cmp p) q ≡ b → is_at (place_cmp p) q ≡ same_place p q
   by true e = e ∙ sym (same_back q p (sym (place_found p q e)))

@@ -7,3 +7,6 @@ pub mod Binders
 pub mod Faults
 pub mod One
 pub mod Told
+mod Looking
+mod Locals
+pub mod Equal

@@ -1,5 +1,5 @@
 -- The local criterion: the first fault, as the facts and the looks of the old project tell it.
-use Rattle.std.specs.Prelude.{List, Option, if◌then◌else◌}
+use Rattle.std.specs.Prelude.{◌≡◌, List, Option, None, if◌then◌else◌}
 use Rattle.rotor_base.specs.declared.place.Goal.TheVariants.{Decl}
 use Rattle.rotor_base.specs.declared.looks.Watch.{Watch}
 use Rattle.ml_syntax.specs.Sound.{IsSound}
@@ -27,3 +27,7 @@ IsLocalFault us w o = IsFirstFault (name_of (respell us (renaming w))) (facts us
 -- Law: what the looks tell is the first fault of the renamed project
 abbrev pub LooksTellFaults : Type 0
 LooksTellFaults = (us : List UnitTree) (w : Watch) (o : Option Fault) → IsSound us → IsWatched us w → IsToldFault us w o → IsLocalFault us w o
+
+-- Law: where no fault is found, the renamed project has the facts of the old one
+abbrev pub NoFaultKeepsFacts : Type 0
+NoFaultKeepsFacts = (us : List UnitTree) (w : Watch) → IsSound us → IsWatched us w → IsLocalFault us w None → facts (respell us (renaming w)) ≡ facts us

@@ -39,7 +39,7 @@ pub fn first_fault(
 }
 
 /// The first of three answers.
-fn fault_of(
+pub fn fault_of(
     repeat: Option<Repeat>,
     capture: Option<Change>,
     mislink: Option<Change>,

@@ -1,7 +1,7 @@
 //! The laws of the comparison, each as the contract of a function.
 
 ghost use Rattle.capture_check.specs.Fault.{FaultsAreOne};
-ghost use Rattle.capture_check.specs.Local.{LooksTellFaults};
+ghost use Rattle.capture_check.specs.Local.{LooksTellFaults, NoFaultKeepsFacts};
 
 /// Two lists of facts have one first fault, or none.
 #[tactic(auto, using(crate::proofs::One::faults_are_one))]
@@ -12,4 +12,9 @@ pub fn faults_are_one()
 /// What the looks of a project tell is the first fault of the renamed project against it.
 pub fn looks_tell_faults()
     ensures { LooksTellFaults }
+{}
+
+/// If a renaming has no fault, the renamed project has the facts of the old one.
+pub fn no_fault_keeps_facts()
+    ensures { NoFaultKeepsFacts }
 {}

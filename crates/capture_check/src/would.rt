@@ -1,10 +1,8 @@
 //! What a look-up would find after a renaming.
 
 ghost use Rattle.std.specs.Prelude.{◌≡◌};
-ghost use Rattle.rotor_base.specs.declared.looks.Watch.{Watch};
-ghost use Rattle.rotor_base.specs.declared.place.Goal.TheVariants.{Decl};
-ghost use Rattle.shape_core.specs.Looks.{is_member};
-ghost use Rattle.binding_model.specs.Looks.{behind_darks, spot_goal, later, would_find, would_ref, would_source, would_link};
+ghost use Rattle.binding_model.specs.Looks.{behind_darks, later, would_find, would_source};
+ghost use Rattle.capture_check.specs.Would.{goal_if, source_if};
 
 use rotor_base::{Goal, LinkLook, Place, RefLook};
 
@@ -13,7 +11,7 @@ type Spot = (u64, Place, u64);
 
 /// Would of a reference, whose goal is a member of the footprint or not.
 pub fn would_ref(look: RefLook, member: bool) -> Goal
-    ensures { (w : Watch) → is_member w look.goal ≡ member → result ≡ would_ref w look }
+    ensures { result ≡ goal_if member look }
 {
     if look.is_new || member {
         would_find(look.by, look.goal, later(look.foot, look.new))
@@ -24,7 +22,7 @@ pub fn would_ref(look: RefLook, member: bool) -> Goal
 
 /// Would of a link, whose item is a member of the footprint or not.
 pub fn would_link(look: LinkLook, member: bool) -> Goal
-    ensures { (w : Watch) → is_member w (Decl look.item) ≡ member → result ≡ would_link w look }
+    ensures { result ≡ source_if member look }
 {
     let none = behind_darks(look.by, look.darks, None);
     if look.is_new || member {

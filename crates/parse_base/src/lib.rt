@@ -15,6 +15,7 @@ mod names;
 mod parse;
 mod patterns;
 mod runs;
+mod taking;
 mod tokens;
 
 pub use depth::scan_depth;
@@ -28,4 +29,5 @@ pub use names::{is_minus, is_operator, lower_word, more_uppers, operator, qualif
 pub use parse::{MAX_NESTED, parse_pat};
 pub use patterns::{pattern, simple_pattern};
 pub use runs::{declaration_run, optional_type, type_run};
+pub use taking::{take_name, take_path, take_word};
 pub use tokens::{Kind, expect, expect_at, is, kind_at, number, text, token_word, word};

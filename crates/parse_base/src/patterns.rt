@@ -24,6 +24,7 @@ use crate::error::ReadError;
 use crate::grown::{grown_as, grown_cons, grown_or, grown_tuple};
 use crate::names::{is_minus, lower_word, more_uppers, operator, qualifiers, value_name};
 use crate::runs::{optional_type, type_run};
+use crate::taking::{take_path, take_word};
 use crate::tokens::{Kind, expect, expect_at, is, kind_at, number, text, word};
 use ml_syntax::{Bracket, Fixed, Pat, PatField, Path, ValueName, Word};
 use rotor_base::{Class, Token};
@@ -464,24 +465,27 @@ impl<F: Fn(Global, &[Token<'_>], usize, usize, usize) -> Result<(Pat, usize), Re
         requires few { length tokens.now ≤ 1048576 }
         ensures { Gives (λ x. (view_pat x.0, from tokens.now x.1)) result (Some (r.applied_to (view_pat head) (from tokens.now at) (if r.can_apply (view_pat head) then r.simple_pat (read_pat self.now.depth) self.now.depth (from tokens.now at) else None))) }
     {
-        match head {
+        let mut head = head;
+        match &mut head {
             Pat::Constr(path) => match self.simple(tokens, at) {
                 Ok((argument, after)) => {
+                    let path = take_path(self.alloc, path);
                     let argument = Box::new(self.alloc, argument)?;
                     Ok((Pat::ConstrApply { path, argument }, after))
                 }
-                Err(ReadError::Syntax) => Ok((Pat::Constr(path), at)),
+                Err(ReadError::Syntax) => Ok((head, at)),
                 Err(ReadError::Memory) => Err(ReadError::Memory),
             },
             Pat::Tag(tag) => match self.simple(tokens, at) {
                 Ok((argument, after)) => {
+                    let tag = take_word(self.alloc, tag);
                     let argument = Box::new(self.alloc, argument)?;
                     Ok((Pat::TagApply { tag, argument }, after))
                 }
-                Err(ReadError::Syntax) => Ok((Pat::Tag(tag), at)),
+                Err(ReadError::Syntax) => Ok((head, at)),
                 Err(ReadError::Memory) => Err(ReadError::Memory),
             },
-            head => Ok((head, at)),
+            _ => Ok((head, at)),
         }
     }
 

@@ -15,7 +15,10 @@ use crate::readers::Readers;
 use expr_parts::{grown_apply, grown_postfix, has_colon, is_bare, is_constr, push_boxed};
 use expr_reading::Wanted;
 use ml_syntax::{Argument, Expr, Fixed, Part};
-use parse_base::{Kind, ReadError, expect, kind_at, lower_word, number, qualifiers, text, word};
+use parse_base::{
+    Kind, ReadError, expect, kind_at, lower_word, number, qualifiers, take_path, take_word, text,
+    word,
+};
 use rotor_base::{Class, Token};
 use std::alloc::Global;
 
@@ -296,10 +299,17 @@ fn with_argument(
 ) -> Result<Box<Expr>, ReadError>
     ensures { Gives (λ e. view e.value) result (Some (given (view head.value) (view argument.value))) }
 {
-    match Box::into_inner(head) {
-        Expr::Constr(path) => Ok(Box::new(alloc, Expr::ConstrApply { path, argument })?),
-        Expr::Tag(tag) => Ok(Box::new(alloc, Expr::TagApply { tag, argument })?),
-        other => Ok(Box::new(alloc, other)?),
+    let mut head = head;
+    match &mut *head {
+        Expr::Constr(path) => {
+            let path = take_path(alloc, path);
+            Ok(Box::new(alloc, Expr::ConstrApply { path, argument })?)
+        }
+        Expr::Tag(tag) => {
+            let tag = take_word(alloc, tag);
+            Ok(Box::new(alloc, Expr::TagApply { tag, argument })?)
+        }
+        _ => Ok(head),
     }
 }
 

@@ -16,7 +16,7 @@ use crate::readers::Readers;
 use expr_parts::{is_literal, path_from};
 use expr_reading::Wanted;
 use ml_syntax::{Bracket, Expr, Fixed, Path, ValueName};
-use parse_base::{Kind, ReadError, expect, kind_at, number, word};
+use parse_base::{Kind, ReadError, expect, kind_at, number, take_name, word};
 use rotor_base::{Class, Token};
 use std::alloc::Global;
 
@@ -229,18 +229,20 @@ fn qualified(
     requires few { length tokens.now ≤ 1048576 }
     ensures { Gives (λ x. (view x.0.value, from tokens.now x.1)) result (Some (r.opened_or (view_path path) (from tokens.now at) (r.qualified (view_path path) (view inner.value) (from tokens.now after)))) }
 {
-    match Box::into_inner(inner) {
+    let mut inner = inner;
+    match &mut *inner {
         Expr::Value { path: names, name } => {
             if names.len() == 0 {
+                let name = take_name(alloc, name);
                 return Ok((value_of(alloc, path, name)?, after));
             }
             Ok((Box::new(alloc, Expr::Constr(path))?, at))
         }
-        inner => {
+        _ => {
             if !is_bracketed(&inner) {
                 return Ok((Box::new(alloc, Expr::Constr(path))?, at));
             }
-            let body = Box::new(alloc, inner)?;
+            let body = inner;
             Ok((Box::new(alloc, Expr::Opened { path, body })?, after))
         }
     }

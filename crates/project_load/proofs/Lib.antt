@@ -3,3 +3,5 @@ pub mod Kept
 pub mod Loaded
 pub mod Sorted
 pub mod SourcesRead
+pub mod Keys
+pub mod Rewritten

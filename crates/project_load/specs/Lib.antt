@@ -1,2 +1,3 @@
 pub mod Cause
 pub mod Load
+pub mod Rewritten

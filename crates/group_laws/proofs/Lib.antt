@@ -1,0 +1,3 @@
+pub mod Grouped
+pub mod Firsts
+pub mod Apartness

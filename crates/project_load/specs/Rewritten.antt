@@ -1,0 +1,41 @@
+-- A folder after some of its sources were written.
+use Rattle.std.specs.Prelude.{◌≡◌, ◌⊎◌, ℕ, List, [], ◌∷◌, Option, None, Ok, Contains, slice_get}
+use Rattle.std.specs.List.{filter_map}
+use Rattle.std.specs.FinMap.{insert}
+use Rattle.rotor_base.specs.Files.{FileSet, names_of, load_refusal}
+use Rattle.rotor_base.specs.declared.source.SourceFile.{SourceFile}
+use Rattle.tree_io.specs.Outside.{FileMap}
+use Rattle.project_load.specs.Load.{loaded}
+
+-- the files after some of them were written, one after another
+abbrev pub after : List SourceFile → FileMap → FileMap
+after [] files = files
+after (f ∷ fs) files = after fs (insert files f.name f.bytes)
+
+-- the files of these numbers
+abbrev pub files_at : List SourceFile → List ℕ → List SourceFile
+files_at files numbers = filter_map (slice_get files) numbers
+
+-- each source that differs has its number among these
+abbrev pub Covers : List SourceFile → List SourceFile → List ℕ → Type 0
+Covers old new numbers = (k : ℕ) → (slice_get old k ≡ slice_get new k) ⊎ Contains numbers k
+
+-- other sources of the same names, with the same manifest
+pub record AreOthers (old new : FileSet) : Type 0 where
+  pub names : names_of new.entries ≡ names_of old.entries
+  pub manifest : new.manifest ≡ old.manifest
+
+-- Law: where a folder loads as some files, and others of the same names are a project, the folder loads as the others
+-- after those that differ are written
+abbrev pub NewSourcesAreLoaded : Type 0
+NewSourcesAreLoaded =
+    (held : FileMap) (old new : FileSet) (numbers : List ℕ)
+    → loaded held ≡ Ok old → AreOthers old new → load_refusal new.entries new.manifest ≡ None → Covers old.entries new.entries numbers
+    → loaded (after (files_at new.entries numbers) held) ≡ Ok new
+
+-- Law: and it is the folder that it was after the old sources are written again
+abbrev pub OldSourcesComeBack : Type 0
+OldSourcesComeBack =
+    (held : FileMap) (old new : FileSet) (numbers back : List ℕ)
+    → loaded held ≡ Ok old → AreOthers old new → Covers old.entries new.entries numbers → Covers new.entries old.entries back
+    → after (files_at old.entries back) (after (files_at new.entries numbers) held) ≡ held

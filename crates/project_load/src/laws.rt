@@ -1,0 +1,12 @@
+//! The laws of loading, each as the contract of a function.
+ghost use Rattle.project_load.specs.Rewritten.{NewSourcesAreLoaded, OldSourcesComeBack};
+
+/// If a folder loads as some files, it loads as others of the same names after those that differ are written.
+pub fn new_sources_are_loaded()
+    ensures { NewSourcesAreLoaded }
+{}
+
+/// If the old sources are written again, the folder is as it was.
+pub fn old_sources_come_back()
+    ensures { OldSourcesComeBack }
+{}

@@ -1,0 +1,5 @@
+use Rattle.project_reading.proofs.UnitsKept as proof
+use Rattle.project_reading.proofs.laws.respelling_keeps_the_lexemes.Goals as goal
+
+pub returns : goal.returns
+returns c = proof.respelling_keeps_the_lexemes

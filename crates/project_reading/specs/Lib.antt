@@ -1,0 +1,7 @@
+pub mod Source
+pub mod Sources
+pub mod Units
+pub mod Gathered
+pub mod Reads
+pub mod Respelled
+pub mod Laws

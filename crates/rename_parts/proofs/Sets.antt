@@ -1,0 +1,49 @@
+-- Sets of places, place by place.
+use Rattle.std.proofs.Common.{◌≡◌, ℕ, ◌+◌, ◌<◌, ◌||◌, Bool, true, false, cond, refl, ap, sym, subst, ◌∙◌, List, drop, length, get_or}
+use Rattle.std.specs.Ordering.{is_eq}
+use Rattle.std.specs.BTreeMap.{is_at}
+use Rattle.std.specs.BTreeSet.{BTreeSet, contains}
+use Rattle.std.specs.List.{list_any}
+use Rattle.std.proofs.lemmas.Cmp.{tied_itself}
+use Rattle.std.proofs.lemmas.List.{drop_more}
+use Rattle.rotor_base.specs.Place.{same_place}
+use Rattle.rotor_base.specs.declared.place.Place.{Place}
+use Rattle.dependency_kernel.specs.Neighbors.{place_cmp}
+use Rattle.dependency_kernel.proofs.Places.{place_found, place_total}
+use Rattle.binding_model.proofs.LastEntries.{same_is}
+use Rattle.binding_model.proofs.Standing.{same_swap}
+use Rattle.capture_check.proofs.Twice.{same_back}
+
+-- two tests for a place
+same_false : (p q : Place) → is_at (place_cmp p) q ≡ false → (b : Bool) → same_place p q ≡ b → same_place p q ≡ false
+same_false p q e false f = f
+same_false p q e true f =
+    let P : Place → Type 0 = λ x. is_at (place_cmp p) x ≡ false in
+    let wrong : is_at (place_cmp p) p ≡ false = subst P (sym (same_is p q f)) e in
+    let right : is_at (place_cmp p) p ≡ true = ap is_eq (tied_itself place_total p) in
+    absurd (let z : true ≡ false = sym right ∙ wrong in cc)
+
+tested : (p q : Place) (b : Bool) → is_at (place_cmp p) q ≡ b → is_at (place_cmp p) q ≡ same_place p q
+tested p q true e = e ∙ sym (same_back q p (sym (place_found p q e)))
+tested p q false e = e ∙ sym (same_false p q e (same_place p q) refl)
+
+pub tests_same : (p q : Place) → is_at (place_cmp p) q ≡ same_place p q
+tests_same p q = tested p q (is_at (place_cmp p) q) refl
+
+joined : (a b r : Bool) → (cond a true b || r) ≡ (b || (a || r))
+joined true true r = refl
+joined true false r = refl
+joined false b r = refl
+
+-- with what is to come, the set has what it is to have
+abbrev pub Gathers : List Place → ℕ → BTreeSet Place → Type 0
+Gathers ds i set = (p : Place) → (contains place_cmp set p || list_any (same_place p) (drop i ds)) ≡ list_any (same_place p) ds
+
+pub gathers_more : (ds : List Place) (i : ℕ) (d : Place) (old new : BTreeSet Place) → i < length ds
+    → ((q : Place) → contains place_cmp new q ≡ cond (is_at (place_cmp (get_or ds i d)) q) true (contains place_cmp old q)) → Gathers ds i old → Gathers ds (i + 1) new
+gathers_more ds i d old new w put h p =
+    let x = get_or ds i d in
+    let rest = list_any (same_place p) (drop (i + 1) ds) in
+    ap (λ b. b || rest) (put p ∙ ap (λ b. cond b true (contains place_cmp old p)) (tests_same x p ∙ same_swap x p))
+    ∙ (joined (same_place p x) (contains place_cmp old p) rest
+    ∙ (sym (ap (λ l. contains place_cmp old p || list_any (same_place p) l) (drop_more ds i d w)) ∙ h p))

@@ -1,0 +1,5 @@
+pub mod Binders
+pub mod Members
+pub mod Hits
+pub mod Leasts
+pub mod Blurs

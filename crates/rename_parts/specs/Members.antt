@@ -1,0 +1,23 @@
+-- Sets of places.
+use Rattle.std.specs.Prelude.{◌≡◌, List, Bool, false}
+use Rattle.std.specs.List.{list_any}
+use Rattle.rotor_base.specs.Place.{same_place}
+use Rattle.std.specs.BTreeSet.{BTreeSet, contains}
+use Rattle.rotor_base.specs.declared.place.Foot.{Foot}
+use Rattle.rotor_base.specs.declared.place.Place.{Place}
+use Rattle.rotor_base.specs.declared.place.Goal.{Goal}
+use Rattle.rotor_base.specs.declared.place.Goal.TheVariants.{Decl}
+use Rattle.dependency_kernel.specs.Neighbors.{place_cmp}
+
+-- the set has these places, and no more
+abbrev pub HasPlaces : List Place → BTreeSet Place → Type 0
+HasPlaces ps set = (p : Place) → contains place_cmp set p ≡ list_any (same_place p) ps
+
+-- the set has the members of a footprint, and no more
+abbrev pub IsSetOf : Foot → BTreeSet Place → Type 0
+IsSetOf foot set = HasPlaces foot.decls set
+
+-- a goal is a declaration in a set
+abbrev pub leads_into : BTreeSet Place → Goal → Bool
+leads_into set (Decl d) = contains place_cmp set d
+leads_into set _ = false

@@ -1,0 +1,87 @@
+//! The places at which an outside module hides what a member of a footprint is.
+
+ghost use Rattle.std.specs.Prelude.{◌≡◌, ◌⊎◌};
+ghost use Rattle.rename_parts.specs.Blurs.{in_set, behind_in, blurred_ref, blurred_item, BlursRef, BlursLink, earlier_of};
+ghost use Rattle.rename_parts.specs.Leasts.{IsLeastOrNone};
+
+use crate::leasts::earlier;
+use rotor_base::{Goal, Link, Place, Ref};
+use std::collections::BTreeSet;
+
+/// The least place at which an outside module hides what a member is: a reference with a member behind; a member that
+/// is the item of a link with such a source, or stands behind one.
+pub fn least_blurred(refs: &[Ref], links: &[Link], members: &BTreeSet<Place>) -> Option<Place>
+    ensures { IsLeastOrNone (λ p. BlursRef members.now refs.now p ⊎ BlursLink members.now links.now p) result }
+{
+    let mut least = None;
+    for reference in refs {
+        least = earlier_of(least, blurred_ref(*reference, members));
+    }
+    for link in links {
+        let item = earlier_of(least, blurred_item(*link, members));
+        least = earlier_of(item, behind_in(link.source, members));
+    }
+    least
+}
+
+/// The earlier of two places, of which each may be missing.
+fn earlier_of(best: Option<Place>, found: Option<Place>) -> Option<Place>
+    ensures { result ≡ earlier_of best found }
+{
+    match found {
+        Some(place) => Some(earlier(best, place)),
+        None => best,
+    }
+}
+
+/// The place of a reference with a member behind outside modules.
+fn blurred_ref(reference: Ref, members: &BTreeSet<Place>) -> Option<Place>
+    ensures { result ≡ blurred_ref members.now reference }
+{
+    match behind_in(reference.goal, members) {
+        Some(_) => Some(reference.at),
+        None => None,
+    }
+}
+
+/// The item of a link whose source an outside module hides, where it is a member.
+fn blurred_item(link: Link, members: &BTreeSet<Place>) -> Option<Place>
+    ensures { result ≡ blurred_item members.now link }
+{
+    match (link.item, link.source) {
+        (
+            Goal::Decl(place),
+            Goal::Blur {
+                by: _,
+                passed: _,
+                behind: _,
+            },
+        ) => in_set(place, members),
+        _ => None,
+    }
+}
+
+/// The member behind outside modules, where a goal has one.
+fn behind_in(goal: Goal, members: &BTreeSet<Place>) -> Option<Place>
+    ensures { result ≡ behind_in members.now goal }
+{
+    match goal {
+        Goal::Blur {
+            by: _,
+            passed: _,
+            behind: Some(place),
+        } => in_set(place, members),
+        _ => None,
+    }
+}
+
+/// A place, where it is a member.
+fn in_set(place: Place, members: &BTreeSet<Place>) -> Option<Place>
+    ensures { result ≡ in_set members.now place }
+{
+    if members.contains(&place) {
+        Some(place)
+    } else {
+        None
+    }
+}

@@ -1,0 +1,21 @@
+//! The parts of renaming: the goal of a target, the binders of a project, what a footprint meets, and the new bytes.
+#![tactic(auto)]
+
+mod binders;
+mod blurred;
+mod bytes;
+mod checks;
+mod groups;
+mod leasts;
+mod links;
+mod members;
+mod targets;
+
+pub use binders::{binder_at, binder_places};
+pub use blurred::least_blurred;
+pub use bytes::{first_over, new_bytes};
+pub use checks::{Hit, has_operator, hit_marks, least_pun};
+pub use groups::first_duplicate;
+pub use links::least_unmatched;
+pub use members::{count_refs, hit_places, set_of};
+pub use targets::{dotted, number_of, token_at};

@@ -1,0 +1,64 @@
+//! The members of a footprint, and the references to them.
+
+ghost use Rattle.std.specs.Prelude.{◌≡◌, IfOk, length};
+ghost use Rattle.rotor_base.specs.declared.place.Foot.{Foot};
+ghost use Rattle.rename_model.specs.Foot.{hits, refs_to};
+ghost use Rattle.rename_parts.specs.Members.{HasPlaces, IsSetOf, leads_into};
+
+use rotor_base::{Foot, Goal, Memory, Place, Ref};
+use std::alloc::Global;
+use std::collections::BTreeSet;
+
+/// Some places, as a set.
+pub fn set_of(alloc: Global, places: &[Place]) -> Result<BTreeSet<Place>, Memory>
+    ensures { IfOk result (HasPlaces places.now) }
+{
+    let mut set = BTreeSet::new(alloc);
+    for place in places {
+        set.insert(*place)?;
+    }
+    Ok(set)
+}
+
+/// The places that take the new word: the members of a footprint, and the references to them.
+pub fn hit_places(
+    alloc: Global,
+    refs: &[Ref],
+    foot: &Foot,
+    members: &BTreeSet<Place>,
+) -> Result<Vec<Place>, Memory>
+    requires { IsSetOf foot.now members.now }
+    ensures { IfOk result (λ list. list.items ≡ hits refs.now foot.now) }
+{
+    let mut list = Vec::new(alloc);
+    list.extend_from_slice(foot.decls.as_slice())?;
+    for reference in refs {
+        if leads_into(reference.goal, members) {
+            list.push(reference.at)?;
+        }
+    }
+    Ok(list)
+}
+
+/// The number of references to members of a footprint.
+pub fn count_refs(refs: &[Ref], members: &BTreeSet<Place>) -> u64
+    ensures { (foot : Foot) → IsSetOf foot members.now → result ≡ length (refs_to foot refs.now) }
+{
+    let mut count: u64 = 0;
+    for reference in refs {
+        if leads_into(reference.goal, members) {
+            count += 1;
+        }
+    }
+    count
+}
+
+/// Whether a goal is the declaration of a member.
+fn leads_into(goal: Goal, members: &BTreeSet<Place>) -> bool
+    ensures { result ≡ leads_into members.now goal }
+{
+    match goal {
+        Goal::Decl(place) => members.contains(&place),
+        _ => false,
+    }
+}

@@ -1,0 +1,111 @@
+//! The refusals of a renaming before its new sources are made.
+
+ghost use Rattle.std.specs.Prelude.{◌≡◌, ◌⊎◌, Contains, IfErr, IfOk, OnOk, bytes_eq, true};
+ghost use Rattle.std.specs.List.{list_any};
+ghost use Rattle.rotor_base.specs.Name.{is_value_name};
+ghost use Rattle.ml_syntax.specs.Sound.{IsSound};
+ghost use Rattle.ml_syntax.specs.View.{view_project};
+ghost use Rattle.rotor_base.specs.declared.place.Place.{Place};
+ghost use Rattle.binding_model.specs.Facts.{facts as facts_of};
+ghost use Rattle.binding_model.specs.Renaming.{name_of};
+ghost use Rattle.rename_model.specs.Foot.{hits};
+ghost use Rattle.rename_parts.specs.declared.checks.Hit.{Hit};
+ghost use Rattle.rename_parts.specs.Blurs.{BlursRef, BlursLink};
+ghost use Rattle.rename_parts.specs.Leasts.{IsLeastOrNone};
+ghost use Rattle.rename_parts.specs.Members.{HasPlaces};
+ghost use Rattle.rename_steps.specs.Findings.{IsFree, IsRefused, refusal_of};
+
+use ml_syntax::Project;
+use rename_parts::{Hit, has_operator, hit_marks, hit_places, least_blurred, least_pun, set_of};
+use rotor_base::{Facts, Place, Refusal, Watch, is_name};
+use std::alloc::Global;
+use std::collections::BTreeSet;
+
+/// What is found of a footprint: whether its name is an operator, whether the new name is a value name and whether it
+/// is the old one, the least member that is linked with the outside, the least pun, and the least place at which an
+/// outside module hides what a member is.
+#[derive(Clone, Copy, Debug)]
+pub struct Findings {
+    pub operator: bool,
+    pub valid: bool,
+    pub same: bool,
+    pub outside: Option<Place>,
+    pub pun: Option<Place>,
+    pub blurred: Option<Place>,
+}
+
+/// The places that take the new word.
+#[derive(Drop)]
+pub struct Hits {
+    pub list: Vec<Place>,
+    pub set: BTreeSet<Place>,
+}
+
+/// The places that a renaming gives the new word, where none of the refusals `Operator` to `Blurred` holds.
+pub fn judge_foot(
+    alloc: Global,
+    project: &Project,
+    facts: &Facts,
+    watch: &Watch,
+) -> Result<Hits, Refusal>
+    requires sound { IsSound (view_project project.now) }
+    requires facts { facts.now ≡ facts_of (view_project project.now) }
+    ensures list { IfOk result (λ found. found.list.items ≡ hits (facts_of (view_project project.now)).refs watch.now.foot) }
+    ensures set { IfOk result (λ found. HasPlaces (hits (facts_of (view_project project.now)).refs watch.now.foot) found.set) }
+    ensures free { OnOk result ((d : Place) → watch.now.old ≡ name_of (view_project project.now) d → IsFree (view_project project.now) d watch.now.foot watch.now.new) }
+    ensures refused { IfErr result (λ why. (d : Place) → watch.now.old ≡ name_of (view_project project.now) d → IsRefused (view_project project.now) d watch.now.foot watch.now.new why) }
+{
+    let members = set_of(alloc, watch.foot.decls.as_slice())?;
+    let list = hit_places(alloc, facts.refs.as_slice(), &watch.foot, &members)?;
+    let set = set_of(alloc, &list)?;
+    let marks = hit_marks(alloc, project, &set)?;
+    let found = find_all(facts, watch, &members, &marks);
+    match first_refusal(found) {
+        Some(why) => Err(why),
+        None => Ok(Hits { list, set }),
+    }
+}
+
+/// What is found of a footprint, by its members and by what stands at the places that take the new word.
+fn find_all(facts: &Facts, watch: &Watch, members: &BTreeSet<Place>, marks: &[Hit]) -> Findings
+    ensures operator { result.operator ≡ list_any (λ h. h.operator) marks.now }
+    ensures valid { result.valid ≡ is_value_name watch.now.new }
+    ensures same { result.same ≡ bytes_eq watch.now.new watch.now.old }
+    ensures outside { result.outside ≡ watch.now.foot.outside }
+    ensures pun { IsLeastOrNone (λ p. (h : Hit) × Contains marks.now h × (h.pun ≡ true) × (h.place ≡ p)) result.pun }
+    ensures blurred { IsLeastOrNone (λ p. BlursRef members.now facts.now.refs p ⊎ BlursLink members.now facts.now.links p) result.blurred }
+{
+    Findings {
+        operator: has_operator(marks),
+        valid: is_name(watch.new.as_bytes()),
+        same: watch.new.as_bytes() == watch.old.as_bytes(),
+        outside: watch.foot.outside,
+        pun: least_pun(marks),
+        blurred: least_blurred(facts.refs.as_slice(), facts.links.as_slice(), members),
+    }
+}
+
+/// The first refusal that findings give.
+fn first_refusal(found: Findings) -> Option<Refusal>
+    ensures { result ≡ refusal_of found }
+{
+    if found.operator {
+        return Some(Refusal::Operator);
+    }
+    if !found.valid {
+        return Some(Refusal::BadName);
+    }
+    if found.same {
+        return Some(Refusal::SameName);
+    }
+    if let Some(at) = found.outside {
+        return Some(Refusal::Outside { at });
+    }
+    if let Some(at) = found.pun {
+        return Some(Refusal::Pun { at });
+    }
+    match found.blurred {
+        Some(at) => Some(Refusal::Blurred { at }),
+        None => None,
+    }
+}

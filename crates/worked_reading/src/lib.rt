@@ -1,0 +1,11 @@
+//! Worked rows of reading: folders of two sources, and what they are read as or refused for.
+#![tactic(auto)]
+
+#[cfg(test)]
+mod folder;
+
+#[cfg(test)]
+pub use folder::{read_pair, told};
+
+#[cfg(test)]
+mod tests;
