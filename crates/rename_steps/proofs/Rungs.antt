@@ -94,3 +94,13 @@ module _ (us : List UnitTree) (d : Place) (foot : Foot) (new : Name) where
   pub past_six : (sources : List SourceFile) (why : Refusal) → IsFree us d foot new → Rest us d foot new sources why → refusals_of_binder sources us d foot new why
   past_six sources why f r =
       inr (operator_free f.words, inr (name_free f.valid, inr (same_free f.other, inr (outside_free f.inside, inr (pun_free (λ p h. f.plain p h.0 h.1), inr (blurred_free f.clear, r))))))
+
+  -- where nothing meets the six conditions nor the rest, nothing meets the ladder
+  pub none_met : (sources : List SourceFile) → IsFree us d foot new → (IsMet (Rest us d foot new sources) → ⊥) → (why : Refusal) → refusals_of_binder sources us d foot new why → ⊥
+  none_met sources f n why (inl h) = operator_free f.words (why, h)
+  none_met sources f n why (inr (a, inl h)) = name_free f.valid (why, h)
+  none_met sources f n why (inr (a, inr (b, inl h))) = same_free f.other (why, h)
+  none_met sources f n why (inr (a, inr (b, inr (c, inl h)))) = outside_free f.inside (why, h)
+  none_met sources f n why (inr (a, inr (b, inr (c, inr (e, inl h))))) = pun_free (λ p k. f.plain p k.0 k.1) (why, h)
+  none_met sources f n why (inr (a, inr (b, inr (c, inr (e, inr (g, inl h)))))) = blurred_free f.clear (why, h)
+  none_met sources f n why (inr (a, inr (b, inr (c, inr (e, inr (g, inr (i, h))))))) = n (why, h)
