@@ -51,8 +51,8 @@ pub fn expr_refs(
 }
 
 /// What the look-ups of the old or of the new name find in an expression, and would find after the renaming. The links
-/// are numbered from 0. `Memory` is the only error; the call returns it where there is none, and where the work of the
-/// expression is over its bound. The scope is as it was, also after an `Err`.
+/// are numbered from 0. `Memory` is the only error; it comes where there is none, and where the work of the expression is
+/// over its bound. The scope is as it was, also after an `Err`.
 #[tactic(auto, using(crate::proofs::Told::looks_told))]
 pub fn expr_looks(
     alloc: Global,

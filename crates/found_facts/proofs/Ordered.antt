@@ -146,7 +146,7 @@ module _ {A : Type 0} (at : A → Place) where
   up_order [] = tt {0}
   up_order (x ∷ xs) = up_put x (in_order at xs) (up_order xs)
 
-  -- what ties with a thing keeps its order
+  -- what ties with a thing stands as before
   ties_both : (w x y : A) → ties less w x ≡ true → ties less w y ≡ true → less y x ≡ false
   ties_both w x y h k = weak.chain y w x (second (less w y) (less y w) k) (first (less w x) (less x w) h)
     where

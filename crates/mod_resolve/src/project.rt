@@ -88,7 +88,7 @@ fn unit_parts(
     Ok(Parts { body, face })
 }
 
-/// A body meets its interface, and an interface alone is pinned to the outside. `Memory` is the only error.
+/// A body meets its interface, and an interface alone comes from the outside. `Memory` is the only error.
 fn joined(alloc: Global, found: &mut Found, parts: Parts) -> Result<Shared, Memory>
     ensures taken { OnOk result (taken (Going found.old) (joined_steps parts.body parts.face) ≡ Going found.new) }
     ensures shape { IfOk result (λ shape. shape ≡ joined_shape parts.body parts.face) }
@@ -106,7 +106,7 @@ fn joined(alloc: Global, found: &mut Found, parts: Parts) -> Result<Shared, Memo
     }
 }
 
-/// Matches a body with its interface, or pins an interface without a body. `Memory` is the only error.
+/// A body, if there is one, meets an interface; an interface alone comes from the outside. `Memory` is the only error.
 fn met(alloc: Global, found: &mut Found, body: Option<Shared>, face: &Shared) -> Result<(), Memory>
     ensures { OnOk result (taken (Going found.old) (joined_steps body (Some face.now)) ≡ Going found.new) }
 {
