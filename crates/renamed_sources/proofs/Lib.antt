@@ -1,0 +1,3 @@
+pub mod Respelling
+pub mod Limits
+pub mod Unhit
