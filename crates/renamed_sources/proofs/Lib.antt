@@ -1,0 +1,4 @@
+pub mod Respelling
+pub mod Limits
+pub mod Unhit
+pub mod ValueNames

@@ -1,0 +1,9 @@
+//! What the sources of a renaming are: their names, their bytes where nothing is renamed, and their names of values.
+#![tactic(auto)]
+
+mod laws;
+
+pub use laws::{
+    both_are_respelled, names_are_value_names, nothing_is_over, renamed_keep_names,
+    sources_can_be_respelled, sources_without_hits_stay,
+};
