@@ -126,6 +126,14 @@ fn face_told(items: &[SigItem]) -> Told {
     }
 }
 
+/// What the tree of a file is.
+fn tree_told(tree: &FileTree) -> Told {
+    match tree {
+        FileTree::Body(_, items) => body_told(items.as_slice()),
+        FileTree::Face(_, items) => face_told(items.as_slice()),
+    }
+}
+
 /// What a source is, read as a body or as an interface.
 pub fn file_of(alloc: Global, source: &[u8], kind: FileKind) -> Told {
     if source.len() > 1_048_576 {
@@ -137,8 +145,7 @@ pub fn file_of(alloc: Global, source: &[u8], kind: FileKind) -> Told {
                 return Told::NoLexemes;
             }
             match parse_file(alloc, &tokens, 0, kind) {
-                Ok(FileTree::Body(_, items)) => body_told(&items),
-                Ok(FileTree::Face(_, items)) => face_told(&items),
+                Ok(tree) => tree_told(&tree),
                 Err(ParseError::Form { token, kind }) => Told::Form(token, kind),
                 Err(ParseError::Deep { token }) => Told::Deep(token),
                 Err(ParseError::Syntax) => Told::Syntax,
