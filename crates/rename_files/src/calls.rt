@@ -1,0 +1,109 @@
+//! The calls of renaming.
+
+ghost use Rattle.std.specs.Prelude.{◌≡◌, ◌⊎◌, Err, IfErr, IfOk, Ok};
+ghost use Rattle.rotor_base.specs.declared.refusal.Refusal.TheVariants as refusal;
+ghost use Rattle.rename_files.specs.Answer.{Checks, Renames, Shows};
+ghost use Rattle.rename_files.specs.Steps.{IsRefusedFor};
+
+use crate::aim::find_aim;
+use crate::judge::judge;
+use crate::project::resolve;
+use dependency_kernel::footprint;
+use project_reading::read_project;
+use rename_parts::{binder_places, count_refs, set_of};
+use rename_steps::{changed_files, remake};
+use rotor_base::{Counts, Files, FootReport, Name, Refusal, Renamed, Row, Target, Watch};
+use std::alloc::Global;
+
+/// What a project has: its files, units, declarations, references and links.
+///
+/// # Errors
+///
+/// The first of these that stands: the refusals of `read_project`; `Duplicate` with the least place that repeats a name
+/// of its group, and the least place of that name there; `Heavy` with the first site to end that is too heavy;
+/// `Unmatched` with the least item of a link that lacks its source. `Memory`.
+pub fn check(alloc: Global, files: &Files) -> Result<Counts, Refusal>
+    ensures counted { IfOk result (λ counts. Checks files.now (Ok counts)) }
+    ensures refused { IfErr result (IsRefusedFor (λ why. Checks files.now (Err why))) }
+{
+    let read = read_project(alloc, files)?;
+    let resolved = resolve(alloc, &read.project)?;
+    let binders = binder_places(alloc, &read.project)?;
+    Ok(Counts {
+        files: files.entries().len() as u64,
+        units: read.project.units.as_slice().len() as u64,
+        declarations: binders.as_slice().len() as u64,
+        references: resolved.facts.refs.as_slice().len() as u64,
+        links: resolved.facts.links.as_slice().len() as u64,
+    })
+}
+
+/// The footprint of the binder that a target names: its name, its declarations in order, the least of them that is
+/// linked with the outside, and the number of references to them.
+///
+/// # Errors
+///
+/// Those of [`check`], and then `NoTarget`, where the target names no binder. `Memory`.
+pub fn foot(alloc: Global, files: &Files, target: &Target) -> Result<FootReport, Refusal>
+    ensures shown { IfOk result (λ shown. Shows files.now target.now (Ok shown)) }
+    ensures refused { IfErr result (IsRefusedFor (λ why. Shows files.now target.now (Err why))) }
+{
+    let read = read_project(alloc, files)?;
+    let resolved = resolve(alloc, &read.project)?;
+    let aim = find_aim(alloc, files, &read, &resolved.top, target)?;
+    let foot = footprint(alloc, &resolved.facts, aim.place)?;
+    let members = set_of(alloc, foot.decls.as_slice())?;
+    let refs = count_refs(resolved.facts.refs.as_slice(), &members);
+    Ok(FootReport {
+        old: aim.mark.name,
+        foot,
+        refs,
+    })
+}
+
+/// Renames the binder that a target names, with its footprint and all references to it: the new files, the numbers of
+/// the sources that changed, the old and the new name, the footprint, the number of references, and the binder's place.
+///
+/// # Errors
+///
+/// Those of [`foot`], and then the first of these that holds: `Operator`, where the name is an operator; `BadName`,
+/// where the new name is no value name; `SameName`, where it is the old one; `Outside` with the least member that is
+/// linked with the outside; `Pun` with the least member or reference whose word is a label or a field too; `Blurred`
+/// with the least place at which an outside module hides what a member is; `Grown` with the first source with which
+/// the new ones are over the limits on bytes; `Clash` with the least place that would repeat a name of its group, and
+/// the least place of that name there; `Capture` with the least reference that would have another goal, and both goals;
+/// `Mislink` with the first link of the least item that would have another source, and both sources. `Memory`.
+pub fn rename(
+    alloc: Global,
+    files: &Files,
+    target: &Target,
+    name: &[u8],
+) -> Result<Renamed, Refusal>
+    ensures done { IfOk result (λ done. Renames files.now target.now name.now (Ok done)) }
+    ensures refused { IfErr result (IsRefusedFor (λ why. Renames files.now target.now name.now (Err why))) }
+{
+    let read = read_project(alloc, files)?;
+    let resolved = resolve(alloc, &read.project)?;
+    let aim = find_aim(alloc, files, &read, &resolved.top, target)?;
+    let foot = footprint(alloc, &resolved.facts, aim.place)?;
+    let members = set_of(alloc, foot.decls.as_slice())?;
+    let refs = count_refs(resolved.facts.refs.as_slice(), &members);
+    let new = Name::new(alloc, name)?;
+    let watch = Watch {
+        old: aim.mark.name,
+        new,
+        foot,
+    };
+    let judged = judge(alloc, files, &read, &resolved.facts, &watch, aim.place)?;
+    let changed = changed_files(alloc, &judged.places, files.entries())?;
+    let files = remake(alloc, files, judged.sources)?;
+    Ok(Renamed {
+        files,
+        changed: Row::from_vec(changed),
+        old: watch.old,
+        new: watch.new,
+        foot: watch.foot,
+        refs,
+        undo_at: aim.place,
+    })
+}

@@ -1,0 +1,79 @@
+//! The refusals of a project, in their order.
+
+ghost use Rattle.std.specs.Prelude.{◌≡◌, None, Some, IfErr, IfOk, IsOk, OnOk};
+ghost use Rattle.ml_syntax.specs.Sound.{IsSound};
+ghost use Rattle.ml_syntax.specs.View.{view_project};
+ghost use Rattle.shape_core.specs.Node.{entries_of};
+ghost use Rattle.shape_core.specs.Shape.{none};
+ghost use Rattle.binding_model.specs.Facts.{facts, least, unmatched_items};
+ghost use Rattle.rotor_base.specs.declared.place.Place.{Place};
+ghost use Rattle.rotor_base.specs.declared.refusal.Refusal.TheVariants as refusal;
+ghost use Rattle.binding_model.specs.Scopes.{after_units};
+ghost use Rattle.binding_model.specs.Sums.{heavy};
+ghost use Rattle.rename_model.specs.Project.{IsDuplicate, IsHeavy, IsUnmatched, refusals_of_project};
+ghost use Rattle.rename_files.specs.Steps.{IsRefusedFor, IsFreeOf};
+
+use ml_syntax::Project;
+use mod_shape::{Resolved, facts, groups};
+use rename_parts::{first_duplicate, least_unmatched};
+use rotor_base::{Link, Refusal};
+use shape_core::FactError;
+use std::alloc::Global;
+
+/// The facts of a project and the scope after its units, where it has no refusal: no name stands twice in a group, no
+/// site is too heavy, and no link lacks its source.
+pub fn resolve(alloc: Global, project: &Project) -> Result<Resolved, Refusal>
+    requires { IsSound (view_project project.now) }
+    ensures facts { IfOk result (λ done. done.facts ≡ facts (view_project project.now)) }
+    ensures top { IfOk result (λ done. entries_of done.top ≡ after_units none (view_project project.now)) }
+    ensures light { OnOk result (heavy (view_project project.now) ≡ None) }
+    ensures passed { OnOk result (IsFreeOf (refusals_of_project (view_project project.now))) }
+    ensures refused { IfErr result (IsRefusedFor (refusals_of_project (view_project project.now))) }
+{
+    check_groups(alloc, project)?;
+    let resolved = facts_of(alloc, project)?;
+    check_links(resolved.facts.links.as_slice())?;
+    Ok(resolved)
+}
+
+/// Whether no name stands twice in a group.
+fn check_groups(alloc: Global, project: &Project) -> Result<(), Refusal>
+    requires { IsSound (view_project project.now) }
+    ensures passed { OnOk result (IsFreeOf (IsDuplicate (view_project project.now))) }
+    ensures refused { IfErr result (IsRefusedFor (IsDuplicate (view_project project.now))) }
+{
+    let groups = groups(alloc, project)?;
+    match first_duplicate(alloc, project, groups.as_slice())? {
+        None => Ok(()),
+        Some(repeat) => Err(Refusal::Duplicate {
+            first: repeat.first,
+            again: repeat.again,
+        }),
+    }
+}
+
+/// The facts of a project, where no site is too heavy.
+fn facts_of(alloc: Global, project: &Project) -> Result<Resolved, Refusal>
+    requires { IsSound (view_project project.now) }
+    ensures facts { IfOk result (λ done. done.facts ≡ facts (view_project project.now)) }
+    ensures top { IfOk result (λ done. entries_of done.top ≡ after_units none (view_project project.now)) }
+    ensures light { OnOk result (heavy (view_project project.now) ≡ None) }
+    ensures refused { IfErr result (IsRefusedFor (IsHeavy (view_project project.now))) }
+{
+    match facts(alloc, project) {
+        Ok(resolved) => Ok(resolved),
+        Err(FactError::Heavy { at }) => Err(Refusal::Heavy { at }),
+        Err(FactError::Memory) => Err(Refusal::Memory),
+    }
+}
+
+/// Whether no link lacks its source.
+fn check_links(links: &[Link]) -> Result<(), Refusal>
+    ensures passed { OnOk result (least (unmatched_items links.now) ≡ None) }
+    ensures refused { IfErr result (λ why. (item : Place) × (least (unmatched_items links.now) ≡ Some item) × (why ≡ refusal.Unmatched item)) }
+{
+    match least_unmatched(links) {
+        None => Ok(()),
+        Some(item) => Err(Refusal::Unmatched { item }),
+    }
+}

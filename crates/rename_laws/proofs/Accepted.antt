@@ -1,0 +1,62 @@
+-- The laws of accepted renamings.
+use Rattle.std.proofs.Common.{inl, inr, Contains, sym, subst}
+use Rattle.rotor_base.specs.declared.report.Renamed.{Renamed}
+use Rattle.rotor_base.specs.declared.target.Target.{Target}
+use Rattle.rotor_base.specs.Files.{FileSet, IsProject}
+use Rattle.shape_core.specs.Shape.{Name}
+use Rattle.dependency_kernel.specs.Foot.{IsFoot}
+use Rattle.binding_model.specs.Facts.{facts}
+use Rattle.binding_model.proofs.Leasts.{changes_whole_foot}
+use Rattle.project_reading.proofs.Soundness.{read_is_sound}
+use Rattle.rename_model.specs.Renaming.{watch_of, renamed}
+use Rattle.rename_files.specs.Answer.{Accepted}
+use Rattle.renamed_sources.proofs.Unhit.{sources_without_hits_stay}
+use Rattle.rename_laws.specs.Laws.{RenamingsRewrite, RenamingsKeepFacts, RenamingsKeepRuns, FootprintsAreLeast}
+use Rattle.rename_laws.proofs.Kept.{IsRenamable, same_facts, same_runs, still, names, taken}
+
+pub renamable : (files : FileSet) (target : Target) (new : Name) (done : Renamed) → IsProject files → (a : Accepted files target new done)
+    → IsRenamable files a.project a.binder a.foot new
+renamable files target new done p a = record { files_are = p; reads = a.accepts.reads; project = a.accepts.none; binder = a.aims.1; is = a.is_foot; none = a.none }
+
+pub renamings_rewrite : RenamingsRewrite
+renamings_rewrite files target new done p a =
+    let us = a.project in
+    let h = renamable files target new done p a in
+    record {
+      names = names files us a.binder a.foot new h done.files a.renaming.sources a.renaming.manifest;
+      manifest = a.renaming.manifest;
+      taken = taken files us a.binder a.foot new h done.files a.renaming.sources a.renaming.manifest;
+      covers = λ k. elim (sources_without_hits_stay us (watch_of us a.binder a.foot new) files.entries done.files.entries a.renaming.sources k) [
+        | inl e ↦ inl e
+        | inr c ↦ inr (subst (λ ks. Contains ks k) (sym a.renaming.changed) c)
+      ];
+    }
+
+pub renamings_keep_facts : RenamingsKeepFacts
+renamings_keep_facts files target new done p a =
+    let h = renamable files target new done p a in
+    record {
+      project = a.project;
+      renamed = renamed a.project (watch_of a.project a.binder a.foot new);
+      reads = a.accepts.reads;
+      still = still files a.project a.binder a.foot new h done.files a.renaming.sources a.renaming.manifest;
+      same = same_facts files a.project a.binder a.foot new h;
+    }
+
+pub footprints_are_least : FootprintsAreLeast
+footprints_are_least files target new done p a = record {
+  project = a.project;
+  reads = a.accepts.reads;
+  whole = λ r m y valid c changes b. changes_whole_foot a.project r a.binder done.foot (read_is_sound files a.project p a.accepts.reads) valid a.aims.1 (subst (λ foot. IsFoot (facts a.project).links a.binder foot) (sym a.renaming.footprint) a.is_foot) m y c changes b;
+}
+
+pub renamings_keep_runs : RenamingsKeepRuns
+renamings_keep_runs files target new done p a =
+    let h = renamable files target new done p a in
+    record {
+      project = a.project;
+      renamed = renamed a.project (watch_of a.project a.binder a.foot new);
+      reads = a.accepts.reads;
+      still = still files a.project a.binder a.foot new h done.files a.renaming.sources a.renaming.manifest;
+      same = same_runs files a.project a.binder a.foot new h done.files a.renaming.sources a.renaming.manifest;
+    }

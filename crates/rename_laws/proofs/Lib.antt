@@ -1,0 +1,6 @@
+pub mod Leasts
+pub mod Ladder
+pub mod Free
+pub mod Kept
+pub mod Accepted
+pub mod Undone

@@ -1,0 +1,5 @@
+use Rattle.rename_laws.proofs.Accepted as proof
+use Rattle.rename_laws.proofs.laws.renamings_rewrite.Goals as goal
+
+pub returns : goal.returns
+returns c = proof.renamings_rewrite

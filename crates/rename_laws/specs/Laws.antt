@@ -1,0 +1,70 @@
+-- What a renaming that is accepted keeps.
+use Rattle.std.specs.Prelude.{◌≡◌, ◌⊎◌, ℕ, List, Some, None, Contains, Ok, slice_get}
+use Rattle.rotor_base.specs.declared.place.Place.{Place}
+use Rattle.rotor_base.specs.declared.report.Renamed.{Renamed}
+use Rattle.rotor_base.specs.declared.target.Target.{Target}
+use Rattle.rotor_base.specs.declared.target.Target.TheVariants.{At}
+use Rattle.rotor_base.specs.Files.{FileSet, IsProject, load_refusal, names_of}
+use Rattle.ml_syntax.specs.Tree.{UnitTree}
+use Rattle.shape_core.specs.Shape.{Name}
+use Rattle.binding_model.specs.Facts.{facts}
+use Rattle.binding_model.specs.Renaming.{Renaming, Changes, IsValid}
+use Rattle.module_meaning.specs.Run.{run}
+use Rattle.project_reading.specs.Reads.{Reads}
+use Rattle.rename_model.specs.Target.{number_of}
+use Rattle.rename_files.specs.Answer.{Renames}
+
+-- the new sources have the old names, the manifest is the same, they are taken as a project's files, and each source that
+-- differs is among those that changed
+pub record Rewrites (files : FileSet) (done : Renamed) : Type 0 where
+  pub names : names_of done.files.entries ≡ names_of files.entries
+  pub manifest : done.files.manifest ≡ files.manifest
+  pub taken : load_refusal done.files.entries done.files.manifest ≡ None
+  pub covers : (k : ℕ) → (slice_get files.entries k ≡ slice_get done.files.entries k) ⊎ Contains done.changed k
+
+-- the files are read as projects with the same facts: every reference keeps its declaration, and every link stays
+pub record KeepsFacts (old new : FileSet) : Type 0 where
+  pub project : List UnitTree
+  pub renamed : List UnitTree
+  pub reads : Reads old project
+  pub still : Reads new renamed
+  pub same : facts renamed ≡ facts project
+
+-- the files are read as projects of which every bounded run prints the same and ends the same
+pub record KeepsRuns (old new : FileSet) : Type 0 where
+  pub project : List UnitTree
+  pub renamed : List UnitTree
+  pub reads : Reads old project
+  pub still : Reads new renamed
+  pub same : (n : ℕ) → run n renamed ≡ run n project
+
+-- a renaming that is valid and changes one of these declarations gives all of them the same name
+pub record IsLeastFor (files : FileSet) (decls : List Place) : Type 0 where
+  pub project : List UnitTree
+  pub reads : Reads files project
+  pub whole : (r : Renaming) (a : Place) (y : Name) → IsValid project r → Contains decls a → Changes project r a y
+      → (b : Place) → Contains decls b → Changes project r b y
+
+-- Law: a renaming that is accepted rewrites sources, and nothing else
+abbrev pub RenamingsRewrite : Type 0
+RenamingsRewrite = (files : FileSet) (target : Target) (new : Name) (done : Renamed) → IsProject files → Renames files target new (Ok done) → Rewrites files done
+
+-- Law: it keeps the facts
+abbrev pub RenamingsKeepFacts : Type 0
+RenamingsKeepFacts = (files : FileSet) (target : Target) (new : Name) (done : Renamed) → IsProject files → Renames files target new (Ok done) → KeepsFacts files done.files
+
+-- Law: and the bounded runs
+abbrev pub RenamingsKeepRuns : Type 0
+RenamingsKeepRuns = (files : FileSet) (target : Target) (new : Name) (done : Renamed) → IsProject files → Renames files target new (Ok done) → KeepsRuns files done.files
+
+-- Law: and the declarations that it changes are a least footprint
+abbrev pub FootprintsAreLeast : Type 0
+FootprintsAreLeast = (files : FileSet) (target : Target) (new : Name) (done : Renamed) → IsProject files → Renames files target new (Ok done) → IsLeastFor files done.foot.decls
+
+-- Law: and it is undone. If a source's name gives the target's file, the renaming back of the target's place is accepted,
+-- and gives the old files
+abbrev pub RenamingsAreUndone : Type 0
+RenamingsAreUndone =
+    (files : FileSet) (target : Target) (new : Name) (done : Renamed) → IsProject files → Renames files target new (Ok done)
+    → (source : Name) → number_of done.files.entries source ≡ Some done.undo_at.file
+    → (back : Renamed) × Renames done.files (At source done.undo_at.token) done.old (Ok back) × (back.files ≡ files)

@@ -1,0 +1,28 @@
+//! The laws of accepted renamings, each as the contract of a function.
+
+ghost use Rattle.rename_laws.specs.Laws.{FootprintsAreLeast, RenamingsAreUndone, RenamingsKeepFacts, RenamingsKeepRuns, RenamingsRewrite};
+
+/// A renaming that is accepted rewrites sources, and nothing else.
+pub fn renamings_rewrite()
+    ensures { RenamingsRewrite }
+{}
+
+/// A renaming that is accepted keeps the facts of the project.
+pub fn renamings_keep_facts()
+    ensures { RenamingsKeepFacts }
+{}
+
+/// A renaming that is accepted keeps every bounded run of the project.
+pub fn renamings_keep_runs()
+    ensures { RenamingsKeepRuns }
+{}
+
+/// A renaming that is accepted changes a least footprint.
+pub fn footprints_are_least()
+    ensures { FootprintsAreLeast }
+{}
+
+/// A renaming that is accepted is undone by the renaming of its target back, which gives the old files.
+pub fn renamings_are_undone()
+    ensures { RenamingsAreUndone }
+{}

@@ -1,0 +1,9 @@
+//! What a renaming that is accepted keeps: the facts and the runs of the project, and that it changes a least footprint.
+#![tactic(auto)]
+
+mod laws;
+
+pub use laws::{
+    footprints_are_least, renamings_are_undone, renamings_keep_facts, renamings_keep_runs,
+    renamings_rewrite,
+};
