@@ -3,4 +3,5 @@ pub mod Ladder
 pub mod Free
 pub mod Kept
 pub mod Accepted
+pub mod Placed
 pub mod Undone

@@ -1,5 +1,5 @@
 -- An accepted renaming is undone by the renaming back.
-use Rattle.std.proofs.Common.{◌≡◌, ◌⊎◌, inl, inr, ◌||◌, ℕ, suc, List, [], ◌∷◌, ◌++◌, Bool, true, false, true≢false, map, length, Option, Some, None, Contains, refl, ap, sym, subst, ◌∙◌, slice_get}
+use Rattle.std.proofs.Common.{◌<◌, ◌≤◌, ◌≡◌, ◌⊎◌, inl, inr, ◌||◌, ℕ, suc, List, [], ◌∷◌, ◌++◌, Bool, true, false, true≢false, map, length, Option, Some, None, Contains, refl, ap, sym, subst, ◌∙◌, slice_get}
 use Rattle.std.specs.Prelude.{IsTrue}
 use Rattle.rotor_base.specs.Name.{is_value_name}
 use Rattle.rotor_base.specs.declared.place.Place.{Place}
@@ -15,7 +15,7 @@ use Rattle.rotor_base.specs.declared.refusal.Refusal.TheVariants as refusal
 use Rattle.rotor_base.specs.declared.report.Renamed.{Renamed}
 use Rattle.rotor_base.specs.declared.source.SourceFile.{SourceFile}
 use Rattle.rotor_base.specs.declared.target.Target.TheVariants.{At}
-use Rattle.rotor_base.specs.Files.{FileSet, are_over}
+use Rattle.rotor_base.specs.Files.{names_of, FileSet, are_over}
 use Rattle.ml_lexer.specs.Lexed.{Lexeme}
 use Rattle.ml_syntax.specs.Places.{Site}
 use Rattle.ml_syntax.specs.Tree.{FileTree, UnitTree}
@@ -46,12 +46,13 @@ use Rattle.rename_steps.proofs.Having.{has_split, has_contained, contained_has, 
 use Rattle.rename_steps.proofs.Rungs.{Rest}
 use Rattle.rename_steps.proofs.Rungs as rungs
 use Rattle.rename_files.specs.Answer.{Accepted}
-use Rattle.rename_laws.specs.Laws.{RenamingsAreUndone}
+use Rattle.rename_laws.specs.Laws.{RenamingsAreUndone, UndosHavePlaces}
 use Rattle.rename_laws.proofs.Accepted.{renamable}
 use Rattle.rename_laws.proofs.Free.{none_repeats, none_heavy, none_unmatched}
 use Rattle.rename_laws.proofs.Kept as kept
 use Rattle.rename_laws.proofs.Kept.{IsRenamable}
 use Rattle.rename_laws.proofs.Ladder.{none_met}
+use Rattle.rename_laws.proofs.Placed.{IsPlaced, placed, same_number}
 
 -- ---- parts
 
@@ -191,13 +192,20 @@ module _ (files : FileSet) (us : List UnitTree) (d : Place) (foot : Foot) (new :
   free : IsFree us d foot new
   free = kept.free files us d foot new h
 
-  old_name : IsTrue (is_value_name old)
-  old_name =
-      let x = h.binder.0 in
-      let at = h.binder.1 in
-      let operator = not_true x.operator (λ e. free.words d own_hit (x, at, e)) in
-      let pun = not_true x.pun (λ e. free.plain d own_hit (x, at, e)) in
-      subst (λ n. IsTrue (is_value_name n)) (sym (ap site_name at)) (names_are_value_names files us d x h.files_are h.reads at operator pun)
+  operator : h.binder.0.operator ≡ false
+  operator = not_true h.binder.0.operator (λ e. free.words d own_hit (h.binder.0, h.binder.1, e))
+
+  pun : h.binder.0.pun ≡ false
+  pun = not_true h.binder.0.pun (λ e. free.plain d own_hit (h.binder.0, h.binder.1, e))
+
+  pub old_name : IsTrue (is_value_name old)
+  old_name = subst (λ n. IsTrue (is_value_name n)) (sym (ap site_name h.binder.1)) (names_are_value_names files us d h.binder.0 h.files_are h.reads h.binder.1 operator pun)
+
+  pub own_place : IsPlaced files d
+  own_place = placed files us d h.binder.0 h.files_are h.reads h.binder.1 operator pun
+
+  pub own_number : number_of out.entries own_place.source.name ≡ Some d.file
+  own_number = same_number files.entries out.entries own_place.source.name (kept.names files us d foot new h out sources manifest) ∙ own_place.number
 
   free_back : IsFree vs d foot old
   free_back = record {
@@ -254,9 +262,6 @@ module _ (files : FileSet) (us : List UnitTree) (d : Place) (foot : Foot) (new :
     undo_at = d;
   }
 
-  pub old_is_name : IsTrue (is_value_name old)
-  old_is_name = old_name
-
   pub accepted_back : (source : Name) → number_of out.entries source ≡ Some d.file → Accepted out (At source d.token) old undoing
   accepted_back source e = record {
     project = vs;
@@ -288,3 +293,22 @@ renamings_are_undone files target new done p a source e =
     let back = undoing files us d a.foot new h done.files a.renaming.sources a.renaming.manifest in
     let at : Accepted done.files (At source done.undo_at.token) (name_of us d) back = subst (λ (q : Place). Accepted done.files (At source q.token) (name_of us d) back) (sym a.renaming.target) accepted in
     (back, subst (λ (old : Name). Accepted done.files (At source done.undo_at.token) old back) (sym a.renaming.old_name) at, refl)
+
+pub undos_have_places : UndosHavePlaces
+undos_have_places files target new done p a =
+    let us = a.project in
+    let d = a.binder in
+    let h = renamable files target new done p a in
+    let at = own_place files us d a.foot new h done.files a.renaming.sources a.renaming.manifest in
+    let number = own_number files us d a.foot new h done.files a.renaming.sources a.renaming.manifest in
+    let old = old_name files us d a.foot new h done.files a.renaming.sources a.renaming.manifest in
+    let is = a.renaming.target in
+    record {
+      source = at.source.name;
+      is_source = at.is_source;
+      source_at = subst (λ (q : Place). slice_get (names_of files.entries) q.file ≡ Some at.source.name) (sym is) at.named;
+      number = subst (λ (q : Place). number_of done.files.entries at.source.name ≡ Some q.file) (sym is) number;
+      above = subst (λ (q : Place). 0 < q.token) (sym is) at.above;
+      below = subst (λ (q : Place). q.token ≤ 1048576) (sym is) at.below;
+      named = subst (λ (n : Name). IsTrue (is_value_name n)) (sym a.renaming.old_name) old;
+    }

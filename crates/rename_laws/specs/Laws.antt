@@ -1,9 +1,11 @@
 -- What a renaming that is accepted keeps.
-use Rattle.std.specs.Prelude.{◌≡◌, ◌⊎◌, ℕ, List, Some, None, Contains, Ok, slice_get}
+use Rattle.std.specs.Prelude.{◌≡◌, ◌⊎◌, ℕ, ◌<◌, ◌≤◌, List, true, Some, None, Contains, Ok, slice_get}
 use Rattle.rotor_base.specs.declared.place.Place.{Place}
 use Rattle.rotor_base.specs.declared.report.Renamed.{Renamed}
 use Rattle.rotor_base.specs.declared.target.Target.{Target}
 use Rattle.rotor_base.specs.declared.target.Target.TheVariants.{At}
+use Rattle.rotor_base.specs.Name.{is_value_name}
+use Rattle.rotor_base.specs.Stem.{is_source_name}
 use Rattle.rotor_base.specs.Files.{FileSet, IsProject, load_refusal, names_of}
 use Rattle.ml_syntax.specs.Tree.{UnitTree}
 use Rattle.shape_core.specs.Shape.{Name}
@@ -45,6 +47,17 @@ pub record IsLeastFor (files : FileSet) (decls : List Place) : Type 0 where
   pub whole : (r : Renaming) (a : Place) (y : Name) → IsValid project r → Contains decls a → Changes project r a y
       → (b : Place) → Contains decls b → Changes project r b y
 
+-- where an undo begins: the name of a source that gives the target's file, and the number of a token; the old name is a
+-- value name
+pub record IsUndoPlace (files : FileSet) (done : Renamed) : Type 0 where
+  pub source : Name
+  pub is_source : is_source_name source ≡ true
+  pub source_at : slice_get (names_of files.entries) done.undo_at.file ≡ Some source
+  pub number : number_of done.files.entries source ≡ Some done.undo_at.file
+  pub above : 0 < done.undo_at.token
+  pub below : done.undo_at.token ≤ 1048576
+  pub named : is_value_name done.old ≡ true
+
 -- Law: a renaming that is accepted rewrites sources, and nothing else
 abbrev pub RenamingsRewrite : Type 0
 RenamingsRewrite = (files : FileSet) (target : Target) (new : Name) (done : Renamed) → IsProject files → Renames files target new (Ok done) → Rewrites files done
@@ -68,3 +81,7 @@ RenamingsAreUndone =
     (files : FileSet) (target : Target) (new : Name) (done : Renamed) → IsProject files → Renames files target new (Ok done)
     → (source : Name) → number_of done.files.entries source ≡ Some done.undo_at.file
     → (back : Renamed) × Renames done.files (At source done.undo_at.token) done.old (Ok back) × (back.files ≡ files)
+
+-- Law: there is such a name
+abbrev pub UndosHavePlaces : Type 0
+UndosHavePlaces = (files : FileSet) (target : Target) (new : Name) (done : Renamed) → IsProject files → Renames files target new (Ok done) → IsUndoPlace files done

@@ -1,6 +1,6 @@
 //! The laws of accepted renamings, each as the contract of a function.
 
-ghost use Rattle.rename_laws.specs.Laws.{FootprintsAreLeast, RenamingsAreUndone, RenamingsKeepFacts, RenamingsKeepRuns, RenamingsRewrite};
+ghost use Rattle.rename_laws.specs.Laws.{FootprintsAreLeast, RenamingsAreUndone, RenamingsKeepFacts, RenamingsKeepRuns, RenamingsRewrite, UndosHavePlaces};
 
 /// A renaming that is accepted rewrites sources, and nothing else.
 pub fn renamings_rewrite()
@@ -25,4 +25,9 @@ pub fn footprints_are_least()
 /// A renaming that is accepted is undone by the renaming of its target back, which gives the old files.
 pub fn renamings_are_undone()
     ensures { RenamingsAreUndone }
+{}
+
+/// The undo of an accepted renaming has a source's name and a token's number, and the old name is a value name.
+pub fn undos_have_places()
+    ensures { UndosHavePlaces }
 {}

@@ -63,18 +63,18 @@ no_fixed : (b : Bool) (f : Fixed) (at : ℕ) (y : Name) → cond b (placed f at)
 no_fixed true f at y e = cc
 no_fixed false f at y e = cc
 
-no_keyword : (o : Option Fixed) (at : ℕ) (x y : Name) → tok_or (word class.Keyword x) at o ≡ word class.Lower y → ⊥
+pub no_keyword : (o : Option Fixed) (at : ℕ) (x y : Name) → tok_or (word class.Keyword x) at o ≡ word class.Lower y → ⊥
 no_keyword None at x y e = cc
 no_keyword (Some f) at x y e = no_fixed (is_placed f) f at y e
 
-no_mark : (o : Option Fixed) (at : ℕ) (x y : Name) → tok_or (word class.Mark x) at o ≡ word class.Lower y → ⊥
+pub no_mark : (o : Option Fixed) (at : ℕ) (x y : Name) → tok_or (word class.Mark x) at o ≡ word class.Lower y → ⊥
 no_mark None at x y e = cc
 no_mark (Some f) at x y e = no_fixed (is_placed f) f at y e
 
 same_class : (c k : Class) (x y : Name) → word c x ≡ word k y → c ≡ k
 same_class c k x y e = cc
 
-same_word : (c k : Class) (x y : Name) → word c x ≡ word k y → x ≡ y
+pub same_word : (c k : Class) (x y : Name) → word c x ≡ word k y → x ≡ y
 same_word c k x y e = cc
 
 lower_tok : (c : Class) (at : ℕ) (text : List ℕ) (y : Name) → tok c at text ≡ word class.Lower y → (c ≡ class.Lower) × (text ≡ y.text)
