@@ -1,21 +1,21 @@
 -- Loading after sources were written, and after the old ones were written again.
-use Rattle.std.proofs.Common.{◌≡◌, ℕ, zero, suc, ◌+◌, ◌<◌, ◌⊎◌, Bool, true, false, cond, ◌&&◌, ◌||◌, List, [], ◌∷◌, map, filter, length, Option, Some, None, IsSome, is_some, option_map, Result, Ok, slice_get, Contains, codes, refl, sym, ap, subst, ◌∙◌, inl, inr, arith}
+use Rattle.std.proofs.Common.{◌≡◌, ℕ, zero, suc, ◌⊎◌, Bool, true, false, cond, ◌&&◌, ◌||◌, List, [], ◌∷◌, filter, Option, Some, None, IsSome, is_some, option_map, Ok, slice_get, Contains, codes, refl, sym, ap, subst, ◌∙◌, inl, inr, arith}
 use Rattle.std.specs.List.{AllByRecursion, cons_option, list_any, list_all}
 use Rattle.std.specs.List.Sorted.{IsStrictlySortedBy}
-use Rattle.std.specs.declared.cmp.Ordering.TheVariants.{Less, Equal}
-use Rattle.std.specs.Ordering.{nat_cmp, is_eq, eq_by_cmp}
+use Rattle.std.specs.declared.cmp.Ordering.TheVariants.{Less}
+use Rattle.std.specs.Ordering.{nat_cmp, is_eq}
 use Rattle.std.specs.Cmp.Lexicographic.{slice_cmp, nat_list_cmp_total}
 use Rattle.std.specs.FinMap.{get, insert, keys, same_map, slice_cmp-IsAntisymmetric, nat_cmp-IsAntisymmetric}
 use Rattle.std.specs.Str.{bytes_eq}
 use Rattle.std.proofs.lemmas.Map.Text.{is_eq-slice_cmp}
 use Rattle.std.proofs.lemmas.Slice.Eq.{bytes_eq-Decides}
 use Rattle.rotor_base.specs.Stem.{is_source_name, ends_stem}
-use Rattle.rotor_base.specs.Files.{FileSet, names_of, load_refusal}
+use Rattle.rotor_base.specs.Files.{FileSet, IsProject, names_of, load_refusal}
 use Rattle.rotor_base.specs.declared.source.SourceFile.{SourceFile}
 use Rattle.rotor_base.specs.declared.refusal.LoadError.{LoadError}
 use Rattle.tree_io.specs.Outside.{FileMap}
-use Rattle.project_load.specs.Load.{file_in, files_in, source_names, sources_of, manifest_of, unless_refused, loaded}
-use Rattle.project_load.specs.Rewritten.{after, files_at, Covers, AreOthers, NewSourcesAreLoaded, OldSourcesComeBack}
+use Rattle.project_load.specs.Load.{files_in, source_names, sources_of, manifest_of, unless_refused, loaded}
+use Rattle.project_load.specs.Rewritten.{after, files_at, Covers, AreOthers, LoadedFilesAreAProject, NewSourcesAreLoaded, OldSourcesComeBack}
 use Rattle.project_load.proofs.Keys.{keys_kept, get_written}
 use Rattle.project_load.proofs.Sorted.{names_rise, all_there}
 use Rattle.project_load.proofs.Loaded.{names_read, loaded_is}
@@ -249,3 +249,31 @@ new_sources_are_loaded held old new numbers is others taken covers = loads held 
 
 pub old_sources_come_back : OldSourcesComeBack
 old_sources_come_back held old new numbers back is others covers returns = comes_back held old new numbers is others covers back returns
+
+-- what is loaded is a project
+filtered : (ns : List (List ℕ)) → list_all is_source_name (filter is_source_name ns) ≡ true
+filtered [] = refl
+filtered (n ∷ ns) = by (is_source_name n) refl (filtered ns) where
+  by : (b : Bool) → is_source_name n ≡ b → list_all is_source_name (filter is_source_name ns) ≡ true
+      → list_all is_source_name (cond b (n ∷ filter is_source_name ns) (filter is_source_name ns)) ≡ true
+  by true e h = ap (λ (c : Bool). c && list_all is_source_name (filter is_source_name ns)) e ∙ h
+  by false e h = h
+
+not_refused : (found : Option LoadError) (said files : FileSet) → unless_refused found said ≡ Ok files → found ≡ None
+not_refused None said files e = refl
+not_refused (Some error) said files e = absurd cc
+
+taken_none : (held : FileMap) (files : FileSet) → loaded held ≡ Ok files → load_refusal (sources_of held) (manifest_of held) ≡ None
+unfolding loaded
+taken_none held files e = not_refused (load_refusal (sources_of held) (manifest_of held)) (record { entries = sources_of held; manifest = manifest_of held }) files e
+
+pub loaded_files_are_a_project : LoadedFilesAreAProject
+loaded_files_are_a_project held files e =
+    let names : names_of (sources_of held) ≡ source_names held = names_read held (source_names held) (all_there held) in
+    subst IsProject (sym (loaded_is held files e)) (record {
+      sources = record {
+        named = ap (list_all is_source_name) names ∙ filtered (keys held);
+        ordered = subst (IsStrictlySortedBy (slice_cmp nat_cmp)) (sym names) (names_rise held);
+      };
+      taken = taken_none held files e;
+    })

@@ -1,8 +1,8 @@
 -- A folder after some of its sources were written.
-use Rattle.std.specs.Prelude.{◌≡◌, ◌⊎◌, ℕ, List, [], ◌∷◌, Option, None, Ok, Contains, slice_get}
+use Rattle.std.specs.Prelude.{◌≡◌, ◌⊎◌, ℕ, List, [], ◌∷◌, None, Ok, Contains, slice_get}
 use Rattle.std.specs.List.{filter_map}
 use Rattle.std.specs.FinMap.{insert}
-use Rattle.rotor_base.specs.Files.{FileSet, names_of, load_refusal}
+use Rattle.rotor_base.specs.Files.{FileSet, IsProject, names_of, load_refusal}
 use Rattle.rotor_base.specs.declared.source.SourceFile.{SourceFile}
 use Rattle.tree_io.specs.Outside.{FileMap}
 use Rattle.project_load.specs.Load.{loaded}
@@ -24,6 +24,10 @@ Covers old new numbers = (k : ℕ) → (slice_get old k ≡ slice_get new k) ⊎
 pub record AreOthers (old new : FileSet) : Type 0 where
   pub names : names_of new.entries ≡ names_of old.entries
   pub manifest : new.manifest ≡ old.manifest
+
+-- Law: what a folder loads as is a project
+abbrev pub LoadedFilesAreAProject : Type 0
+LoadedFilesAreAProject = (held : FileMap) (files : FileSet) → loaded held ≡ Ok files → IsProject files
 
 -- Law: where a folder loads as some files, and others of the same names are a project, the folder loads as the others
 -- after those that differ are written

@@ -1,5 +1,5 @@
 //! The laws of loading, each as the contract of a function.
-ghost use Rattle.project_load.specs.Rewritten.{NewSourcesAreLoaded, OldSourcesComeBack};
+ghost use Rattle.project_load.specs.Rewritten.{LoadedFilesAreAProject, NewSourcesAreLoaded, OldSourcesComeBack};
 
 /// If a folder loads as some files, it loads as others of the same names after those that differ are written.
 pub fn new_sources_are_loaded()
@@ -9,4 +9,9 @@ pub fn new_sources_are_loaded()
 /// If the old sources are written again, the folder is as it was.
 pub fn old_sources_come_back()
     ensures { OldSourcesComeBack }
+{}
+
+/// What a folder loads as is a project.
+pub fn loaded_files_are_a_project()
+    ensures { LoadedFilesAreAProject }
 {}

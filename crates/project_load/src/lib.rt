@@ -6,5 +6,5 @@ mod loading;
 mod names;
 mod reading;
 
-pub use laws::{new_sources_are_loaded, old_sources_come_back};
+pub use laws::{loaded_files_are_a_project, new_sources_are_loaded, old_sources_come_back};
 pub use loading::load;

@@ -1,4 +1,4 @@
-//! The program: `rotor rename TARGET NAME --write` over the current folder.
+//! The program `rotor`, over the current folder and the standard output.
 #![tactic(auto)]
 
 use rotor_app::rotor;

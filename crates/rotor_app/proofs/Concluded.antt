@@ -3,8 +3,9 @@ use Rattle.std.proofs.Common.{◌≡◌, ℕ, ◌≤◌, List, [], length, Optio
 use Rattle.tree_io.specs.declared.outside.TreeError.{TreeError}
 use Rattle.tree_io.specs.declared.outside.TreeError.TheVariants as variant
 use Rattle.tree_io.specs.Outside.{FileMap, Rose, HasCause}
-use Rattle.rotor_app.specs.declared.reply.Status.{Status}
-use Rattle.rotor_app.specs.declared.reply.Status.TheVariants.{Usage, TreeFault, Memory}
+use Rattle.cli_words.specs.declared.command.Command.{Command}
+use Rattle.rotor_app.specs.declared.status.Status.{Status}
+use Rattle.rotor_app.specs.declared.status.Status.TheVariants.{Usage, TreeFault, Memory}
 use Rattle.rotor_app.specs.declared.reply.Reply.{Reply}
 use Rattle.rotor_app.specs.Said.{IsReply, Says, SaysAlone, AsksNothing}
 use Rattle.rotor_app.specs.Table.{Seen, seen, Ending, unread, wanting, carried, unwritten, unput, Carried, whole, write_failed, put_failed, IsReplyTo, IsComplete}
@@ -23,7 +24,7 @@ told (Some held) P h files e = subst P (one e) h where
   one : ◌≡◌ {A = Option FileMap} (Some held) (Some files) → held ≡ files
   one e = cc
 
-module _ (request : Option (List ℕ × List ℕ)) (f0 f1 s : ℕ) (c0 c1 : Option FileMap) (t : Option (List ℕ)) (tree_same sink_same : Type 0) where
+module _ (request : Option Command) (f0 f1 s : ℕ) (c0 c1 : Option FileMap) (t : Option (List ℕ)) (tree_same sink_same : Type 0) where
   -- a read failed
   pub ends_unread : (AsksNothing request → ⊥) → f0 ≤ f1 → Rose f0 f1 → c1 ≡ c0 → sink_same → Ending request (seen f0 s c0 t) (seen f1 s c1 t) tree_same sink_same TreeFault
   ends_unread asks later rose content same = unread asks refl later rose content same (record { faults = refl; taken = refl })
@@ -47,14 +48,14 @@ module _ (request : Option (List ℕ × List ℕ)) (f0 f1 s : ℕ) (c0 c1 : Opti
       carried_by to (put_failed s f w p) = unput alone reply to s f w p
 
 -- over a folder that does not fail, there was no memory, or the reply is said, and where the output takes it the status is its
-pub completes_wanting : (request : Option (List ℕ × List ℕ)) (content : Option FileMap) (accepts : ℕ → Type 0) → (files : FileMap) → content ≡ Some files → IsComplete request files accepts Memory
+pub completes_wanting : (request : Option Command) (content : Option FileMap) (accepts : ℕ → Type 0) → (files : FileMap) → content ≡ Some files → IsComplete request files accepts Memory
 completes_wanting request content accepts files e = inl refl
 
-pub completes_carried : (request : Option (List ℕ × List ℕ)) (content : Option FileMap) (accepts : ℕ → Type 0) (reply : Reply) (status : Status) → IfSome content (λ files. Says request files reply)
+pub completes_carried : (request : Option Command) (content : Option FileMap) (accepts : ℕ → Type 0) (reply : Reply) (status : Status) → IfSome content (λ files. Says request files reply)
     → (accepts (length reply.text) → status ≡ reply.status) → (files : FileMap) → content ≡ Some files → IsComplete request files accepts status
 completes_carried request content accepts reply status said h files e = inr (reply, told content (λ files. Says request files reply) said files e, h)
 
 -- a reply without a folder writes nothing
-pub alone_writes : (request : Option (List ℕ × List ℕ)) (reply : Reply) → SaysAlone request reply → reply.writes ≡ []
+pub alone_writes : (request : Option Command) (reply : Reply) → SaysAlone request reply → reply.writes ≡ []
 unfolding SaysAlone
 alone_writes request reply e = ap (λ (r : Reply). r.writes) e

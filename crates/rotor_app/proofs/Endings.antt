@@ -1,14 +1,16 @@
 -- The table of answers, from how a call ends.
 use Rattle.std.proofs.Common.{◌≡◌, ℕ, ◌<◌, ◌⊎◌, inl, inr, List, [], ◌∷◌, ◌++◌, Option, Some, None, option_map, refl, sym, ap, subst, ◌∙◌, arith}
 use Rattle.rotor_base.specs.declared.source.SourceFile.{SourceFile}
-use Rattle.tree_io.specs.Outside.{FileMap, Rose, Takes, TakesPrefix}
-use Rattle.rotor_app.specs.declared.reply.Status.{Status}
-use Rattle.rotor_app.specs.declared.reply.Status.TheVariants.{Done, Refused, Usage, Project, TreeFault, SinkFault, Memory}
+use Rattle.tree_io.specs.Outside.{FileMap, Rose}
+use Rattle.cli_words.specs.declared.command.Command.{Command}
+use Rattle.rotor_app.specs.declared.status.Status.{Status}
+use Rattle.rotor_app.specs.declared.status.Status.TheVariants.{Done, Refused, Usage, Project, TreeFault, SinkFault, Memory}
 use Rattle.rotor_app.specs.declared.reply.Reply.{Reply}
-use Rattle.rotor_app.specs.Said.{after, IsReply, Says, SaysAlone, AsksNothing, SomeReply}
-use Rattle.rotor_app.specs.Table.{Seen, Ending, unread, wanting, carried, unwritten, unput, IsQuiet, IsAsSaid, IsFault, TreeStopped, SinkStopped, IsRefusal, Written, StoppedWriting, IsReplyTo, AnsweredAlone, CutAlone}
+use Rattle.rotor_app.specs.Said.{IsReply, SaysAlone, AsksNothing, SomeReply}
+use Rattle.project_load.specs.Rewritten.{after}
+use Rattle.rotor_app.specs.Table.{Seen, Ending, unread, wanting, carried, unwritten, unput, IsQuiet, IsAsSaid, IsFault, TreeStopped, SinkStopped, IsRefusal, Written, StoppedWriting, AnsweredAlone, CutAlone}
 
-module _ (request : Option (List ℕ × List ℕ)) (before now : Seen) (tree_same sink_same : Type 0) (status : Status) where
+module _ (request : Option Command) (before now : Seen) (tree_same sink_same : Type 0) (status : Status) where
   written_said : (writes : List SourceFile) (files : FileMap) → Written writes before.content now.content → before.content ≡ Some files → now.content ≡ Some (after writes files)
   written_said writes files w e = w ∙ ap (option_map (after writes)) e
 

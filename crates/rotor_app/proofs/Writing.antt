@@ -4,7 +4,8 @@ use Rattle.std.specs.FinMap.{insert}
 use Rattle.std.proofs.lemmas.List.{take_more, at_drop_more, take-append-drop}
 use Rattle.rotor_base.specs.declared.source.SourceFile.{SourceFile}
 use Rattle.tree_io.specs.Outside.{FileMap, Writes, Spoils, KeepsRoom}
-use Rattle.rotor_app.specs.Said.{after, HasRoom}
+use Rattle.rotor_app.specs.Said.{HasRoom}
+use Rattle.project_load.specs.Rewritten.{after}
 use Rattle.rotor_app.specs.Table.{Written, StoppedWriting}
 
 pub after-append : (fs : List SourceFile) (f : SourceFile) (files : FileMap) → after (fs ++ f ∷ []) files ≡ insert (after fs files) f.name f.bytes

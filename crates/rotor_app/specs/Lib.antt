@@ -1,7 +1,5 @@
-pub mod Aim
 pub mod Said
 pub mod Status
 pub mod Table
-pub mod Text
-pub mod Undone
 pub mod Words
+pub mod Done

@@ -1,90 +1,128 @@
 -- What the program answers to its words over the files of a folder, and what the folder holds after it.
-use Rattle.std.specs.Prelude.{ℕ, List, [], ◌∷◌, ◌≤◌, ◌≡◌, Option, Some, None, Result, Ok, Err, if◌then◌else◌, length}
+use Rattle.std.specs.Prelude.{ℕ, List, [], ◌≤◌, ◌≡◌, Bool, true, false, Option, Some, None, Result, Ok, Err, length}
 use Rattle.std.specs.List.{AllByRecursion}
-use Rattle.std.specs.FinMap.{insert}
-use Rattle.rotor_base.specs.Files.{FileSet}
-use Rattle.rotor_base.specs.Stem.{is_body_name}
+use Rattle.rotor_base.specs.Files.{FileSet, names_of}
 use Rattle.rotor_base.specs.declared.refusal.LoadError.{LoadError}
+use Rattle.rotor_base.specs.declared.refusal.Refusal.{Refusal}
+use Rattle.rotor_base.specs.declared.refusal.Refusal.TheVariants as refusal
+use Rattle.rotor_base.specs.declared.report.Counts.{Counts}
+use Rattle.rotor_base.specs.declared.report.FootReport.{FootReport}
+use Rattle.rotor_base.specs.declared.report.Renamed.{Renamed}
+use Rattle.rotor_base.specs.declared.report.Outcome.{Outcome}
+use Rattle.rotor_base.specs.declared.report.Outcome.TheVariants as outcome
 use Rattle.rotor_base.specs.declared.source.SourceFile.{SourceFile}
 use Rattle.tree_io.specs.Outside.{FileMap}
-use Rattle.project_load.specs.Load.{sources_of, manifest_of, loaded}
-use Rattle.plain_rename.specs.declared.renaming.Answer.{Answer}
-use Rattle.plain_rename.specs.declared.renaming.Answer.TheVariants as answers
-use Rattle.plain_rename.specs.Renaming.{answer_of}
-use Rattle.rotor_app.specs.declared.reply.Status.{Status}
-use Rattle.rotor_app.specs.declared.reply.Status.TheVariants.{Done, Refused, Usage, Project, TreeFault, SinkFault, Memory}
+use Rattle.project_load.specs.Load.{loaded}
+use Rattle.project_load.specs.Rewritten.{files_at}
+use Rattle.report.specs.Text.{text_of}
+use Rattle.report.specs.Json.{json_of}
+use Rattle.cli_words.specs.declared.command.Command.{Command}
+use Rattle.cli_words.specs.declared.command.Command.TheVariants as command
+use Rattle.rename_files.specs.Answer.{Checks, Shows, Renames}
+use Rattle.rotor_app.specs.declared.status.Status.{Status}
+use Rattle.rotor_app.specs.declared.status.Status.TheVariants.{Done, Refused, Usage, Project, TreeFault, SinkFault, Memory}
 use Rattle.rotor_app.specs.declared.reply.Reply.{Reply}
-use Rattle.rotor_app.specs.Aim.{aim_at}
-use Rattle.rotor_app.specs.Text.{usage_text, not_yet_text, load_text, obstacle_text, done_text}
-use Rattle.rotor_app.specs.Words.{asked}
+use Rattle.rotor_app.specs.Words.{puts_json, is_writing}
 
--- the one source of a plain project with its bytes: a body, with no other source and no manifest beside it
-abbrev pub plain_of : List SourceFile → Option (List ℕ) → Option (List ℕ × List ℕ)
-plain_of [] manifest = None
-plain_of (file ∷ []) None = if is_body_name file.name then Some (file.name, file.bytes) else None
-plain_of (file ∷ []) (Some bytes) = None
-plain_of (file ∷ other ∷ files) manifest = None
+-- ---- the reply to an outcome
 
--- the one source of a plain folder, with its bytes
-abbrev pub plain_file : FileMap → Option (List ℕ × List ℕ)
-plain_file held = plain_of (sources_of held) (manifest_of held)
+-- the refusals of a renaming are Refused, and those of a project are Project
+abbrev pub status_of_refusal : Refusal → Status
+status_of_refusal (refusal.Lex file offset) = Project
+status_of_refusal (refusal.LongName file offset) = Project
+status_of_refusal (refusal.Form at kind) = Project
+status_of_refusal (refusal.Deep at) = Project
+status_of_refusal (refusal.Syntax file) = Project
+status_of_refusal (refusal.Cycle unit) = Project
+status_of_refusal (refusal.Duplicate first again) = Project
+status_of_refusal (refusal.Heavy at) = Project
+status_of_refusal (refusal.Unmatched item) = Project
+status_of_refusal refusal.NoTarget = Refused
+status_of_refusal refusal.Operator = Refused
+status_of_refusal refusal.BadName = Refused
+status_of_refusal refusal.SameName = Refused
+status_of_refusal (refusal.Outside at) = Refused
+status_of_refusal (refusal.Pun at) = Refused
+status_of_refusal (refusal.Blurred at) = Refused
+status_of_refusal (refusal.Grown file) = Refused
+status_of_refusal (refusal.Clash first again) = Refused
+status_of_refusal (refusal.Capture at was would) = Refused
+status_of_refusal (refusal.Mislink item was would) = Refused
+status_of_refusal refusal.Memory = Project
 
-abbrev pub not_yet_reply : Reply
-not_yet_reply = record { status = Project; writes = []; text = not_yet_text }
+abbrev pub status_of : Outcome → Status
+status_of (outcome.Done done) = Done
+status_of (outcome.Checked counts) = Done
+status_of (outcome.Shown shown) = Done
+status_of (outcome.Sampled sampled) = Done
+status_of (outcome.Refused r) = status_of_refusal r
+status_of (outcome.NotLoaded error) = Project
+status_of outcome.BadWords = Usage
+
+-- the files that are written: the changed ones, in order of their numbers
+abbrev pub writes_of : Bool → Outcome → List SourceFile
+writes_of false o = []
+writes_of true (outcome.Done done) = files_at done.files.entries done.changed
+writes_of true (outcome.Checked counts) = []
+writes_of true (outcome.Shown shown) = []
+writes_of true (outcome.Sampled sampled) = []
+writes_of true (outcome.Refused r) = []
+writes_of true (outcome.NotLoaded error) = []
+writes_of true outcome.BadWords = []
+
+abbrev pub outcome_text : Bool → List (List ℕ) → Outcome → List ℕ
+outcome_text true names o = json_of names o
+outcome_text false names o = text_of names o
+
+-- the reply to a command whose outcome is this, in files of these names
+abbrev pub reply_by : Command → List (List ℕ) → Outcome → Reply
+reply_by c names o = record { status = status_of o; writes = writes_of (is_writing c) o; text = outcome_text (puts_json c) names o }
 
 abbrev pub usage_reply : Reply
-usage_reply = record { status = Usage; writes = []; text = usage_text }
+usage_reply = record { status = Usage; writes = []; text = text_of [] outcome.BadWords }
 
--- an answer in the source of this name
-abbrev pub reply_to : List ℕ → List ℕ → Answer → Reply
-reply_to name new answers.NotPlain = not_yet_reply
-reply_to name new (answers.Refused obstacle) = record { status = Refused; writes = []; text = obstacle_text name obstacle }
-reply_to name new (answers.Done done) = record { status = Done; writes = record { name = name; bytes = done.bytes } ∷ []; text = done_text name done new }
+-- ---- what is said
 
--- the reply to a target word and a new name, in a folder whose one source has this name and these bytes
-abbrev pub reply_from : List ℕ → List ℕ → List ℕ × List ℕ → Reply
-reply_from name bytes request = reply_to name request.1 (answer_of bytes (aim_at request.0 name) request.1)
+-- an answer, as an outcome
+abbrev pub told : {A : Type 0} → (A → Outcome) → Result A Refusal → Outcome
+told f (Ok a) = f a
+told f (Err r) = outcome.Refused r
 
-abbrev pub reply_by : Option (List ℕ × List ℕ) → List ℕ × List ℕ → Reply
-reply_by None request = not_yet_reply
-reply_by (Some file) request = reply_from file.0 file.1 request
+-- the outcome of a command over the files of a project
+abbrev pub Answers : Command → FileSet → Outcome → Type 0
+Answers command.Check files o = (r : Result Counts Refusal) × Checks files r × (o ≡ told outcome.Checked r)
+Answers (command.Shape target) files o = (r : Result FootReport Refusal) × Shows files target r × (o ≡ told outcome.Shown r)
+Answers (command.Rename target name write safe json) files o = (r : Result Renamed Refusal) × Renames files target name r × (o ≡ told outcome.Done r)
+Answers (command.Sample units) files o = ⊥
+Answers (command.Verify old new) files o = ⊥
+Answers (command.Batch file write) files o = ⊥
+Answers command.Recover files o = ⊥
 
--- the reply to a folder that is not taken as a project's files
-abbrev pub load_reply : LoadError → Reply
-load_reply error = record { status = Project; writes = []; text = load_text error }
+-- the outcome of a command over a folder, with the names that its places number
+pub data IsAnswer (held : FileMap) (c : Command) : List (List ℕ) → Outcome → Type 0 where
+  not_loaded : (error : LoadError) → loaded held ≡ Err error → IsAnswer held c [] (outcome.NotLoaded error)
+  answered : (files : FileSet) (o : Outcome) → loaded held ≡ Ok files → Answers c files o → IsAnswer held c (names_of files.entries) o
 
-abbrev pub reply_loaded : Result FileSet LoadError → List ℕ × List ℕ → Reply
-reply_loaded (Err error) request = load_reply error
-reply_loaded (Ok files) request = reply_by (plain_of files.entries files.manifest) request
-
--- the reply to a target word and a new name
-unfoldable pub reply_in : FileMap → List ℕ × List ℕ → Reply
-reply_in held request = reply_loaded (loaded held) request
-
-abbrev pub said_by : Option (List ℕ × List ℕ) → FileMap → Reply
-said_by None files = usage_reply
-said_by (Some request) files = reply_in files request
+-- a reply to a command over the files of a folder
+abbrev pub SaysTo : Command → FileMap → Reply → Type 0
+SaysTo c held reply = (names : List (List ℕ)) × (o : Outcome) × IsAnswer held c names o × (reply ≡ reply_by c names o)
 
 -- what is said to what the words ask for, over the files of a folder
-unfoldable pub Says : Option (List ℕ × List ℕ) → FileMap → Reply → Type 0
-Says request files reply = reply ≡ said_by request files
+unfoldable pub Says : Option Command → FileMap → Reply → Type 0
+Says None held reply = reply ≡ usage_reply
+Says (Some c) held reply = SaysTo c held reply
 
 -- what the words ask for asks nothing of the folder
-abbrev pub AsksNothing : Option (List ℕ × List ℕ) → Type 0
+abbrev pub AsksNothing : Option Command → Type 0
 AsksNothing request = request ≡ None
 
 -- what is said to it, without a folder
-unfoldable pub SaysAlone : Option (List ℕ × List ℕ) → Reply → Type 0
+unfoldable pub SaysAlone : Option Command → Reply → Type 0
 SaysAlone request reply = reply ≡ usage_reply
 
 -- there is a reply that is said here, and it is so
-abbrev pub SomeReply : Option (List ℕ × List ℕ) → FileMap → (Reply → Type 0) → Type 0
+abbrev pub SomeReply : Option Command → FileMap → (Reply → Type 0) → Type 0
 SomeReply request files P = (reply : Reply) × Says request files reply × P reply
-
--- the files after some of them were written, one after another
-abbrev pub after : List SourceFile → FileMap → FileMap
-after [] files = files
-after (f ∷ fs) files = after fs (insert files f.name f.bytes)
 
 -- there is room for each of these files
 abbrev pub HasRoom : (List ℕ → ℕ) → List SourceFile → Type 0

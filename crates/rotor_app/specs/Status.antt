@@ -1,7 +1,7 @@
 -- The exit codes of the statuses.
 use Rattle.std.specs.Prelude.{ℕ}
-use Rattle.rotor_app.specs.declared.reply.Status.{Status}
-use Rattle.rotor_app.specs.declared.reply.Status.TheVariants.{Done, Refused, Usage, Project, TreeFault, SinkFault, Memory}
+use Rattle.rotor_app.specs.declared.status.Status.{Status}
+use Rattle.rotor_app.specs.declared.status.Status.TheVariants.{Done, Refused, Usage, Project, TreeFault, SinkFault, Memory}
 
 abbrev pub code_of : Status → ℕ
 code_of Done = 0

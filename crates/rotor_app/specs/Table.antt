@@ -3,10 +3,12 @@ use Rattle.std.specs.Prelude.{◌≡◌, ◌⊎◌, ℕ, ◌<◌, ◌≤◌, Lis
 use Rattle.std.specs.FinMap.{insert}
 use Rattle.rotor_base.specs.declared.source.SourceFile.{SourceFile}
 use Rattle.tree_io.specs.Outside.{FileMap, Rose, Takes, TakesPrefix}
-use Rattle.rotor_app.specs.declared.reply.Status.{Status}
-use Rattle.rotor_app.specs.declared.reply.Status.TheVariants.{Done, Refused, Usage, Project, TreeFault, SinkFault, Memory}
+use Rattle.cli_words.specs.declared.command.Command.{Command}
+use Rattle.rotor_app.specs.declared.status.Status.{Status}
+use Rattle.rotor_app.specs.declared.status.Status.TheVariants.{Done, Refused, Usage, Project, TreeFault, SinkFault, Memory}
 use Rattle.rotor_app.specs.declared.reply.Reply.{Reply}
-use Rattle.rotor_app.specs.Said.{after, usage_reply, IsReply, Says, AsksNothing, SaysAlone, SomeReply}
+use Rattle.rotor_app.specs.Said.{IsReply, Says, AsksNothing, SaysAlone, SomeReply}
+use Rattle.project_load.specs.Rewritten.{after}
 
 -- where the content is told, all these files were written
 abbrev pub Written : List SourceFile → Option FileMap → Option FileMap → Type 0
@@ -43,7 +45,7 @@ pub record IsFault (fault : Status) (before now : ℕ) (status : Status) : Type 
   pub passed : before < now → status ≡ fault
 
 -- the folder failed: nothing was written, or the reply is done and a write failed
-abbrev pub TreeStopped : Option (List ℕ × List ℕ) → FileMap → Option FileMap → Type 0
+abbrev pub TreeStopped : Option Command → FileMap → Option FileMap → Type 0
 TreeStopped request files now = (now ≡ Some files) ⊎ SomeReply request files (λ reply. (reply.status ≡ Done) × StoppedWriting reply.writes (Some files) now)
 
 -- the output failed: the folder is as at the status that would have come, and a prefix of the text was taken
@@ -86,7 +88,7 @@ pub record SinkFailed (text : List ℕ) (before now : Seen) : Type 0 where
   pub taken : TakesPrefix text before.taken now.taken
 
 -- the reply to what the words ask for
-pub record IsReplyTo (request : Option (List ℕ × List ℕ)) (before : Seen) (reply : Reply) : Type 0 where
+pub record IsReplyTo (request : Option Command) (before : Seen) (reply : Reply) : Type 0 where
   pub kind : IsReply reply.status reply.writes
   pub said : (files : FileMap) → before.content ≡ Some files → Says request files reply
   pub alone : AsksNothing request → SaysAlone request reply
@@ -94,7 +96,7 @@ pub record IsReplyTo (request : Option (List ℕ × List ℕ)) (before : Seen) (
 
 -- How a call of the program ends. `request` is what the words ask for; `tree_same` and `sink_same` say that the folder
 -- and the output are as they were.
-pub data Ending (request : Option (List ℕ × List ℕ)) (before now : Seen) (tree_same sink_same : Type 0) (status : Status) : Type 0 where
+pub data Ending (request : Option Command) (before now : Seen) (tree_same sink_same : Type 0) (status : Status) : Type 0 where
   -- a read failed
   unread : (AsksNothing request → ⊥) → status ≡ TreeFault → before.faults ≤ now.faults → Rose before.faults now.faults → now.content ≡ before.content → sink_same → SinkRests before now → Ending request before now tree_same sink_same status
   -- there was no memory
@@ -121,13 +123,13 @@ pub data Carried (reply : Reply) (before now : Seen) (sink_same : Type 0) (statu
   put_failed : status ≡ SinkFault → now.faults ≡ before.faults → Written reply.writes before.content now.content → SinkFailed reply.text before now → Carried reply before now sink_same status
 
 -- there was no memory, or there is a reply that is said, and where the output takes its text the status is its
-abbrev pub IsComplete : Option (List ℕ × List ℕ) → FileMap → (ℕ → Type 0) → Status → Type 0
+abbrev pub IsComplete : Option Command → FileMap → (ℕ → Type 0) → Status → Type 0
 IsComplete request files accepts status = (status ≡ Memory) ⊎ SomeReply request files (λ reply. accepts (length reply.text) → status ≡ reply.status)
 
 -- a reply without a folder was carried out
-abbrev pub AnsweredAlone : Option (List ℕ × List ℕ) → Seen → Seen → Status → Type 0
+abbrev pub AnsweredAlone : Option Command → Seen → Seen → Status → Type 0
 AnsweredAlone request before now status = (reply : Reply) × SaysAlone request reply × (status ≡ reply.status) × Takes reply.text before.taken now.taken
 
 -- a prefix of the text of such a reply was taken
-abbrev pub CutAlone : Option (List ℕ × List ℕ) → Seen → Seen → Type 0
+abbrev pub CutAlone : Option Command → Seen → Seen → Type 0
 CutAlone request before now = (reply : Reply) × SaysAlone request reply × TakesPrefix reply.text before.taken now.taken

@@ -1,11 +1,12 @@
 //! The program of ROTOR over any folder and any output.
 #![tactic(auto)]
 
-mod aim;
+mod outcome;
 mod reply;
-mod request;
-mod text;
+mod status;
 mod top;
+mod words;
 
-pub use reply::{Reply, Status};
+pub use reply::Reply;
+pub use status::Status;
 pub use top::rotor;

@@ -2,49 +2,56 @@
 ghost use Rattle.std.specs.Prelude.{◌≡◌, ◌⊎◌, [], None, IsErr, OnOk, OnErr, map, string_bytes, length};
 ghost use Rattle.std.specs.Option.{ForSome};
 ghost use Rattle.tree_io.specs.Outside.{HasFault, StaysSteady, Rose};
-ghost use Rattle.rotor_app.specs.Words.{asked};
+ghost use Rattle.rotor_app.specs.Words.{command_in};
 ghost use Rattle.rotor_app.specs.Said.{HasRoom, AsksNothing, SomeReply};
-ghost use Rattle.rotor_app.specs.Undone.{IsUndoable};
+ghost use Rattle.rotor_app.specs.Done.{IsDoneSo};
 ghost use Rattle.rotor_app.specs.Table.{Written, StoppedWriting, Ending, seen, IsComplete, Carried, Put, IsQuiet, IsAsSaid, IsFault, TreeStopped, SinkStopped, IsRefusal, AnsweredAlone, CutAlone};
 
-use crate::reply::{Reply, Status, decide};
+use crate::reply::{Reply, decide};
+use crate::status::Status;
+use cli_words::undos_are_read;
+use project_load::{loaded_files_are_a_project, new_sources_are_loaded, old_sources_come_back};
+use rename_laws::{
+    footprints_are_least, renamings_are_undone, renamings_keep_facts, renamings_keep_runs,
+    renamings_rewrite, undos_have_places,
+};
 use rotor_base::{Failed, SourceFile};
 use std::alloc::Global;
 use tree_io::{Sink, Tree, TreeError};
 
 /// Does what the words ask for, over a folder and an output, and says how it ended.
 ///
-/// The words are `rename TARGET NAME --write`. In a plain folder the one source is written with the declaration and
-/// all references to it respelled, and the report is put; or the folder is left as it is, and the line of the refusal
-/// is put. All memory, the folder's room too, is taken before the first write and the put.
+/// The words are `check`, `footprint TARGET`, or `rename TARGET NAME` with `--write`, `--json`, both or none. `rename
+/// --write` writes the changed sources and puts the report; or it leaves the folder as it is, and puts the refusal. The
+/// call takes all memory, the folder's room too, before the first write and the put.
 pub fn rotor<T: Tree, S: Sink>(alloc: Global, words: &[String], tree: &mut T, out: &mut S) -> Status
     // Where no count of faults rose and there was memory: there is a reply that is said, and status, files and text are its.
     ensures answer { ForSome (T.content tree.old) (λ files.
         IsQuiet (seen (T.faults tree.old) (S.faults out.old) (T.content tree.old) (S.taken out.old))
         (seen (T.faults tree.new) (S.faults out.new) (T.content tree.new) (S.taken out.new))
         → (result ≡ Status.Memory → ⊥)
-        → SomeReply (asked (map string_bytes words.now)) files (λ reply. IsAsSaid reply files
+        → SomeReply (command_in (map string_bytes words.now)) files (λ reply. IsAsSaid reply files
         (seen (T.faults tree.old) (S.faults out.old) (T.content tree.old) (S.taken out.old))
         (seen (T.faults tree.new) (S.faults out.new) (T.content tree.new) (S.taken out.new)) result)) }
 
     // Where the words ask nothing of the folder, it is not called, and the reply hangs on the words alone.
-    ensures alone { AsksNothing (asked (map string_bytes words.now)) → tree.new ≡ tree.old }
-    ensures alone_said { AsksNothing (asked (map string_bytes words.now)) → (Rose (S.faults out.old) (S.faults out.new) → ⊥) → (result ≡ Status.Memory → ⊥)
-        → AnsweredAlone (asked (map string_bytes words.now))
+    ensures alone { AsksNothing (command_in (map string_bytes words.now)) → tree.new ≡ tree.old }
+    ensures alone_said { AsksNothing (command_in (map string_bytes words.now)) → (Rose (S.faults out.old) (S.faults out.new) → ⊥) → (result ≡ Status.Memory → ⊥)
+        → AnsweredAlone (command_in (map string_bytes words.now))
         (seen (T.faults tree.old) (S.faults out.old) (T.content tree.old) (S.taken out.old))
         (seen (T.faults tree.new) (S.faults out.new) (T.content tree.new) (S.taken out.new)) result }
-    ensures alone_cut { AsksNothing (asked (map string_bytes words.now)) → (result ≡ Status.SinkFault) → CutAlone (asked (map string_bytes words.now))
+    ensures alone_cut { AsksNothing (command_in (map string_bytes words.now)) → (result ≡ Status.SinkFault) → CutAlone (command_in (map string_bytes words.now))
         (seen (T.faults tree.old) (S.faults out.old) (T.content tree.old) (S.taken out.old))
         (seen (T.faults tree.new) (S.faults out.new) (T.content tree.new) (S.taken out.new)) }
-    ensures usage { (result ≡ Status.Usage) → (asked (map string_bytes words.now) ≡ None) }
+    ensures usage { (result ≡ Status.Usage) → (command_in (map string_bytes words.now) ≡ None) }
 
     // A fault comes only where its count rose, and none is passed over.
     ensures tree_fault { IsFault Status.TreeFault (T.faults tree.old) (T.faults tree.new) result }
     ensures sink_fault { IsFault Status.SinkFault (S.faults out.old) (S.faults out.new) result }
 
     // What a fault leaves.
-    ensures tree_stopped { (result ≡ Status.TreeFault) → ForSome (T.content tree.old) (λ files. TreeStopped (asked (map string_bytes words.now)) files (T.content tree.new)) }
-    ensures sink_stopped { (result ≡ Status.SinkFault) → ForSome (T.content tree.old) (λ files. SomeReply (asked (map string_bytes words.now)) files (λ reply.
+    ensures tree_stopped { (result ≡ Status.TreeFault) → ForSome (T.content tree.old) (λ files. TreeStopped (command_in (map string_bytes words.now)) files (T.content tree.new)) }
+    ensures sink_stopped { (result ≡ Status.SinkFault) → ForSome (T.content tree.old) (λ files. SomeReply (command_in (map string_bytes words.now)) files (λ reply.
         SinkStopped reply files
         (seen (T.faults tree.old) (S.faults out.old) (T.content tree.old) (S.taken out.old))
         (seen (T.faults tree.new) (S.faults out.new) (T.content tree.new) (S.taken out.new)))) }
@@ -53,23 +60,33 @@ pub fn rotor<T: Tree, S: Sink>(alloc: Global, words: &[String], tree: &mut T, ou
     ensures unchanged { IsRefusal result → T.content tree.new ≡ T.content tree.old }
     ensures quiet { (result ≡ Status.TreeFault) ⊎ (result ≡ Status.Memory) → out.new ≡ out.old }
 
-    // Of a call that is done, each reference keeps its goal, and the words of the undo line give the old files back.
-    ensures undo { (result ≡ Status.Done) → ForSome (T.content tree.old) (λ files. SomeReply (asked (map string_bytes words.now)) files (λ reply. IsUndoable reply files)) }
+    // A renaming that is done keeps facts and runs, is a least one, and the words of its undo give the old files back.
+    ensures renamed { (result ≡ Status.Done) → ForSome (T.content tree.old) (λ files. SomeReply (command_in (map string_bytes words.now)) files (λ reply. IsDoneSo (command_in (map string_bytes words.now)) files reply)) }
 
     // Over a folder and an output that do not fail, the status is the one that is said, or there was no memory.
-    ensures complete { T.is_steady tree.old → ForSome (T.content tree.old) (λ files. IsComplete (asked (map string_bytes words.now)) files (S.accepts out.old) result) }
+    ensures complete { T.is_steady tree.old → ForSome (T.content tree.old) (λ files. IsComplete (command_in (map string_bytes words.now)) files (S.accepts out.old) result) }
     ensures steady { T.is_steady tree.old → T.is_steady tree.new }
 {
+    loaded_files_are_a_project();
+    new_sources_are_loaded();
+    old_sources_come_back();
+    undos_are_read();
+    renamings_rewrite();
+    renamings_are_undone();
+    undos_have_places();
+    renamings_keep_facts();
+    renamings_keep_runs();
+    footprints_are_least();
     conclude(alloc, words, tree, out)
 }
 
 /// Does what the words ask for, over a folder and an output.
 fn conclude<T: Tree, S: Sink>(alloc: Global, words: &[String], tree: &mut T, out: &mut S) -> Status
-    ensures ending { Ending (asked (map string_bytes words.now))
+    ensures ending { Ending (command_in (map string_bytes words.now))
         (seen (T.faults tree.old) (S.faults out.old) (T.content tree.old) (S.taken out.old))
         (seen (T.faults tree.new) (S.faults out.new) (T.content tree.new) (S.taken out.new))
         (tree.new ≡ tree.old) (out.new ≡ out.old) result }
-    ensures complete { T.is_steady tree.old → ForSome (T.content tree.old) (λ files. IsComplete (asked (map string_bytes words.now)) files (S.accepts out.old) result) }
+    ensures complete { T.is_steady tree.old → ForSome (T.content tree.old) (λ files. IsComplete (command_in (map string_bytes words.now)) files (S.accepts out.old) result) }
     ensures steady { T.is_steady tree.old → T.is_steady tree.new }
 {
     match decide(alloc, words, tree) {

@@ -4,6 +4,5 @@ mod graph;
 mod lexemes;
 mod one_line;
 mod outside;
-mod plain;
 mod run;
 mod usage;

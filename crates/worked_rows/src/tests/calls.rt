@@ -1,6 +1,5 @@
 // The public calls that the rows do not make by themselves.
 use edits::{Edit, apply, new_len};
-use plain_rename::{Aim, Answer, rename};
 use rotor_base::{Goal, Name, Place, Row, Text, is_body, is_face, is_name, is_source};
 use std::test::Fail;
 
@@ -93,16 +92,5 @@ fn small_calls(rt: HostRuntime) -> Result<(), Fail> {
         Text::from_string(String::from_str(alloc, "a.ml")?).as_str(),
         "a.ml"
     );
-    let aim = Aim::Value(Name::new(alloc, b"x")?);
-    match rename(alloc, b"let x = x", &aim, b"y")? {
-        Answer::Done(done) => {
-            assert_eq!(rt; done.bytes.as_slice(), b"let y = x".as_slice());
-            assert_eq!(rt; done.old.as_bytes(), b"x".as_slice());
-            assert_eq!(rt; (done.at, done.refs), (at, 0));
-        }
-        answer => {
-            assert!(rt; false, "{answer:?}");
-        }
-    }
     Ok(())
 }

@@ -5,17 +5,24 @@ use rotor_app::{Status, rotor};
 use std::test::Fail;
 use tree_io::MemSink;
 
-const LINE: &[u8] = b"usage: rotor rename TARGET NAME --write\n";
+const LINE: &[u8] =
+    b"usage: rotor check | footprint TARGET | rename TARGET NAME [--write] [--json]\n";
 
 #[test]
 fn words_of_no_form(rt: HostRuntime) -> Result<(), Fail> {
     let alloc = rt.alloc();
-    let lists: [&[&str]; 14] = [
+    let lists: [&[&str]; 20] = [
         &[],
         &["rename"],
         &["rename", "A.x"],
-        &["rename", "A.x", "z"],
-        &["rename", "A.x", "z", "--json"],
+        &["check", "A.x"],
+        &["footprint"],
+        &["sample", "5"],
+        &["verify", "old", "new"],
+        &["batch", "steps"],
+        &["recover"],
+        &["rename", "A.x", "z", "--safe"],
+        &["rename", "A.x", "z", "--json", "--json"],
         &["rename", "-x", "z", "--write"],
         &["rename", "A.x", "-z", "--write"],
         &["rename", "", "z", "--write"],

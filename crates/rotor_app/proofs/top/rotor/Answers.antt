@@ -1,91 +1,104 @@
 use Rattle.std.proofs.Common.{◌≡◌, map, string_bytes}
-use Rattle.rotor_app.specs.Words.{asked}
+use Rattle.rotor_app.specs.Words.{command_in}
 use Rattle.rotor_app.specs.Table.{seen}
 use Rattle.rotor_app.proofs.Endings.{answers, usage_only, alone_same, alone_said, alone_cut, tree_fault, sink_fault, tree_stopped, sink_stopped, unchanged, quiet_sink, done_said}
-use Rattle.rotor_app.proofs.Undoing.{said_undoable}
 use Rattle.rotor_app.proofs.Concluded.{alone_writes}
+use Rattle.rotor_app.proofs.Undoing.{HasLaws, done_so}
 use Rattle.rotor_app.proofs.top.rotor.Goals as goal
 
 pub returns-clause-answer : goal.returns-clause-answer
 returns-clause-answer g c =
-    answers (asked (map string_bytes c.args.words.now))
+    answers (command_in (map string_bytes c.args.words.now))
     (seen (g.T.Tree.faults c.args.tree.now) (g.S.Sink.faults c.args.out.now) (g.T.Tree.content c.args.tree.now) (g.S.Sink.taken c.args.out.now))
     (seen (g.T.Tree.faults c.conclude.new.tree) (g.S.Sink.faults c.conclude.new.out) (g.T.Tree.content c.conclude.new.tree) (g.S.Sink.taken c.conclude.new.out))
     (c.conclude.new.tree ≡ c.args.tree.now) (c.conclude.new.out ≡ c.args.out.now) c.conclude.result c.conclude.ensures.ending
 
 pub returns-clause-alone : goal.returns-clause-alone
 returns-clause-alone g c =
-    alone_same (asked (map string_bytes c.args.words.now))
+    alone_same (command_in (map string_bytes c.args.words.now))
     (seen (g.T.Tree.faults c.args.tree.now) (g.S.Sink.faults c.args.out.now) (g.T.Tree.content c.args.tree.now) (g.S.Sink.taken c.args.out.now))
     (seen (g.T.Tree.faults c.conclude.new.tree) (g.S.Sink.faults c.conclude.new.out) (g.T.Tree.content c.conclude.new.tree) (g.S.Sink.taken c.conclude.new.out))
-    (c.conclude.new.tree ≡ c.args.tree.now) (c.conclude.new.out ≡ c.args.out.now) c.conclude.result (alone_writes (asked (map string_bytes c.args.words.now))) c.conclude.ensures.ending
+    (c.conclude.new.tree ≡ c.args.tree.now) (c.conclude.new.out ≡ c.args.out.now) c.conclude.result (alone_writes (command_in (map string_bytes c.args.words.now))) c.conclude.ensures.ending
 
 pub returns-clause-alone_said : goal.returns-clause-alone_said
 returns-clause-alone_said g c =
-    alone_said (asked (map string_bytes c.args.words.now))
+    alone_said (command_in (map string_bytes c.args.words.now))
     (seen (g.T.Tree.faults c.args.tree.now) (g.S.Sink.faults c.args.out.now) (g.T.Tree.content c.args.tree.now) (g.S.Sink.taken c.args.out.now))
     (seen (g.T.Tree.faults c.conclude.new.tree) (g.S.Sink.faults c.conclude.new.out) (g.T.Tree.content c.conclude.new.tree) (g.S.Sink.taken c.conclude.new.out))
-    (c.conclude.new.tree ≡ c.args.tree.now) (c.conclude.new.out ≡ c.args.out.now) c.conclude.result (alone_writes (asked (map string_bytes c.args.words.now))) c.conclude.ensures.ending
+    (c.conclude.new.tree ≡ c.args.tree.now) (c.conclude.new.out ≡ c.args.out.now) c.conclude.result (alone_writes (command_in (map string_bytes c.args.words.now))) c.conclude.ensures.ending
 
 pub returns-clause-alone_cut : goal.returns-clause-alone_cut
 returns-clause-alone_cut g c =
-    alone_cut (asked (map string_bytes c.args.words.now))
+    alone_cut (command_in (map string_bytes c.args.words.now))
     (seen (g.T.Tree.faults c.args.tree.now) (g.S.Sink.faults c.args.out.now) (g.T.Tree.content c.args.tree.now) (g.S.Sink.taken c.args.out.now))
     (seen (g.T.Tree.faults c.conclude.new.tree) (g.S.Sink.faults c.conclude.new.out) (g.T.Tree.content c.conclude.new.tree) (g.S.Sink.taken c.conclude.new.out))
     (c.conclude.new.tree ≡ c.args.tree.now) (c.conclude.new.out ≡ c.args.out.now) c.conclude.result c.conclude.ensures.ending
 
 pub returns-clause-usage : goal.returns-clause-usage
 returns-clause-usage g c =
-    usage_only (asked (map string_bytes c.args.words.now))
+    usage_only (command_in (map string_bytes c.args.words.now))
     (seen (g.T.Tree.faults c.args.tree.now) (g.S.Sink.faults c.args.out.now) (g.T.Tree.content c.args.tree.now) (g.S.Sink.taken c.args.out.now))
     (seen (g.T.Tree.faults c.conclude.new.tree) (g.S.Sink.faults c.conclude.new.out) (g.T.Tree.content c.conclude.new.tree) (g.S.Sink.taken c.conclude.new.out))
     (c.conclude.new.tree ≡ c.args.tree.now) (c.conclude.new.out ≡ c.args.out.now) c.conclude.result c.conclude.ensures.ending
 
 pub returns-clause-tree_fault : goal.returns-clause-tree_fault
 returns-clause-tree_fault g c =
-    tree_fault (asked (map string_bytes c.args.words.now))
+    tree_fault (command_in (map string_bytes c.args.words.now))
     (seen (g.T.Tree.faults c.args.tree.now) (g.S.Sink.faults c.args.out.now) (g.T.Tree.content c.args.tree.now) (g.S.Sink.taken c.args.out.now))
     (seen (g.T.Tree.faults c.conclude.new.tree) (g.S.Sink.faults c.conclude.new.out) (g.T.Tree.content c.conclude.new.tree) (g.S.Sink.taken c.conclude.new.out))
     (c.conclude.new.tree ≡ c.args.tree.now) (c.conclude.new.out ≡ c.args.out.now) c.conclude.result c.conclude.ensures.ending
 
 pub returns-clause-sink_fault : goal.returns-clause-sink_fault
 returns-clause-sink_fault g c =
-    sink_fault (asked (map string_bytes c.args.words.now))
+    sink_fault (command_in (map string_bytes c.args.words.now))
     (seen (g.T.Tree.faults c.args.tree.now) (g.S.Sink.faults c.args.out.now) (g.T.Tree.content c.args.tree.now) (g.S.Sink.taken c.args.out.now))
     (seen (g.T.Tree.faults c.conclude.new.tree) (g.S.Sink.faults c.conclude.new.out) (g.T.Tree.content c.conclude.new.tree) (g.S.Sink.taken c.conclude.new.out))
     (c.conclude.new.tree ≡ c.args.tree.now) (c.conclude.new.out ≡ c.args.out.now) c.conclude.result c.conclude.ensures.ending
 
 pub returns-clause-tree_stopped : goal.returns-clause-tree_stopped
 returns-clause-tree_stopped g c =
-    tree_stopped (asked (map string_bytes c.args.words.now))
+    tree_stopped (command_in (map string_bytes c.args.words.now))
     (seen (g.T.Tree.faults c.args.tree.now) (g.S.Sink.faults c.args.out.now) (g.T.Tree.content c.args.tree.now) (g.S.Sink.taken c.args.out.now))
     (seen (g.T.Tree.faults c.conclude.new.tree) (g.S.Sink.faults c.conclude.new.out) (g.T.Tree.content c.conclude.new.tree) (g.S.Sink.taken c.conclude.new.out))
     (c.conclude.new.tree ≡ c.args.tree.now) (c.conclude.new.out ≡ c.args.out.now) c.conclude.result c.conclude.ensures.ending
 
 pub returns-clause-sink_stopped : goal.returns-clause-sink_stopped
 returns-clause-sink_stopped g c =
-    sink_stopped (asked (map string_bytes c.args.words.now))
+    sink_stopped (command_in (map string_bytes c.args.words.now))
     (seen (g.T.Tree.faults c.args.tree.now) (g.S.Sink.faults c.args.out.now) (g.T.Tree.content c.args.tree.now) (g.S.Sink.taken c.args.out.now))
     (seen (g.T.Tree.faults c.conclude.new.tree) (g.S.Sink.faults c.conclude.new.out) (g.T.Tree.content c.conclude.new.tree) (g.S.Sink.taken c.conclude.new.out))
     (c.conclude.new.tree ≡ c.args.tree.now) (c.conclude.new.out ≡ c.args.out.now) c.conclude.result c.conclude.ensures.ending
 
 pub returns-clause-unchanged : goal.returns-clause-unchanged
 returns-clause-unchanged g c =
-    unchanged (asked (map string_bytes c.args.words.now))
+    unchanged (command_in (map string_bytes c.args.words.now))
     (seen (g.T.Tree.faults c.args.tree.now) (g.S.Sink.faults c.args.out.now) (g.T.Tree.content c.args.tree.now) (g.S.Sink.taken c.args.out.now))
     (seen (g.T.Tree.faults c.conclude.new.tree) (g.S.Sink.faults c.conclude.new.out) (g.T.Tree.content c.conclude.new.tree) (g.S.Sink.taken c.conclude.new.out))
     (c.conclude.new.tree ≡ c.args.tree.now) (c.conclude.new.out ≡ c.args.out.now) c.conclude.result c.conclude.ensures.ending
 
 pub returns-clause-quiet : goal.returns-clause-quiet
 returns-clause-quiet g c =
-    quiet_sink (asked (map string_bytes c.args.words.now))
+    quiet_sink (command_in (map string_bytes c.args.words.now))
     (seen (g.T.Tree.faults c.args.tree.now) (g.S.Sink.faults c.args.out.now) (g.T.Tree.content c.args.tree.now) (g.S.Sink.taken c.args.out.now))
     (seen (g.T.Tree.faults c.conclude.new.tree) (g.S.Sink.faults c.conclude.new.out) (g.T.Tree.content c.conclude.new.tree) (g.S.Sink.taken c.conclude.new.out))
     (c.conclude.new.tree ≡ c.args.tree.now) (c.conclude.new.out ≡ c.args.out.now) c.conclude.result c.conclude.ensures.ending
 
-pub returns-clause-undo : goal.returns-clause-undo
-returns-clause-undo g c = λ done files held. said_undoable (asked (map string_bytes c.args.words.now)) files (
-    done_said (asked (map string_bytes c.args.words.now))
+pub returns-clause-renamed : goal.returns-clause-renamed
+returns-clause-renamed g c = λ done files held.
+    let laws : HasLaws = record {
+      project = c.loaded_files_are_a_project.ensures;
+      loaded_new = c.new_sources_are_loaded.ensures;
+      old_back = c.old_sources_come_back.ensures;
+      undos = c.undos_are_read.ensures;
+      rewrite = c.renamings_rewrite.ensures;
+      undone = c.renamings_are_undone.ensures;
+      places = c.undos_have_places.ensures;
+      facts = c.renamings_keep_facts.ensures;
+      runs = c.renamings_keep_runs.ensures;
+      least = c.footprints_are_least.ensures;
+    } in
+    done_so laws (command_in (map string_bytes c.args.words.now)) files (
+    done_said (command_in (map string_bytes c.args.words.now))
     (seen (g.T.Tree.faults c.args.tree.now) (g.S.Sink.faults c.args.out.now) (g.T.Tree.content c.args.tree.now) (g.S.Sink.taken c.args.out.now))
     (seen (g.T.Tree.faults c.conclude.new.tree) (g.S.Sink.faults c.conclude.new.out) (g.T.Tree.content c.conclude.new.tree) (g.S.Sink.taken c.conclude.new.out))
     (c.conclude.new.tree ≡ c.args.tree.now) (c.conclude.new.out ≡ c.args.out.now) c.conclude.result c.conclude.ensures.ending done files held)

@@ -1,0 +1,203 @@
+-- The reply to a command is said, and has a status that a reply has.
+use Rattle.std.proofs.Common.{◌≡◌, ◌⊎◌, ℕ, List, [], ◌∷◌, ◌++◌, cond, Bool, true, false, Option, Some, None, Result, Ok, Err, IfSome, IfOk, IfErr, OnOk, ◌≢◌, refl, sym, ap, subst, ◌∙◌, inl, inr}
+use Rattle.std.specs.List.{cons_option}
+use Rattle.std.specs.Option.{option_and_then}
+use Rattle.rotor_base.specs.Files.{FileSet, names_of}
+use Rattle.rotor_base.specs.declared.fault.Memory.{Memory}
+use Rattle.rotor_base.specs.declared.source.SourceFile.{SourceFile}
+use Rattle.rotor_base.specs.declared.refusal.LoadError.{LoadError}
+use Rattle.rotor_base.specs.declared.refusal.Refusal.{Refusal}
+use Rattle.rotor_base.specs.declared.refusal.Refusal.TheVariants as refusal
+use Rattle.rotor_base.specs.declared.report.Outcome.{Outcome}
+use Rattle.rotor_base.specs.declared.report.Outcome.TheVariants as outcome
+use Rattle.rotor_base.specs.declared.report.Renamed.{Renamed}
+use Rattle.rotor_base.specs.declared.target.Target.{Target}
+use Rattle.tree_io.specs.Outside.{FileMap}
+use Rattle.tree_io.specs.declared.outside.TreeError.{TreeError}
+use Rattle.project_load.specs.Load.{loaded, IsLoad, IsOutside}
+use Rattle.cli_words.specs.declared.command.Command.{Command}
+use Rattle.cli_words.specs.declared.command.Command.TheVariants as command
+use Rattle.cli_words.specs.Words.{command_of}
+use Rattle.rename_files.specs.Answer.{Renames}
+use Rattle.rename_files.specs.Steps.{IsRefusedFor}
+use Rattle.rotor_app.specs.Words.{is_ready, if_ready, command_in}
+use Rattle.rotor_app.specs.declared.status.Status.TheVariants.{Done, Refused, Usage, Project}
+use Rattle.rotor_app.specs.declared.reply.Reply.{Reply}
+use Rattle.rotor_app.specs.Said.{status_of_refusal, status_of, writes_of, reply_by, usage_reply, told, Answers, not_loaded, answered, SaysTo, Says, SaysAlone, AsksNothing, IsReply}
+
+-- ---- the status of a reply
+
+refusal_kind : (r : Refusal) → IsReply (status_of_refusal r) []
+refusal_kind (refusal.Lex file offset) = refl
+refusal_kind (refusal.LongName file offset) = refl
+refusal_kind (refusal.Form at kind) = refl
+refusal_kind (refusal.Deep at) = refl
+refusal_kind (refusal.Syntax file) = refl
+refusal_kind (refusal.Cycle unit) = refl
+refusal_kind (refusal.Duplicate first again) = refl
+refusal_kind (refusal.Heavy at) = refl
+refusal_kind (refusal.Unmatched item) = refl
+refusal_kind refusal.NoTarget = refl
+refusal_kind refusal.Operator = refl
+refusal_kind refusal.BadName = refl
+refusal_kind refusal.SameName = refl
+refusal_kind (refusal.Outside at) = refl
+refusal_kind (refusal.Pun at) = refl
+refusal_kind (refusal.Blurred at) = refl
+refusal_kind (refusal.Grown file) = refl
+refusal_kind (refusal.Clash first again) = refl
+refusal_kind (refusal.Capture at was would) = refl
+refusal_kind (refusal.Mislink item was would) = refl
+refusal_kind refusal.Memory = refl
+
+no_usage_refusal : (r : Refusal) → status_of_refusal r ≡ Usage → ⊥
+no_usage_refusal (refusal.Lex file offset) e = let no : Project ≡ Usage = e in cc
+no_usage_refusal (refusal.LongName file offset) e = let no : Project ≡ Usage = e in cc
+no_usage_refusal (refusal.Form at kind) e = let no : Project ≡ Usage = e in cc
+no_usage_refusal (refusal.Deep at) e = let no : Project ≡ Usage = e in cc
+no_usage_refusal (refusal.Syntax file) e = let no : Project ≡ Usage = e in cc
+no_usage_refusal (refusal.Cycle unit) e = let no : Project ≡ Usage = e in cc
+no_usage_refusal (refusal.Duplicate first again) e = let no : Project ≡ Usage = e in cc
+no_usage_refusal (refusal.Heavy at) e = let no : Project ≡ Usage = e in cc
+no_usage_refusal (refusal.Unmatched item) e = let no : Project ≡ Usage = e in cc
+no_usage_refusal refusal.NoTarget e = let no : Refused ≡ Usage = e in cc
+no_usage_refusal refusal.Operator e = let no : Refused ≡ Usage = e in cc
+no_usage_refusal refusal.BadName e = let no : Refused ≡ Usage = e in cc
+no_usage_refusal refusal.SameName e = let no : Refused ≡ Usage = e in cc
+no_usage_refusal (refusal.Outside at) e = let no : Refused ≡ Usage = e in cc
+no_usage_refusal (refusal.Pun at) e = let no : Refused ≡ Usage = e in cc
+no_usage_refusal (refusal.Blurred at) e = let no : Refused ≡ Usage = e in cc
+no_usage_refusal (refusal.Grown file) e = let no : Refused ≡ Usage = e in cc
+no_usage_refusal (refusal.Clash first again) e = let no : Refused ≡ Usage = e in cc
+no_usage_refusal (refusal.Capture at was would) e = let no : Refused ≡ Usage = e in cc
+no_usage_refusal (refusal.Mislink item was would) e = let no : Refused ≡ Usage = e in cc
+no_usage_refusal refusal.Memory e = let no : Project ≡ Usage = e in cc
+
+outcome_kind : (write : Bool) (o : Outcome) → IsReply (status_of o) (writes_of write o)
+outcome_kind write (outcome.Done done) = tt
+outcome_kind write (outcome.Checked counts) = tt
+outcome_kind write (outcome.Shown shown) = tt
+outcome_kind write (outcome.Sampled sampled) = tt
+outcome_kind true (outcome.Refused r) = refusal_kind r
+outcome_kind false (outcome.Refused r) = refusal_kind r
+outcome_kind true (outcome.NotLoaded error) = refl
+outcome_kind false (outcome.NotLoaded error) = refl
+outcome_kind true outcome.BadWords = refl
+outcome_kind false outcome.BadWords = refl
+
+pub reply_kind : (c : Command) (names : List (List ℕ)) (o : Outcome) (reply : Reply) → reply ≡ reply_by c names o → IsReply reply.status reply.writes
+reply_kind c names o reply e = subst (λ (r : Reply). IsReply r.status r.writes) (sym e) (outcome_kind _ o)
+
+told_usage : {A : Type 0} (f : A → Outcome) (r : Result A Refusal) (o : Outcome) → ((a : A) → status_of (f a) ≡ Usage → ⊥) → o ≡ told f r → status_of o ≡ Usage → ⊥
+told_usage f (Ok a) o h e u = h a (sym (ap status_of e) ∙ u)
+told_usage f (Err r) o h e u = no_usage_refusal r (sym (ap status_of e) ∙ u)
+
+answer_usage : (c : Command) (files : FileSet) (o : Outcome) → Answers c files o → status_of o ≡ Usage → ⊥
+answer_usage command.Check files o (r, h, e) u = told_usage outcome.Checked r o (λ a u. let no : Done ≡ Usage = u in cc) e u
+answer_usage (command.Shape target) files o (r, h, e) u = told_usage outcome.Shown r o (λ a u. let no : Done ≡ Usage = u in cc) e u
+answer_usage (command.Rename target name write safe json) files o (r, h, e) u = told_usage outcome.Done r o (λ a u. let no : Done ≡ Usage = u in cc) e u
+answer_usage (command.Sample units) files o h u = h
+answer_usage (command.Verify old new) files o h u = h
+answer_usage (command.Batch file write) files o h u = h
+answer_usage command.Recover files o h u = h
+
+-- a reply over loaded files
+abbrev pub IsOver : Command → FileSet → Reply → Type 0
+IsOver c files reply = (o : Outcome) × Answers c files o × (reply ≡ reply_by c (names_of files.entries) o)
+
+pub over_kind : (c : Command) (files : FileSet) (reply : Reply) → IsOver c files reply → IsReply reply.status reply.writes
+over_kind c files reply (o, h, e) = reply_kind c (names_of files.entries) o reply e
+
+pub over_usage : (c : Command) (files : FileSet) (reply : Reply) → IsOver c files reply → reply.status ≡ Usage → ⊥
+over_usage c files reply (o, h, e) u = answer_usage c files o h (sym (ap (λ (r : Reply). r.status) e) ∙ u)
+
+pub refused_usage : (c : Command) (error : LoadError) (reply : Reply) → reply ≡ reply_by c [] (outcome.NotLoaded error) → reply.status ≡ Usage → ⊥
+refused_usage c error reply e u = let no : Project ≡ Usage = sym (ap (λ (r : Reply). r.status) e) ∙ u in cc
+
+-- ---- what is said
+
+-- over the files that the folder loads as
+pub said_over : (content : Option FileMap) (result : Result FileSet LoadError) (files : FileSet) (c : Command) (reply : Reply) → result ≡ Ok files → IfSome content (λ held. IsLoad held result)
+    → IsOver c files reply → IfSome content (λ held. SaysTo c held reply)
+said_over None result files c reply e h over = tt
+said_over (Some held) result files c reply e h (o, a, r) = (names_of files.entries, o, answered files o (subst (λ (x : Result FileSet LoadError). IsLoad held x) e h) a, r)
+
+-- over a folder that is not taken
+pub said_refused : (content : Option FileMap) (result : Result FileSet LoadError) (error : LoadError) (c : Command) (reply : Reply) → result ≡ Err error → IfSome content (λ held. IsLoad held result)
+    → (IsOutside error → ⊥) → reply ≡ reply_by c [] (outcome.NotLoaded error) → IfSome content (λ held. SaysTo c held reply)
+said_refused None result error c reply e h inside r = tt
+said_refused (Some held) result error c reply e h inside r = by (subst (λ (x : Result FileSet LoadError). IsLoad held x) e h) where
+  by : IsOutside error ⊎ (loaded held ≡ Err error) → SaysTo c held reply
+  by (inl out) = absurd (inside out)
+  by (inr is) = ([], outcome.NotLoaded error, not_loaded error is, r)
+
+-- the same of a call that may have found no memory
+pub refused_answer : (content : Option FileMap) (result : Result FileSet LoadError) (error : LoadError) (c : Command) (answer : Result Reply TreeError) → result ≡ Err error → IfSome content (λ held. IsLoad held result)
+    → IfOk answer (λ reply. reply ≡ reply_by c [] (outcome.NotLoaded error)) → OnOk answer (IsOutside error → ⊥) → IfOk answer (λ reply. IfSome content (λ held. SaysTo c held reply))
+refused_answer content result error c (Ok reply) e h r inside = said_refused content result error c reply e h inside r
+refused_answer content result error c (Err fault) e h r inside = tt
+
+pub refused_kind : (c : Command) (error : LoadError) (answer : Result Reply TreeError) → IfOk answer (λ reply. reply ≡ reply_by c [] (outcome.NotLoaded error)) → IfOk answer (λ reply. IsReply reply.status reply.writes)
+refused_kind c error (Ok reply) r = reply_kind c [] (outcome.NotLoaded error) reply r
+refused_kind c error (Err fault) r = tt
+
+pub refused_no_usage : (c : Command) (error : LoadError) (answer : Result Reply TreeError) → IfOk answer (λ reply. reply ≡ reply_by c [] (outcome.NotLoaded error)) → IfOk answer (λ reply. reply.status ≡ Usage → ⊥)
+refused_no_usage c error (Ok reply) r = refused_usage c error reply r
+refused_no_usage c error (Err fault) r = tt
+
+-- the usage is said to words of no form
+pub usage_said : (request : Option Command) (content : Option FileMap) (reply : Reply) → request ≡ None → reply ≡ usage_reply → IfSome content (λ held. Says request held reply)
+unfolding Says
+usage_said request None reply e r = tt
+usage_said request (Some held) reply e r = subst (λ (q : Option Command). Says q held reply) (sym e) r
+
+pub usage_alone : (request : Option Command) (reply : Reply) → reply ≡ usage_reply → AsksNothing request → SaysAlone request reply
+unfolding SaysAlone
+usage_alone request reply r a = r
+
+pub command_said : (request : Option Command) (c : Command) (content : Option FileMap) (result : Result Reply TreeError) → request ≡ Some c
+    → IfOk result (λ reply. IfSome content (λ held. SaysTo c held reply)) → IfOk result (λ reply. IfSome content (λ held. Says request held reply))
+unfolding Says
+command_said request c content (Err fault) e h = tt
+command_said request c None (Ok reply) e h = tt
+command_said request c (Some held) (Ok reply) e h = subst (λ (q : Option Command). Says q held reply) (sym e) h
+
+-- a reply that is made over loaded files
+pub over_made : (c : Command) (files : FileSet) (names : List (List ℕ)) (o : Outcome) (result : Result Reply Memory) → names ≡ names_of files.entries → Answers c files o
+    → IfOk result (λ reply. reply ≡ reply_by c names o) → IfOk result (IsOver c files)
+over_made c files names o (Err e) n a h = tt
+over_made c files names o (Ok reply) n a h = (o, a, h ∙ ap (λ (ns : List (List ℕ)). reply_by c ns o) n)
+
+-- a command that the words ask for is there
+ready_by : (d c : Command) (b : Bool) → is_ready d ≡ b → cond b (Some d) None ≡ Some c → is_ready c ≡ true
+ready_by d c true e h = let same : d ≡ c = cc in subst (λ (x : Command). is_ready x ≡ true) same e
+ready_by d c false e h = absurd cc
+
+ready_of : (asked : Option Command) (c : Command) → option_and_then if_ready asked ≡ Some c → is_ready c ≡ true
+ready_of None c h = absurd cc
+ready_of (Some d) c h = ready_by d c (is_ready d) refl h
+
+pub ready : (words : List (List ℕ)) (c : Command) → command_in words ≡ Some c → is_ready c ≡ true
+ready words c h = ready_of (command_of words) c h
+
+-- a file added, if there is one
+pub pushed : (o : Option SourceFile) (found rest : List SourceFile) → (found ++ cons_option o []) ++ rest ≡ found ++ cons_option o rest
+pushed None [] rest = refl
+pushed (Some f) [] rest = refl
+pushed o (g ∷ found) rest = ap (λ (gs : List SourceFile). g ∷ gs) (pushed o found rest)
+
+-- ---- the outcome of a refused renaming
+
+-- a refusal other than want of memory is an answer to the command, whose name has these bytes
+pub refused_renaming :
+    (files : FileSet) (target : Target) (new bytes : List ℕ) (write safe json : Bool) (r : Result Renamed Refusal) (why : Refusal) (o : Result Outcome Memory)
+    → bytes ≡ new → r ≡ Err why → IfErr r (IsRefusedFor (λ w. Renames files target bytes (Err w)))
+    → IfOk o (λ x. (x ≡ outcome.Refused why) × (why ≢ refusal.Memory))
+    → IfOk o (λ x. Answers (command.Rename target new write safe json) files x)
+refused_renaming files target new bytes write safe json r why (Err m) same e refused said = tt
+refused_renaming files target new bytes write safe json r why (Ok x) same e refused said =
+    by_cases (subst (λ (q : Result Renamed Refusal). IfErr q (IsRefusedFor (λ w. Renames files target bytes (Err w)))) e refused)
+  where
+    by_cases : Renames files target bytes (Err why) ⊎ (why ≡ refusal.Memory) → Answers (command.Rename target new write safe json) files x
+    by_cases (inl a) = (Err why, subst (λ (name : List ℕ). Renames files target name (Err why)) same a, said.0)
+    by_cases (inr m) = absurd (said.1 m)

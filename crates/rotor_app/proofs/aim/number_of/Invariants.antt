@@ -1,7 +1,0 @@
-use Rattle.std.proofs.Common.{◌≡◌, ◌<◌, drop}
-use Rattle.rotor_app.specs.Aim.{digits_more, number_at}
-use Rattle.rotor_app.proofs.aim.number_of.Given as goal
-
--- the rest of the digits goes on from the number so far
-abbrev pub invariant-loop-digit : goal.invariant-loop-digit
-invariant-loop-digit l = (l.number < 4294967296) × (digits_more l.number (drop l.digit-index l.rest) ≡ number_at l.digits)

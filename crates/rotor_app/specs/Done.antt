@@ -1,0 +1,58 @@
+-- What holds of a renaming that is done: what it keeps, and that the words of its undo give the old files back.
+use Rattle.std.specs.Prelude.{◌≡◌, ℕ, List, [], ◌∷◌, ◌++◌, Bool, true, false, Option, Some, None, Ok, codes}
+use Rattle.rotor_base.specs.Files.{FileSet, names_of}
+use Rattle.rotor_base.specs.declared.report.Renamed.{Renamed}
+use Rattle.rotor_base.specs.declared.target.Target.{Target}
+use Rattle.tree_io.specs.Outside.{FileMap}
+use Rattle.project_load.specs.Load.{loaded}
+use Rattle.project_load.specs.Rewritten.{after}
+use Rattle.report.specs.Pieces.{place_text}
+use Rattle.report.specs.Lines.{undo_line}
+use Rattle.report.specs.Text.{ended}
+use Rattle.cli_words.specs.declared.command.Command.{Command}
+use Rattle.cli_words.specs.declared.command.Command.TheVariants as command
+use Rattle.rename_files.specs.Answer.{Renames}
+use Rattle.rename_laws.specs.Laws.{KeepsFacts, KeepsRuns, IsLeastFor}
+use Rattle.rotor_app.specs.declared.status.Status.TheVariants.{Done}
+use Rattle.rotor_app.specs.declared.reply.Reply.{Reply}
+use Rattle.rotor_app.specs.Words.{command_in}
+use Rattle.rotor_app.specs.Said.{SomeReply}
+
+-- the words `rename PLACE NAME --write`
+abbrev pub rename_words : List ℕ → List ℕ → List (List ℕ)
+rename_words place name = codes "rename" ∷ place ∷ name ∷ codes "--write" ∷ []
+
+-- the words of the undo of a renaming, in files of these names
+abbrev pub undo_of : List (List ℕ) → Renamed → List (List ℕ)
+undo_of names done = rename_words (place_text names done.undo_at) done.old
+
+-- the text ends with the line `undo PLACE NAME`
+abbrev pub EndsWithUndo : List (List ℕ) → Renamed → Reply → Type 0
+EndsWithUndo names done reply = (front : List ℕ) × (reply.text ≡ front ++ ended (undo_line names done))
+
+-- the words over the new files are done, and give the old files back
+abbrev pub GivesBack : List (List ℕ) → FileMap → Reply → Type 0
+GivesBack words held reply = SomeReply (command_in words) (after reply.writes held) (λ back. (back.status ≡ Done) × (after back.writes (after reply.writes held) ≡ held))
+
+-- a renaming of the files that a folder loads as is done
+pub record IsDone (held : FileMap) (target : Target) (new : List ℕ) (write json : Bool) (reply : Reply) : Type 0 where
+  pub old : FileSet
+  pub done : Renamed
+  pub loads : loaded held ≡ Ok old
+  pub renames : Renames old target new (Ok done)
+  pub facts : KeepsFacts old done.files
+  pub runs : KeepsRuns old done.files
+  pub least : IsLeastFor old done.foot.decls
+  pub line : json ≡ false → EndsWithUndo (names_of old.entries) done reply
+  pub back : write ≡ true → GivesBack (undo_of (names_of old.entries) done) held reply
+
+-- of a reply that is done to what the words ask for
+abbrev pub IsDoneSo : Option Command → FileMap → Reply → Type 0
+IsDoneSo None held reply = Unit {0}
+IsDoneSo (Some command.Check) held reply = Unit {0}
+IsDoneSo (Some (command.Shape target)) held reply = Unit {0}
+IsDoneSo (Some (command.Rename target name write safe json)) held reply = IsDone held target name write json reply
+IsDoneSo (Some (command.Sample units)) held reply = Unit {0}
+IsDoneSo (Some (command.Verify old new)) held reply = Unit {0}
+IsDoneSo (Some (command.Batch file write)) held reply = Unit {0}
+IsDoneSo (Some command.Recover) held reply = Unit {0}

@@ -1,0 +1,61 @@
+//! What the words of the command line ask for.
+ghost use Rattle.std.specs.Prelude.{◌≡◌, IfOk, map, string_bytes};
+ghost use Rattle.rotor_app.specs.Words.{command_in, is_ready, is_writing, puts_json};
+
+use cli_words::{Command, WordsError, read_words};
+use rotor_base::Memory;
+use std::alloc::Global;
+
+/// The command that the words ask for, if they have a form and the program has that command.
+pub fn command_in(alloc: Global, words: &[String]) -> Result<Option<Command>, Memory>
+    ensures { IfOk result (λ asked. asked ≡ command_in (map string_bytes words.now)) }
+{
+    match read_words(alloc, words) {
+        Ok(command) if is_ready(&command) => Ok(Some(command)),
+        Ok(_) | Err(WordsError::Usage) => Ok(None),
+        Err(WordsError::Memory) => Err(Memory),
+    }
+}
+
+/// Whether the program has the command.
+fn is_ready(command: &Command) -> bool
+    ensures { result ≡ is_ready command.now }
+{
+    match command {
+        Command::Check | Command::Shape(_) => true,
+        Command::Rename { safe, .. } => !*safe,
+        Command::Sample(_) | Command::Verify { .. } | Command::Batch { .. } | Command::Recover => {
+            false
+        }
+    }
+}
+
+/// Whether the command puts JSON.
+pub fn puts_json(command: &Command) -> bool
+    ensures { result ≡ puts_json command.now }
+{
+    match command {
+        Command::Rename { json, .. } => *json,
+        Command::Check
+        | Command::Shape(_)
+        | Command::Sample(_)
+        | Command::Verify { .. }
+        | Command::Batch { .. }
+        | Command::Recover => false,
+    }
+}
+
+/// Whether the command writes the changed files.
+pub fn is_writing(command: &Command) -> bool
+    ensures { result ≡ is_writing command.now }
+{
+    match command {
+        Command::Rename { write, .. } => *write,
+        Command::Check
+        | Command::Shape(_)
+        | Command::Sample(_)
+        | Command::Verify { .. }
+        | Command::Batch { .. }
+        | Command::Recover => false,
+    }
+}

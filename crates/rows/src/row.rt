@@ -1,0 +1,145 @@
+use rotor_app::rotor;
+use rotor_base::{Memory, Row as Bytes, SourceFile, Text};
+use std::alloc::{AllocError, Global};
+use tree_io::{MemSink, MemTree, have_distinct_names};
+
+/// A file of a row.
+#[derive(Clone, Drop)]
+struct File {
+    name: String,
+    text: String,
+}
+
+/// A row: a folder, the words, the calls of the folder and of the output that fail, and the output's room.
+#[derive(Drop)]
+pub struct Row {
+    files: Vec<File>,
+    words: Vec<String>,
+    calls: Vec<u32>,
+    puts: Vec<u32>,
+    room: u32,
+}
+
+impl Row {
+    pub fn new(alloc: Global) -> Self {
+        Row {
+            files: Vec::new(alloc),
+            words: Vec::new(alloc),
+            calls: Vec::new(alloc),
+            puts: Vec::new(alloc),
+            room: 1_000,
+        }
+    }
+
+    /// Takes a line of the row: `file NAME`; of the last file `>TEXT`, `|LINE` with a line feed, and `spaces N`; `word
+    /// WORD`, `call N`, `put N`, `room N`. Every other line is passed over.
+    pub fn read(&mut self, alloc: Global, line: &str) -> Result<(), AllocError> {
+        if let Some(text) = line.strip_prefix('>') {
+            return self.add(text);
+        }
+        if let Some(text) = line.strip_prefix('|') {
+            self.add(text)?;
+            return self.add("\n");
+        }
+        let Some((kind, value)) = line.split_once(' ') else {
+            return Ok(());
+        };
+        match kind {
+            "file" => {
+                let file = File {
+                    name: String::from_str(alloc, value)?,
+                    text: String::new(alloc),
+                };
+                self.files.push(file)?;
+            }
+            "spaces" => {
+                for _ in 0..number(value) {
+                    self.add(" ")?;
+                }
+            }
+            "word" => self.words.push(String::from_str(alloc, value)?)?,
+            "call" => self.calls.push(number(value))?,
+            "put" => self.puts.push(number(value))?,
+            "room" => self.room = number(value),
+            _ => {}
+        }
+        Ok(())
+    }
+
+    fn add(&mut self, text: &str) -> Result<(), AllocError> {
+        if let Some(file) = self.files.last_mut() {
+            file.text.push_str(text)?;
+        }
+        Ok(())
+    }
+
+    /// The length of the last file's text, in bytes.
+    pub fn last_len(&self) -> usize {
+        self.files.last().map_or(0, |file| file.text.len())
+    }
+
+    /// The row with the last file's text cut after this many bytes.
+    pub fn cut(&self, alloc: Global, len: usize) -> Result<Row, AllocError> {
+        let mut files = Vec::new(alloc);
+        for file in &self.files {
+            files.push(file.clone()?)?;
+        }
+        if let Some(file) = files.pop() {
+            let text = text_of(file.text.as_bytes().get(..len).unwrap_or_default());
+            files.push(File {
+                name: file.name.clone()?,
+                text: String::from_str(alloc, text)?,
+            })?;
+        }
+        Ok(Row {
+            files,
+            words: self.words.clone()?,
+            calls: self.calls.clone()?,
+            puts: self.puts.clone()?,
+            room: self.room,
+        })
+    }
+
+    /// Runs the row, and returns the status, what was put, and each file that changed.
+    pub fn run(&self, alloc: Global) -> Result<String, Memory> {
+        let files = sources(alloc, &self.files)?;
+        if !have_distinct_names(&files) {
+            return Ok(String::from_str(alloc, "a name stands twice\n")?);
+        }
+        let mut tree = MemTree::new(alloc, files, self.calls.clone()?)?;
+        let mut sink = MemSink::new(alloc, self.room, self.puts.clone()?)?;
+        let status = rotor(alloc, &self.words, &mut tree, &mut sink);
+        let mut ended = format!(in alloc; "{status:?}\n")?;
+        ended.push_str(text_of(sink.bytes()))?;
+        for file in &self.files {
+            let bytes = tree.get(file.name.as_str()).unwrap_or_default();
+            if bytes != file.text.as_bytes() {
+                ended.push_str("file ")?;
+                ended.push_str(file.name.as_str())?;
+                ended.push_str("\n>")?;
+                ended.push_str(text_of(bytes))?;
+                ended.push_str("\n")?;
+            }
+        }
+        Ok(ended)
+    }
+}
+
+fn number(value: &str) -> u32 {
+    value.parse::<u32>().unwrap_or(0)
+}
+
+fn text_of(bytes: &[u8]) -> &str {
+    str::from_utf8(bytes).unwrap_or("bytes that are no text")
+}
+
+fn sources(alloc: Global, files: &[File]) -> Result<Vec<SourceFile>, AllocError> {
+    let mut found = Vec::new(alloc);
+    for file in files {
+        found.push(SourceFile {
+            name: Text::from_string(file.name.clone()?),
+            bytes: Bytes::from_vec(file.text.as_bytes().to_vec(alloc)?),
+        })?;
+    }
+    Ok(found)
+}
