@@ -1,18 +1,23 @@
 -- The laws of accepted renamings.
-use Rattle.std.proofs.Common.{inl, inr, Contains, sym, subst}
+use Rattle.std.proofs.Common.{◌≡◌, inl, inr, Contains, map, sym, ap, subst, ◌∙◌}
+use Rattle.rotor_base.specs.declared.place.Place.{Place}
+use Rattle.rotor_base.specs.declared.place.Foot.{Foot}
 use Rattle.rotor_base.specs.declared.report.Renamed.{Renamed}
 use Rattle.rotor_base.specs.declared.target.Target.{Target}
 use Rattle.rotor_base.specs.Files.{FileSet, IsProject}
 use Rattle.shape_core.specs.Shape.{Name}
 use Rattle.dependency_kernel.specs.Foot.{IsFoot}
 use Rattle.binding_model.specs.Facts.{facts}
+use Rattle.binding_model.specs.Local.{renaming}
+use Rattle.binding_model.specs.Renaming.{Renaming, IsValid, respell}
 use Rattle.binding_model.proofs.Leasts.{changes_whole_foot}
+use Rattle.project_reading.specs.Reads.{Reads}
 use Rattle.project_reading.proofs.Soundness.{read_is_sound}
 use Rattle.rename_model.specs.Renaming.{watch_of, renamed}
 use Rattle.rename_files.specs.Answer.{Accepted}
 use Rattle.renamed_sources.proofs.Unhit.{sources_without_hits_stay}
-use Rattle.rename_laws.specs.Laws.{RenamingsRewrite, RenamingsKeepFacts, RenamingsKeepRuns, FootprintsAreLeast}
-use Rattle.rename_laws.proofs.Kept.{IsRenamable, same_facts, same_runs, still, names, taken}
+use Rattle.rename_laws.specs.Laws.{new_names, RenamingsRewrite, RenamingsAreValid, RenamingsKeepFacts, RenamingsKeepRuns, FootprintsAreLeast}
+use Rattle.rename_laws.proofs.Kept.{IsRenamable, same_facts, same_runs, still, valid, names, taken}
 
 pub renamable : (files : FileSet) (target : Target) (new : Name) (done : Renamed) → IsProject files → (a : Accepted files target new done)
     → IsRenamable files a.project a.binder a.foot new
@@ -30,6 +35,20 @@ renamings_rewrite files target new done p a =
         | inl e ↦ inl e
         | inr c ↦ inr (subst (λ ks. Contains ks k) (sym a.renaming.changed) c)
       ];
+    }
+
+pub renamings_are_valid : RenamingsAreValid
+renamings_are_valid files target new done p a =
+    let us = a.project in
+    let h = renamable files target new done p a in
+    let is : renaming (watch_of us a.binder a.foot new) ≡ new_names done =
+    ap (λ (name : Name). map (λ (d : Place). (d, name)) a.foot.decls) (sym a.renaming.new_name)
+    ∙ ap (λ (foot : Foot). map (λ (d : Place). (d, done.new)) foot.decls) (sym a.renaming.footprint) in
+    record {
+      project = us;
+      reads = a.accepts.reads;
+      valid = subst (λ (r : Renaming). IsValid us r) is (valid files us a.binder a.foot new h done.files a.renaming.sources a.renaming.manifest);
+      respelled = subst (λ (r : Renaming). Reads done.files (respell us r)) is (still files us a.binder a.foot new h done.files a.renaming.sources a.renaming.manifest);
     }
 
 pub renamings_keep_facts : RenamingsKeepFacts

@@ -1,5 +1,5 @@
 -- What a renaming that is accepted keeps.
-use Rattle.std.specs.Prelude.{◌≡◌, ◌⊎◌, ℕ, ◌<◌, ◌≤◌, List, true, Some, None, Contains, Ok, slice_get}
+use Rattle.std.specs.Prelude.{◌≡◌, ◌⊎◌, ℕ, ◌<◌, ◌≤◌, List, map, true, Some, None, Contains, Ok, slice_get}
 use Rattle.rotor_base.specs.declared.place.Place.{Place}
 use Rattle.rotor_base.specs.declared.report.Renamed.{Renamed}
 use Rattle.rotor_base.specs.declared.target.Target.{Target}
@@ -10,7 +10,7 @@ use Rattle.rotor_base.specs.Files.{FileSet, IsProject, load_refusal, names_of}
 use Rattle.ml_syntax.specs.Tree.{UnitTree}
 use Rattle.shape_core.specs.Shape.{Name}
 use Rattle.binding_model.specs.Facts.{facts}
-use Rattle.binding_model.specs.Renaming.{Renaming, Changes, IsValid}
+use Rattle.binding_model.specs.Renaming.{Renaming, Changes, IsValid, respell}
 use Rattle.module_meaning.specs.Run.{run}
 use Rattle.project_reading.specs.Reads.{Reads}
 use Rattle.rename_model.specs.Target.{number_of}
@@ -23,6 +23,17 @@ pub record Rewrites (files : FileSet) (done : Renamed) : Type 0 where
   pub manifest : done.files.manifest ≡ files.manifest
   pub taken : load_refusal done.files.entries done.files.manifest ≡ None
   pub covers : (k : ℕ) → (slice_get files.entries k ≡ slice_get done.files.entries k) ⊎ Contains done.changed k
+
+-- the new name for each declaration of the footprint, and for no other
+abbrev pub new_names : Renamed → Renaming
+new_names done = map (λ d. (d, done.new)) done.foot.decls
+
+-- the new names are a valid renaming of the project, and the new files are read as its respelling
+pub record IsValidFor (files : FileSet) (done : Renamed) : Type 0 where
+  pub project : List UnitTree
+  pub reads : Reads files project
+  pub valid : IsValid project (new_names done)
+  pub respelled : Reads done.files (respell project (new_names done))
 
 -- the files are read as projects with the same facts: every reference keeps its declaration, and every link stays
 pub record KeepsFacts (old new : FileSet) : Type 0 where
@@ -61,6 +72,10 @@ pub record IsUndoPlace (files : FileSet) (done : Renamed) : Type 0 where
 -- Law: a renaming that is accepted rewrites sources, and nothing else
 abbrev pub RenamingsRewrite : Type 0
 RenamingsRewrite = (files : FileSet) (target : Target) (new : Name) (done : Renamed) → IsProject files → Renames files target new (Ok done) → Rewrites files done
+
+-- Law: it is valid, and respells the declarations of the footprint and the references to them, and nothing else
+abbrev pub RenamingsAreValid : Type 0
+RenamingsAreValid = (files : FileSet) (target : Target) (new : Name) (done : Renamed) → IsProject files → Renames files target new (Ok done) → IsValidFor files done
 
 -- Law: it keeps the facts
 abbrev pub RenamingsKeepFacts : Type 0

@@ -23,7 +23,7 @@ use Rattle.cli_words.specs.declared.command.Command.TheVariants as command
 use Rattle.cli_words.specs.Words.{command_of}
 use Rattle.cli_words.specs.Laws.{undo_words, UndosAreRead}
 use Rattle.rename_files.specs.Answer.{Renames}
-use Rattle.rename_laws.specs.Laws.{Rewrites, IsUndoPlace, RenamingsRewrite, RenamingsAreUndone, UndosHavePlaces, RenamingsKeepFacts, RenamingsKeepRuns, FootprintsAreLeast}
+use Rattle.rename_laws.specs.Laws.{Rewrites, IsUndoPlace, RenamingsRewrite, RenamingsAreUndone, RenamingsAreValid, UndosHavePlaces, RenamingsKeepFacts, RenamingsKeepRuns, FootprintsAreLeast}
 use Rattle.rotor_app.specs.declared.status.Status.TheVariants.{Done, Refused, Project}
 use Rattle.rotor_app.specs.declared.reply.Reply.{Reply}
 use Rattle.rotor_app.specs.Words.{command_in, if_ready}
@@ -75,6 +75,7 @@ pub record HasLaws : Type 0 where
   pub rewrite : RenamingsRewrite
   pub undone : RenamingsAreUndone
   pub places : UndosHavePlaces
+  pub valid : RenamingsAreValid
   pub facts : RenamingsKeepFacts
   pub runs : RenamingsKeepRuns
   pub least : FootprintsAreLeast
@@ -133,6 +134,7 @@ module _ (laws : HasLaws) where
       done = done;
       loads = loads;
       renames = renames;
+      valid = laws.valid old target new done project renames;
       facts = laws.facts old target new done project renames;
       runs = laws.runs old target new done project renames;
       least = laws.least old target new done project renames;

@@ -12,7 +12,7 @@ use Rattle.report.specs.Text.{ended}
 use Rattle.cli_words.specs.declared.command.Command.{Command}
 use Rattle.cli_words.specs.declared.command.Command.TheVariants as command
 use Rattle.rename_files.specs.Answer.{Renames}
-use Rattle.rename_laws.specs.Laws.{KeepsFacts, KeepsRuns, IsLeastFor}
+use Rattle.rename_laws.specs.Laws.{IsValidFor, KeepsFacts, KeepsRuns, IsLeastFor}
 use Rattle.rotor_app.specs.declared.status.Status.TheVariants.{Done}
 use Rattle.rotor_app.specs.declared.reply.Reply.{Reply}
 use Rattle.rotor_app.specs.Words.{command_in}
@@ -40,6 +40,7 @@ pub record IsDone (held : FileMap) (target : Target) (new : List ℕ) (write jso
   pub done : Renamed
   pub loads : loaded held ≡ Ok old
   pub renames : Renames old target new (Ok done)
+  pub valid : IsValidFor old done
   pub facts : KeepsFacts old done.files
   pub runs : KeepsRuns old done.files
   pub least : IsLeastFor old done.foot.decls

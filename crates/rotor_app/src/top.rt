@@ -12,8 +12,8 @@ use crate::status::Status;
 use cli_words::undos_are_read;
 use project_load::{loaded_files_are_a_project, new_sources_are_loaded, old_sources_come_back};
 use rename_laws::{
-    footprints_are_least, renamings_are_undone, renamings_keep_facts, renamings_keep_runs,
-    renamings_rewrite, undos_have_places,
+    footprints_are_least, renamings_are_undone, renamings_are_valid, renamings_keep_facts,
+    renamings_keep_runs, renamings_rewrite, undos_have_places,
 };
 use rotor_base::{Failed, SourceFile};
 use std::alloc::Global;
@@ -60,7 +60,8 @@ pub fn rotor<T: Tree, S: Sink>(alloc: Global, words: &[String], tree: &mut T, ou
     ensures unchanged { IsRefusal result → T.content tree.new ≡ T.content tree.old }
     ensures quiet { (result ≡ Status.TreeFault) ⊎ (result ≡ Status.Memory) → out.new ≡ out.old }
 
-    // A renaming that is done keeps facts and runs, is a least one, and the words of its undo give the old files back.
+    // A renaming that is done is valid, keeps facts and runs, changes a least footprint, and the words of its undo give
+    // the old files back.
     ensures renamed { (result ≡ Status.Done) → ForSome (T.content tree.old) (λ files. SomeReply (command_in (map string_bytes words.now)) files (λ reply. IsDoneSo (command_in (map string_bytes words.now)) files reply)) }
 
     // Over a folder and an output that do not fail, the status is the one that is said, or there was no memory.
@@ -74,6 +75,7 @@ pub fn rotor<T: Tree, S: Sink>(alloc: Global, words: &[String], tree: &mut T, ou
     renamings_rewrite();
     renamings_are_undone();
     undos_have_places();
+    renamings_are_valid();
     renamings_keep_facts();
     renamings_keep_runs();
     footprints_are_least();

@@ -93,6 +93,7 @@ returns-clause-renamed g c = λ done files held.
       rewrite = c.renamings_rewrite.ensures;
       undone = c.renamings_are_undone.ensures;
       places = c.undos_have_places.ensures;
+      valid = c.renamings_are_valid.ensures;
       facts = c.renamings_keep_facts.ensures;
       runs = c.renamings_keep_runs.ensures;
       least = c.footprints_are_least.ensures;
