@@ -8,7 +8,8 @@ use rotor_base::{Counts, Foot, FootReport, Memory, Outcome, Place, Renamed, Row,
 use std::alloc::Global;
 
 /// The usage line, with the forms that have a command.
-const USAGE: &str = "usage: rotor check | footprint TARGET | rename TARGET NAME [--write] [--json]";
+const USAGE: &str =
+    "usage: rotor check | footprint TARGET | rename TARGET NAME [--write] [--json] | sample N";
 
 /// The lines of an outcome.
 pub(crate) fn lines(

@@ -4,10 +4,12 @@ use Rattle.tree_io.specs.declared.outside.TreeError.{TreeError}
 use Rattle.tree_io.specs.declared.outside.TreeError.TheVariants as variant
 use Rattle.tree_io.specs.Outside.{FileMap, Rose, HasCause}
 use Rattle.cli_words.specs.declared.command.Command.{Command}
+use Rattle.cli_words.specs.declared.command.Command.TheVariants as command
 use Rattle.rotor_app.specs.declared.status.Status.{Status}
 use Rattle.rotor_app.specs.declared.status.Status.TheVariants.{Usage, TreeFault, Memory}
 use Rattle.rotor_app.specs.declared.reply.Reply.{Reply}
 use Rattle.rotor_app.specs.Said.{IsReply, Says, SaysAlone, AsksNothing}
+use Rattle.rotor_app.proofs.Saying.{sample_writes}
 use Rattle.rotor_app.specs.Table.{Seen, seen, Ending, unread, wanting, carried, unwritten, unput, Carried, whole, write_failed, put_failed, IsReplyTo, IsComplete}
 
 pub failed_rose : {T : Type 0} (before now : ℕ) (r : Result T TreeError) → HasCause before now r → r ≡ Err variant.Failed → Rose before now
@@ -58,4 +60,11 @@ completes_carried request content accepts reply status said h files e = inr (rep
 -- a reply without a folder writes nothing
 pub alone_writes : (request : Option Command) (reply : Reply) → SaysAlone request reply → reply.writes ≡ []
 unfolding SaysAlone
-alone_writes request reply e = ap (λ (r : Reply). r.writes) e
+alone_writes None reply e = ap (λ (r : Reply). r.writes) e
+alone_writes (Some command.Check) reply e = absurd e
+alone_writes (Some (command.Shape target)) reply e = absurd e
+alone_writes (Some (command.Rename target name write safe json)) reply e = absurd e
+alone_writes (Some (command.Sample units)) reply e = sample_writes units reply e
+alone_writes (Some (command.Verify old new)) reply e = absurd e
+alone_writes (Some (command.Batch file write)) reply e = absurd e
+alone_writes (Some command.Recover) reply e = absurd e

@@ -1,5 +1,5 @@
 -- The reply to a command is said, and has a status that a reply has.
-use Rattle.std.proofs.Common.{◌≡◌, ◌⊎◌, ℕ, List, [], ◌∷◌, ◌++◌, cond, Bool, true, false, Option, Some, None, Result, Ok, Err, IfSome, IfOk, IfErr, OnOk, ◌≢◌, refl, sym, ap, subst, ◌∙◌, inl, inr}
+use Rattle.std.proofs.Common.{◌≡◌, ◌&&◌, is_none, ◌⊎◌, ℕ, List, [], ◌∷◌, ◌++◌, cond, Bool, true, false, Option, Some, None, Result, Ok, Err, IfSome, IfOk, IfErr, OnOk, ◌≢◌, refl, sym, ap, subst, ◌∙◌, inl, inr}
 use Rattle.std.specs.List.{cons_option}
 use Rattle.std.specs.Option.{option_and_then}
 use Rattle.rotor_base.specs.Files.{FileSet, names_of}
@@ -20,10 +20,10 @@ use Rattle.cli_words.specs.declared.command.Command.TheVariants as command
 use Rattle.cli_words.specs.Words.{command_of}
 use Rattle.rename_files.specs.Answer.{Renames}
 use Rattle.rename_files.specs.Steps.{IsRefusedFor}
-use Rattle.rotor_app.specs.Words.{is_ready, if_ready, command_in}
+use Rattle.rotor_app.specs.Words.{is_ready, if_ready, command_in, sampled_units, asks_folder}
 use Rattle.rotor_app.specs.declared.status.Status.TheVariants.{Done, Refused, Usage, Project}
 use Rattle.rotor_app.specs.declared.reply.Reply.{Reply}
-use Rattle.rotor_app.specs.Said.{status_of_refusal, status_of, writes_of, reply_by, usage_reply, told, Answers, not_loaded, answered, SaysTo, Says, SaysAlone, AsksNothing, IsReply}
+use Rattle.rotor_app.specs.Said.{status_of_refusal, status_of, writes_of, reply_by, usage_reply, told, Answers, not_loaded, answered, SaysTo, IsSampled, SaysSample, Says, SaysAlone, AsksNothing, IsReply}
 
 -- ---- the status of a reply
 
@@ -151,16 +151,69 @@ unfolding Says
 usage_said request None reply e r = tt
 usage_said request (Some held) reply e r = subst (λ (q : Option Command). Says q held reply) (sym e) r
 
-pub usage_alone : (request : Option Command) (reply : Reply) → reply ≡ usage_reply → AsksNothing request → SaysAlone request reply
+pub usage_alone : (request : Option Command) (reply : Reply) → request ≡ None → reply ≡ usage_reply → SaysAlone request reply
 unfolding SaysAlone
-usage_alone request reply r a = r
+usage_alone request reply e r = subst (λ (q : Option Command). SaysAlone q reply) (sym e) r
 
-pub command_said : (request : Option Command) (c : Command) (content : Option FileMap) (result : Result Reply TreeError) → request ≡ Some c
-    → IfOk result (λ reply. IfSome content (λ held. SaysTo c held reply)) → IfOk result (λ reply. IfSome content (λ held. Says request held reply))
+-- a command over the files of the folder
+says_to : (c : Command) (held : FileMap) (reply : Reply) → asks_folder c ≡ true → SaysTo c held reply → Says (Some c) held reply
 unfolding Says
-command_said request c content (Err fault) e h = tt
-command_said request c None (Ok reply) e h = tt
-command_said request c (Some held) (Ok reply) e h = subst (λ (q : Option Command). Says q held reply) (sym e) h
+says_to command.Check held reply e h = h
+says_to (command.Shape target) held reply e h = h
+says_to (command.Rename target name write safe json) held reply e h = h
+says_to (command.Sample units) held reply e h = let no : false ≡ true = e in absurd cc
+says_to (command.Verify old new) held reply e h = let no : false ≡ true = e in absurd cc
+says_to (command.Batch file write) held reply e h = let no : false ≡ true = e in absurd cc
+says_to command.Recover held reply e h = let no : false ≡ true = e in absurd cc
+
+pub command_said : (request : Option Command) (c : Command) (content : Option FileMap) (result : Result Reply TreeError) → request ≡ Some c → asks_folder c ≡ true
+    → IfOk result (λ reply. IfSome content (λ held. SaysTo c held reply)) → IfOk result (λ reply. IfSome content (λ held. Says request held reply))
+command_said request c content (Err fault) e asks h = tt
+command_said request c None (Ok reply) e asks h = tt
+command_said request c (Some held) (Ok reply) e asks h = subst (λ (q : Option Command). Says q held reply) (sym e) (says_to c held reply asks h)
+
+-- `sample`
+sample_is : (c : Command) (units : ℕ) → sampled_units c ≡ Some units → c ≡ command.Sample units
+sample_is command.Check units e = absurd cc
+sample_is (command.Shape target) units e = absurd cc
+sample_is (command.Rename target name write safe json) units e = absurd cc
+sample_is (command.Sample n) units e = cc
+sample_is (command.Verify old new) units e = absurd cc
+sample_is (command.Batch file write) units e = absurd cc
+sample_is command.Recover units e = absurd cc
+
+pub sample_said : (request : Option Command) (c : Command) (units : ℕ) (content : Option FileMap) (reply : Reply) → request ≡ Some c → sampled_units c ≡ Some units → SaysSample units reply
+    → IfSome content (λ held. Says request held reply)
+unfolding Says
+sample_said request c units None reply e is h = tt
+sample_said request c units (Some held) reply e is h = subst (λ (q : Option Command). Says q held reply) (sym (e ∙ ap Some (sample_is c units is))) h
+
+pub sample_alone : (request : Option Command) (c : Command) (units : ℕ) (reply : Reply) → request ≡ Some c → sampled_units c ≡ Some units → SaysSample units reply → SaysAlone request reply
+unfolding SaysAlone
+sample_alone request c units reply e is h = subst (λ (q : Option Command). SaysAlone q reply) (sym (e ∙ ap Some (sample_is c units is))) h
+
+pub sample_kind : (units : ℕ) (reply : Reply) → SaysSample units reply → IsReply reply.status reply.writes
+sample_kind units reply (o, h, e) = reply_kind (command.Sample units) [] o reply e
+
+pub sample_usage : (units : ℕ) (reply : Reply) → SaysSample units reply → reply.status ≡ Usage → ⊥
+sample_usage units reply (o, (r, h, t), e) u =
+    told_usage outcome.Sampled r o (λ a v. let no : Done ≡ Usage = v in cc) t (sym (ap (λ (x : Reply). x.status) e) ∙ u)
+
+pub sample_writes : (units : ℕ) (reply : Reply) → SaysSample units reply → reply.writes ≡ []
+sample_writes units reply (o, h, e) = ap (λ (x : Reply). x.writes) e
+
+-- a reply that is made without a folder
+pub sample_made : (c : Command) (units : ℕ) (o : Outcome) (result : Result Reply Memory) → sampled_units c ≡ Some units → IsSampled units o
+    → IfOk result (λ reply. reply ≡ reply_by c [] o) → IfOk result (SaysSample units)
+sample_made c units o (Err e) is h r = tt
+sample_made c units o (Ok reply) is h r = (o, h, r ∙ ap (λ (k : Command). reply_by k [] o) (sample_is c units is))
+
+-- what the words ask for is a command over the folder's files
+pub asks_no_sample : (c : Command) → is_ready c ≡ true → sampled_units c ≡ None → asks_folder c ≡ true
+asks_no_sample c ready none = ap (λ (b : Bool). b && is_none (sampled_units c)) ready ∙ ap is_none none
+
+pub asks_something : (request : Option Command) (c : Command) → request ≡ Some c → sampled_units c ≡ None → AsksNothing request → ⊥
+asks_something request c e none asks = subst AsksNothing e asks none
 
 -- a reply that is made over loaded files
 pub over_made : (c : Command) (files : FileSet) (names : List (List ℕ)) (o : Outcome) (result : Result Reply Memory) → names ≡ names_of files.entries → Answers c files o

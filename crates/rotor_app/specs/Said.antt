@@ -1,5 +1,5 @@
 -- What the program answers to its words over the files of a folder, and what the folder holds after it.
-use Rattle.std.specs.Prelude.{ℕ, List, [], ◌≤◌, ◌≡◌, Bool, true, false, Option, Some, None, Result, Ok, Err, length}
+use Rattle.std.specs.Prelude.{ℕ, List, [], ◌≤◌, ◌≡◌, ◌≢◌, Bool, true, false, Option, Some, None, Result, Ok, Err, length}
 use Rattle.std.specs.List.{AllByRecursion}
 use Rattle.rotor_base.specs.Files.{FileSet, names_of}
 use Rattle.rotor_base.specs.declared.refusal.LoadError.{LoadError}
@@ -8,6 +8,7 @@ use Rattle.rotor_base.specs.declared.refusal.Refusal.TheVariants as refusal
 use Rattle.rotor_base.specs.declared.report.Counts.{Counts}
 use Rattle.rotor_base.specs.declared.report.FootReport.{FootReport}
 use Rattle.rotor_base.specs.declared.report.Renamed.{Renamed}
+use Rattle.rotor_base.specs.declared.report.SampleReport.{SampleReport}
 use Rattle.rotor_base.specs.declared.report.Outcome.{Outcome}
 use Rattle.rotor_base.specs.declared.report.Outcome.TheVariants as outcome
 use Rattle.rotor_base.specs.declared.source.SourceFile.{SourceFile}
@@ -19,10 +20,11 @@ use Rattle.report.specs.Json.{json_of}
 use Rattle.cli_words.specs.declared.command.Command.{Command}
 use Rattle.cli_words.specs.declared.command.Command.TheVariants as command
 use Rattle.rename_files.specs.Answer.{Checks, Shows, Renames}
+use Rattle.sample_project.specs.Sample.{Samples}
 use Rattle.rotor_app.specs.declared.status.Status.{Status}
 use Rattle.rotor_app.specs.declared.status.Status.TheVariants.{Done, Refused, Usage, Project, TreeFault, SinkFault, Memory}
 use Rattle.rotor_app.specs.declared.reply.Reply.{Reply}
-use Rattle.rotor_app.specs.Words.{puts_json, is_writing}
+use Rattle.rotor_app.specs.Words.{puts_json, is_writing, sampled_units}
 
 -- ---- the reply to an outcome
 
@@ -107,18 +109,40 @@ pub data IsAnswer (held : FileMap) (c : Command) : List (List ℕ) → Outcome �
 abbrev pub SaysTo : Command → FileMap → Reply → Type 0
 SaysTo c held reply = (names : List (List ℕ)) × (o : Outcome) × IsAnswer held c names o × (reply ≡ reply_by c names o)
 
+-- the outcome of `sample`
+abbrev pub IsSampled : ℕ → Outcome → Type 0
+IsSampled units o = (r : Result SampleReport Refusal) × Samples units r × (o ≡ told outcome.Sampled r)
+
+-- a reply to `sample`, which hangs on the number of units alone
+abbrev pub SaysSample : ℕ → Reply → Type 0
+SaysSample units reply = (o : Outcome) × IsSampled units o × (reply ≡ reply_by (command.Sample units) [] o)
+
 -- what is said to what the words ask for, over the files of a folder
 unfoldable pub Says : Option Command → FileMap → Reply → Type 0
 Says None held reply = reply ≡ usage_reply
-Says (Some c) held reply = SaysTo c held reply
+Says (Some command.Check) held reply = SaysTo command.Check held reply
+Says (Some (command.Shape target)) held reply = SaysTo (command.Shape target) held reply
+Says (Some (command.Rename target name write safe json)) held reply = SaysTo (command.Rename target name write safe json) held reply
+Says (Some (command.Sample units)) held reply = SaysSample units reply
+Says (Some (command.Verify old new)) held reply = ⊥
+Says (Some (command.Batch file write)) held reply = ⊥
+Says (Some command.Recover) held reply = ⊥
 
 -- what the words ask for asks nothing of the folder
 abbrev pub AsksNothing : Option Command → Type 0
-AsksNothing request = request ≡ None
+AsksNothing None = Unit {0}
+AsksNothing (Some c) = sampled_units c ≢ None
 
 -- what is said to it, without a folder
 unfoldable pub SaysAlone : Option Command → Reply → Type 0
-SaysAlone request reply = reply ≡ usage_reply
+SaysAlone None reply = reply ≡ usage_reply
+SaysAlone (Some command.Check) reply = ⊥
+SaysAlone (Some (command.Shape target)) reply = ⊥
+SaysAlone (Some (command.Rename target name write safe json)) reply = ⊥
+SaysAlone (Some (command.Sample units)) reply = SaysSample units reply
+SaysAlone (Some (command.Verify old new)) reply = ⊥
+SaysAlone (Some (command.Batch file write)) reply = ⊥
+SaysAlone (Some command.Recover) reply = ⊥
 
 -- there is a reply that is said here, and it is so
 abbrev pub SomeReply : Option Command → FileMap → (Reply → Type 0) → Type 0

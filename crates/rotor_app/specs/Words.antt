@@ -1,5 +1,5 @@
 -- The commands that the program has, and what the words ask for.
-use Rattle.std.specs.Prelude.{ℕ, List, Bool, true, false, not, Option, Some, None, option_and_then, if◌then◌else◌}
+use Rattle.std.specs.Prelude.{ℕ, List, Bool, true, false, not, ◌&&◌, Option, Some, None, is_none, option_and_then, if◌then◌else◌}
 use Rattle.cli_words.specs.declared.command.Command.{Command}
 use Rattle.cli_words.specs.declared.command.Command.TheVariants as command
 use Rattle.cli_words.specs.Words.{command_of}
@@ -9,10 +9,24 @@ abbrev pub is_ready : Command → Bool
 is_ready command.Check = true
 is_ready (command.Shape target) = true
 is_ready (command.Rename target name write safe json) = not safe
-is_ready (command.Sample units) = false
+is_ready (command.Sample units) = true
 is_ready (command.Verify old new) = false
 is_ready (command.Batch file write) = false
 is_ready command.Recover = false
+
+-- the number of units of `sample`, which asks nothing of the folder
+abbrev pub sampled_units : Command → Option ℕ
+sampled_units command.Check = None
+sampled_units (command.Shape target) = None
+sampled_units (command.Rename target name write safe json) = None
+sampled_units (command.Sample units) = Some units
+sampled_units (command.Verify old new) = None
+sampled_units (command.Batch file write) = None
+sampled_units command.Recover = None
+
+-- the commands over the files of the folder
+abbrev pub asks_folder : Command → Bool
+asks_folder c = is_ready c && is_none (sampled_units c)
 
 abbrev pub if_ready : Command → Option Command
 if_ready c = if is_ready c then Some c else None

@@ -1,9 +1,9 @@
 //! The outcome of a command over the files of a project, and the reply to it.
-ghost use Rattle.std.specs.Prelude.{◌≡◌, ◌≢◌, ◌++◌, [], true, IfOk, OnOk, map, slice_get, string_bytes};
+ghost use Rattle.std.specs.Prelude.{◌≡◌, ◌≢◌, ◌++◌, [], true, Some, IfOk, OnOk, map, slice_get, string_bytes};
 ghost use Rattle.std.specs.List.{cons_option};
 ghost use Rattle.rotor_base.specs.Files.{names_of};
-ghost use Rattle.rotor_app.specs.Words.{is_ready};
-ghost use Rattle.rotor_app.specs.Said.{Answers, reply_by, writes_of, outcome_text, usage_reply};
+ghost use Rattle.rotor_app.specs.Words.{asks_folder, sampled_units};
+ghost use Rattle.rotor_app.specs.Said.{Answers, IsSampled, SaysSample, reply_by, writes_of, outcome_text, usage_reply};
 ghost use Rattle.project_load.specs.Rewritten.{files_at};
 
 use crate::reply::Reply;
@@ -13,11 +13,12 @@ use cli_words::Command;
 use rename_files::{check, foot, rename};
 use report::{json, text};
 use rotor_base::{Files, Memory, Outcome, Refusal, Row, SourceFile, Text};
+use sample_project::sample;
 use std::alloc::Global;
 
 /// The outcome of a command over the files of a project.
 pub fn outcome_of(alloc: Global, command: &Command, files: &Files) -> Result<Outcome, Memory>
-    requires { is_ready command.now ≡ true }
+    requires { asks_folder command.now ≡ true }
     ensures { IfOk result (λ o. Answers command.now files.now o) }
 {
     match command {
@@ -38,6 +39,25 @@ pub fn outcome_of(alloc: Global, command: &Command, files: &Files) -> Result<Out
         Command::Sample(_) | Command::Verify { .. } | Command::Batch { .. } | Command::Recover => {
             Ok(Outcome::BadWords)
         }
+    }
+}
+
+/// The reply to `sample`, over so many units.
+pub fn sample_reply(alloc: Global, command: &Command, units: u32) -> Result<Reply, Memory>
+    requires { sampled_units command.now ≡ Some units }
+    ensures { IfOk result (SaysSample units) }
+{
+    let outcome = sample_outcome(alloc, units)?;
+    reply_by(alloc, command, &[], &outcome)
+}
+
+/// The outcome of `sample`.
+fn sample_outcome(alloc: Global, units: u32) -> Result<Outcome, Memory>
+    ensures { IfOk result (IsSampled units) }
+{
+    match sample(alloc, units) {
+        Ok(sampled) => Ok(Outcome::Sampled(sampled)),
+        Err(refusal) => refused(refusal),
     }
 }
 

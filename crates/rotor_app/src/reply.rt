@@ -3,12 +3,12 @@ ghost use Rattle.std.specs.Prelude.{◌≡◌, ◌<◌, ◌≤◌, ◌^◌, ◌�
 ghost use Rattle.tree_io.specs.Outside.{HasCause, StaysSteady};
 ghost use Rattle.rotor_base.specs.Files.{names_of};
 ghost use Rattle.project_load.specs.Load.{IsOutside};
-ghost use Rattle.rotor_app.specs.Words.{command_in, is_ready};
+ghost use Rattle.rotor_app.specs.Words.{asks_folder, command_in};
 ghost use Rattle.rotor_app.specs.Said.{Answers, reply_by, SaysTo, HasRoom, IsReply, Says, SaysAlone, AsksNothing};
 
-use crate::outcome::{outcome_of, reply_by, source_names, usage};
+use crate::outcome::{outcome_of, reply_by, sample_reply, source_names, usage};
 use crate::status::Status;
-use crate::words::command_in;
+use crate::words::{command_in, sampled_units};
 use cli_words::Command;
 use project_load::load;
 use rotor_base::{Files, LoadError, Memory, Outcome, Row, SourceFile};
@@ -25,7 +25,7 @@ pub struct Reply {
 }
 
 /// The answer to the words. The call takes all memory, the folder's room for each changed file too. For words of no
-/// form it does not call the folder.
+/// form and for `sample` it does not call the folder.
 pub fn decide<T: Tree>(alloc: Global, words: &[String], tree: &mut T) -> Result<Reply, TreeError>
     ensures kind { IfOk result (λ reply. IsReply reply.status reply.writes) }
     ensures said { IfOk result (λ reply. IfSome (T.content tree.old) (λ files. Says (command_in (map string_bytes words.now)) files reply)) }
@@ -40,7 +40,10 @@ pub fn decide<T: Tree>(alloc: Global, words: &[String], tree: &mut T) -> Result<
 {
     match command_in(alloc, words)? {
         None => Ok(usage(alloc)?),
-        Some(command) => decide_command(alloc, &command, tree),
+        Some(command) => match sampled_units(&command) {
+            Some(units) => Ok(sample_reply(alloc, &command, units)?),
+            None => decide_command(alloc, &command, tree),
+        },
     }
 }
 
@@ -50,7 +53,7 @@ fn decide_command<T: Tree>(
     command: &Command,
     tree: &mut T,
 ) -> Result<Reply, TreeError>
-    requires { is_ready command.now ≡ true }
+    requires { asks_folder command.now ≡ true }
     ensures kind { IfOk result (λ reply. IsReply reply.status reply.writes) }
     ensures no_usage { IfOk result (λ reply. reply.status ≡ Status.Usage → ⊥) }
     ensures said { IfOk result (λ reply. IfSome (T.content tree.old) (λ files. SaysTo command.now files reply)) }
@@ -66,7 +69,7 @@ fn decide_command<T: Tree>(
 
 /// The reply to a command, from the files that the folder loads as.
 fn loaded_reply<T: Tree>(alloc: Global, command: &Command, tree: &mut T) -> Result<Reply, TreeError>
-    requires { is_ready command.now ≡ true }
+    requires { asks_folder command.now ≡ true }
     ensures kind { IfOk result (λ reply. IsReply reply.status reply.writes) }
     ensures no_usage { IfOk result (λ reply. reply.status ≡ Status.Usage → ⊥) }
     ensures said { IfOk result (λ reply. IfSome (T.content tree.old) (λ files. SaysTo command.now files reply)) }
@@ -82,7 +85,7 @@ fn loaded_reply<T: Tree>(alloc: Global, command: &Command, tree: &mut T) -> Resu
 
 /// The reply to a command over the files of a project.
 fn reply_over(alloc: Global, command: &Command, files: &Files) -> Result<Reply, Memory>
-    requires { is_ready command.now ≡ true }
+    requires { asks_folder command.now ≡ true }
     ensures { IfOk result (λ reply. (o : Outcome) × Answers command.now files.now o × (reply ≡ reply_by command.now (names_of files.now.entries) o)) }
 {
     let outcome = outcome_of(alloc, command, files)?;

@@ -1,6 +1,6 @@
 //! What the words of the command line ask for.
 ghost use Rattle.std.specs.Prelude.{◌≡◌, IfOk, map, string_bytes};
-ghost use Rattle.rotor_app.specs.Words.{command_in, is_ready, is_writing, puts_json};
+ghost use Rattle.rotor_app.specs.Words.{command_in, is_ready, is_writing, puts_json, sampled_units};
 
 use cli_words::{Command, WordsError, read_words};
 use rotor_base::Memory;
@@ -22,11 +22,24 @@ fn is_ready(command: &Command) -> bool
     ensures { result ≡ is_ready command.now }
 {
     match command {
-        Command::Check | Command::Shape(_) => true,
+        Command::Check | Command::Shape(_) | Command::Sample(_) => true,
         Command::Rename { safe, .. } => !*safe,
-        Command::Sample(_) | Command::Verify { .. } | Command::Batch { .. } | Command::Recover => {
-            false
-        }
+        Command::Verify { .. } | Command::Batch { .. } | Command::Recover => false,
+    }
+}
+
+/// The number of units of `sample`, which asks nothing of the folder.
+pub fn sampled_units(command: &Command) -> Option<u32>
+    ensures { result ≡ sampled_units command.now }
+{
+    match command {
+        Command::Sample(units) => Some(*units),
+        Command::Check
+        | Command::Shape(_)
+        | Command::Rename { .. }
+        | Command::Verify { .. }
+        | Command::Batch { .. }
+        | Command::Recover => None,
     }
 }
 

@@ -6,7 +6,7 @@ use std::test::Fail;
 use tree_io::MemSink;
 
 const LINE: &[u8] =
-    b"usage: rotor check | footprint TARGET | rename TARGET NAME [--write] [--json]\n";
+    b"usage: rotor check | footprint TARGET | rename TARGET NAME [--write] [--json] | sample N\n";
 
 #[test]
 fn words_of_no_form(rt: HostRuntime) -> Result<(), Fail> {
@@ -17,7 +17,7 @@ fn words_of_no_form(rt: HostRuntime) -> Result<(), Fail> {
         &["rename", "A.x"],
         &["check", "A.x"],
         &["footprint"],
-        &["sample", "5"],
+        &["sample", "501"],
         &["verify", "old", "new"],
         &["batch", "steps"],
         &["recover"],

@@ -296,7 +296,8 @@ fn other_reports(rt: HostRuntime) -> Result<(), Fail> {
         let line = format!(in alloc; "{line}\n")?;
         assert!(rt; holds(alloc, &Outcome::Sampled(sampled), &line, &object)?);
     }
-    let usage = "usage: rotor check | footprint TARGET | rename TARGET NAME [--write] [--json]";
+    let usage =
+        "usage: rotor check | footprint TARGET | rename TARGET NAME [--write] [--json] | sample N";
     let line = format!(in alloc; "{usage}\n")?;
     let object = format!(in alloc; "{{\"lines\":[\"{usage}\"]}}\n")?;
     assert!(rt; holds(alloc, &Outcome::BadWords, &line, &object)?);

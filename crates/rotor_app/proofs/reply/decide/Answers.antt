@@ -1,21 +1,42 @@
 use Rattle.std.proofs.Common.{◌∙◌, sym, map, string_bytes}
 use Rattle.rotor_app.specs.Words.{command_in}
-use Rattle.rotor_app.proofs.Saying.{ready, usage_said, usage_alone, command_said}
+use Rattle.rotor_app.proofs.Saying.{ready, usage_said, usage_alone, command_said, sample_said, sample_alone, asks_no_sample}
 use Rattle.rotor_app.proofs.reply.decide.Goals as goal
 
-pub decide_command-requires : goal.decide_command-requires
-decide_command-requires g c = ready (map string_bytes c.args.words.now) c.in-Some.command (sym c.in_ok-command_in.ensures ∙ c.in-Some.is)
+-- words of no form
 
-pub returns-in_ok-usage-in-None-clause-said : goal.returns-in_ok-usage-in-None-clause-said
-returns-in_ok-usage-in-None-clause-said g c =
+pub returns-in-None-clause-said : goal.returns-in-None-clause-said
+returns-in-None-clause-said g c =
     usage_said (command_in (map string_bytes c.args.words.now)) (g.T.Tree.content c.args.tree.now) c.in_ok-usage-in-None.field-0
     (sym c.in_ok-command_in.ensures ∙ c.in-None.is) c.in_ok-usage-in-None.ensures
 
-pub returns-in_ok-usage-in-None-clause-told_alone : goal.returns-in_ok-usage-in-None-clause-told_alone
-returns-in_ok-usage-in-None-clause-told_alone g c =
-    usage_alone (command_in (map string_bytes c.args.words.now)) c.in_ok-usage-in-None.field-0 c.in_ok-usage-in-None.ensures
+pub returns-in-None-clause-told_alone : goal.returns-in-None-clause-told_alone
+returns-in-None-clause-told_alone g c = λ asks.
+    usage_alone (command_in (map string_bytes c.args.words.now)) c.in_ok-usage-in-None.field-0 (sym c.in_ok-command_in.ensures ∙ c.in-None.is) c.in_ok-usage-in-None.ensures
 
-pub returns-in-Some-clause-said : goal.returns-in-Some-clause-said
-returns-in-Some-clause-said g c =
-    command_said (command_in (map string_bytes c.args.words.now)) c.in-Some.command (g.T.Tree.content c.args.tree.now) c.decide_command.result
-    (sym c.in_ok-command_in.ensures ∙ c.in-Some.is) c.decide_command.ensures.said
+-- `sample`
+
+pub returns-in-Some-sampled_units-clause-said : goal.returns-in-Some-sampled_units-clause-said
+returns-in-Some-sampled_units-clause-said g c =
+    sample_said (command_in (map string_bytes c.args.words.now)) c.in-Some.command c.in-Some-sampled_units.units (g.T.Tree.content c.args.tree.now)
+    c.in_ok-sample_reply-in-Some-sampled_units.field-0 (sym c.in_ok-command_in.ensures ∙ c.in-Some.is) (sym c.sampled_units.ensures ∙ c.in-Some-sampled_units.is)
+    c.in_ok-sample_reply-in-Some-sampled_units.ensures
+
+pub returns-in-Some-sampled_units-clause-told_alone : goal.returns-in-Some-sampled_units-clause-told_alone
+returns-in-Some-sampled_units-clause-told_alone g c = λ asks.
+    sample_alone (command_in (map string_bytes c.args.words.now)) c.in-Some.command c.in-Some-sampled_units.units c.in_ok-sample_reply-in-Some-sampled_units.field-0
+    (sym c.in_ok-command_in.ensures ∙ c.in-Some.is) (sym c.sampled_units.ensures ∙ c.in-Some-sampled_units.is) c.in_ok-sample_reply-in-Some-sampled_units.ensures
+
+-- a command over the folder's files
+
+pub decide_command-requires : goal.decide_command-requires
+decide_command-requires g c =
+    asks_no_sample c.in-Some.command (ready (map string_bytes c.args.words.now) c.in-Some.command (sym c.in_ok-command_in.ensures ∙ c.in-Some.is))
+    (sym c.sampled_units.ensures ∙ c.in-None-sampled_units.is)
+
+pub returns-clause-said : goal.returns-clause-said
+returns-clause-said g c =
+    let request = sym c.in_ok-command_in.ensures ∙ c.in-Some.is in
+    command_said (command_in (map string_bytes c.args.words.now)) c.in-Some.command (g.T.Tree.content c.args.tree.now) c.decide_command.result request
+    (asks_no_sample c.in-Some.command (ready (map string_bytes c.args.words.now) c.in-Some.command request) (sym c.sampled_units.ensures ∙ c.in-None-sampled_units.is))
+    c.decide_command.ensures.said

@@ -1,0 +1,3 @@
+pub mod Adding
+pub mod Back
+pub mod Taken
