@@ -147,13 +147,13 @@ const FAULTS: [Fault; 13] = [
     },
     Fault {
         target: "A.x",
-        flag: "--json",
+        flag: "--jsons",
         calls: &[1],
         puts: &[1],
         room: 68,
         status: Status::SinkFault,
         after: ONE_LINE,
-        text: "usage: rotor rename ",
+        text: "usage: rotor check | footprint TARGET | rena",
     },
 ];
 
