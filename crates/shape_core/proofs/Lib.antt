@@ -10,3 +10,4 @@ pub mod Matches
 pub mod Spelled
 pub mod Retold
 pub mod Rows
+pub mod Sizes

@@ -22,7 +22,6 @@ pub struct Spot {
 }
 
 /// What a list tells by name, and its Dark entries.
-#[derive(Drop)]
 pub struct Tables {
     pub vals: Names<Spot>,
     pub mods: Names<usize>,
@@ -38,11 +37,31 @@ pub struct Before {
 }
 
 /// The tables of a list, with what each of its entries changed in them, and the positions of its values.
-#[derive(Drop)]
 pub struct Index {
     pub tables: Tables,
     pub befores: Vec<Before>,
     pub values: Vec<usize>,
+}
+
+impl Drop for Tables {
+    fn drop(self) {
+        let Tables {
+            vals: _,
+            mods: _,
+            mtys: _,
+            darks: _,
+        } = self;
+    }
+}
+
+impl Drop for Index {
+    fn drop(self) {
+        let Index {
+            tables: _,
+            befores: _,
+            values: _,
+        } = self;
+    }
 }
 
 impl Tables {

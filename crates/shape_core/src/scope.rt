@@ -12,11 +12,20 @@ use std::marker::Model;
 
 /// A scope, with its entries indexed by name. Contracts see it as the list of its entries. A look-up costs a hash,
 /// also behind many pushes and cuts.
-#[derive(Drop)]
 pub struct Scope {
     alloc: Global,
     entries: Vec<SharedEntry>,
     index: Index,
+}
+
+impl Drop for Scope {
+    fn drop(self) {
+        let Scope {
+            alloc: _,
+            entries: _,
+            index: _,
+        } = self;
+    }
 }
 
 impl Model for Scope {
