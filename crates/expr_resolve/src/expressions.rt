@@ -19,10 +19,11 @@ ghost use Rattle.expr_resolve.specs.Branches.{branches_steps};
 use binding_model::Found;
 use ml_syntax::{
     Argument, Binding, Branch, Case, Expr, Field, LocalModule, Param, Part, Pat, Variable, Word,
+    label_of,
 };
 use resolve_base::{
-    go_on_with, group, label_of, opening, start_of, use_label, use_minus, use_name_in,
-    use_operator, use_word, weighed_site,
+    go_on_with, group, opening, start_of, use_label, use_minus, use_name_in, use_operator,
+    use_word, weighed_site,
 };
 use resolve_parts::{
     let_values, local_module, module_entry, pattern, pattern_group, value_group, variable_group,

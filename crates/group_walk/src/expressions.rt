@@ -12,8 +12,7 @@ use crate::leaves::{
     let_variables, loop_variable, one_name, pattern_groups, pattern_variables, whole_pattern,
 };
 use binding_model::Found;
-use ml_syntax::{Argument, Binding, Branch, Case, Expr, Field, Param, Part, Word};
-use resolve_base::label_of;
+use ml_syntax::{Argument, Binding, Branch, Case, Expr, Field, Param, Part, Word, label_of};
 use rotor_base::Memory;
 use std::alloc::Global;
 

@@ -1,6 +1,6 @@
 -- The places of values in a tree: its binders and its references, in the order of its words (the OCaml manual,
 -- "Names", "Patterns" and "Expressions"). Each definition gives the places found before, and then the tree's.
-use Rattle.std.specs.Prelude.{ℕ, ◌-◌, take, drop, length, List, [], ◌∷◌, ◌++◌, Bool, true, false, if◌then◌else◌, codes, not}
+use Rattle.std.specs.Prelude.{ℕ, ◌-◌, take, drop, length, List, [], ◌∷◌, ◌++◌, Bool, true, false, if◌then◌else◌, codes, not, Option, Some, None}
 use Rattle.std.specs.List.{filter}
 use Rattle.ml_syntax.specs.declared.fixed.Fixed.TheVariants as key
 use Rattle.ml_syntax.specs.declared.place.Mark.{Mark}
@@ -35,6 +35,11 @@ abbrev pub operator_sites : List Site → Bool → Tok → List Site
 operator_sites found binds (placed key.Equals at) = found ++ operated binds at (codes "=") ∷ []
 operator_sites found binds (word c x) = found ++ operated binds x.at x.text ∷ []
 operator_sites found binds _ = found
+
+-- the place of an operator, where a word is one
+abbrev pub operated_at : Bool → ℕ → Option (List ℕ) → List Site
+operated_at binds at None = []
+operated_at binds at (Some x) = operated binds at x ∷ []
 
 abbrev pub name_sites : List Site → Bool → ValueName → List Site
 name_sites found binds (PlainName x) = found ++ plain binds x ∷ []

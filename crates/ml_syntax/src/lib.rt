@@ -11,6 +11,7 @@ mod pattern;
 mod pattern_places;
 mod place;
 mod sites;
+mod value_words;
 mod word;
 
 pub use expression::{
@@ -28,4 +29,5 @@ pub use module::{
 };
 pub use pattern::{Pat, PatField};
 pub use place::{Mark, binders, puns, value_refs};
+pub use value_words::{label_of, operator_of};
 pub use word::{Bracket, Path, Run, ValueName, Word};

@@ -2,16 +2,15 @@
 
 ghost use Rattle.std.specs.Prelude.{◌≡◌, ◌++◌, ◌∷◌, [], OnOk};
 ghost use Rattle.ml_syntax.specs.View.{view_word, view_tok, view_name};
-ghost use Rattle.ml_syntax.specs.Places.{plain, punned, operated, operator_sites, name_sites, label_name, without_colon, label_site, variable_sites};
+ghost use Rattle.ml_syntax.specs.Places.{plain, punned, operated, operator_sites, name_sites, label_site, variable_sites};
 ghost use Rattle.ml_syntax.specs.View.{view_variable};
 ghost use Rattle.ml_syntax.specs.Sites.{view_sites};
-ghost use Rattle.ml_syntax.specs.Tok.{tok_or, fixed_of, word as word_tok};
 
 use crate::expression::Variable;
-use crate::fixed::{Fixed, fixed_word};
 use crate::place::Mark;
+use crate::value_words::{label_of, operator_of};
 use crate::word::{ValueName, Word};
-use rotor_base::{Class, Memory, Name};
+use rotor_base::{Memory, Name};
 use std::alloc::Global;
 
 /// A place, and whether it is a binder.
@@ -83,26 +82,6 @@ pub fn add_operator(
     Ok(())
 }
 
-/// The word of a label: what stands between the `~` or `?` and the colon.
-fn word_of_label(label: &[u8]) -> &[u8]
-    ensures { result.now ≡ label_name label.now }
-{
-    match label {
-        [] => label,
-        [_, rest @ ..] => before_colon(rest),
-    }
-}
-
-/// A text without the colon at its end.
-fn before_colon(text: &[u8]) -> &[u8]
-    ensures { result.now ≡ without_colon text.now }
-{
-    match text.split_last() {
-        None => text,
-        Some((last, front)) => { if *last == b':' { front } else { text } }
-    }
-}
-
 /// Adds the place of a label without a colon.
 pub fn add_label(
     alloc: Global,
@@ -117,7 +96,7 @@ pub fn add_label(
         found,
         binds,
         word.token,
-        word_of_label(word.name.as_bytes()),
+        label_of(word.name.as_bytes()),
     )
 }
 
@@ -130,26 +109,9 @@ pub fn add_operator_word(
 ) -> Result<(), Memory>
     ensures { OnOk result (view_sites found.new.items ≡ operator_sites (view_sites found.old.items) binds (view_tok word.now)) }
 {
-    match word.class {
-        Class::Keyword => add_unless_fixed(alloc, found, binds, word),
-        Class::Mark => add_unless_fixed(alloc, found, binds, word),
-        _ => add_operator(alloc, found, binds, word.token, word.name.as_bytes()),
-    }
-}
-
-/// Adds the place of a keyword or mark that is an operator.
-fn add_unless_fixed(
-    alloc: Global,
-    found: &mut Vec<Site>,
-    binds: bool,
-    word: &Word,
-) -> Result<(), Memory>
-    ensures { OnOk result (view_sites found.new.items ≡ operator_sites (view_sites found.old.items) binds (tok_or (word_tok word.now.class (view_word word.now)) word.now.token (fixed_of word.now.name))) }
-{
-    match fixed_word(word.name.as_bytes()) {
-        None => add_operator(alloc, found, binds, word.token, word.name.as_bytes()),
-        Some(Fixed::Equals) => add_operator(alloc, found, binds, word.token, b"="),
-        Some(_) => Ok(()),
+    match operator_of(word) {
+        Some(name) => add_operator(alloc, found, binds, word.token, name),
+        None => Ok(()),
     }
 }
 

@@ -1,19 +1,18 @@
 -- What look-ups add to a recorder is what their steps add.
-use Rattle.std.proofs.Common.{◌≡◌, ℕ, zero, suc, ◌+◌, List, [], ◌∷◌, ◌++◌, length, map, Option, Some, None, refl, sym, ap, ◌∙◌, append_assoc, append-nil, arith}
+use Rattle.std.proofs.Common.{◌≡◌, ℕ, suc, ◌+◌, List, [], ◌∷◌, ◌++◌, length, map, Option, Some, None, refl, sym, ap, ◌∙◌, append-nil, arith}
 use Rattle.rotor_base.specs.declared.place.Place.{Place}
 use Rattle.rotor_base.specs.declared.looks.Watch.{Watch}
 use Rattle.rotor_base.specs.declared.looks.RefLook.{RefLook}
 use Rattle.rotor_base.specs.declared.looks.LinkLook.{LinkLook}
 use Rattle.rotor_base.specs.declared.looks.Looks.{Looks}
-use Rattle.shape_core.specs.Shape.{Name, Shape, Struct, Functor, Unitary, Opaque, Entries, none, a_val, a_mod, a_mty, a_dark, value_at, value_in}
-use Rattle.shape_core.specs.Links.{◌&◌, pin, matched}
+use Rattle.shape_core.specs.Shape.{Name, Shape, Struct, Functor, Unitary, Opaque, Entries, value_at, value_in}
+use Rattle.shape_core.specs.Links.{pin, matched}
 use Rattle.shape_core.specs.Looks.{look, numbered, match_looks, pin_looks}
 use Rattle.binding_model.specs.declared.found.Recorder.{Recorder}
-use Rattle.binding_model.specs.declared.found.Found.{Found}
-use Rattle.binding_model.specs.Steps.{UseAlone, UseUnder, MatchOf, PinOf, TieOf, tied, trace}
+use Rattle.binding_model.specs.Steps.{UseAlone, UseUnder, MatchOf, PinOf}
 use Rattle.binding_model.specs.Looks.{ref_look}
 use Rattle.binding_model.specs.Taken.{more_looks, recorded}
-use Rattle.binding_model.proofs.Takings.{looks_alike, numbered-append}
+use Rattle.binding_model.proofs.Takings.{looks_alike}
 use Rattle.resolve_base.specs.Recorded.{use_recorded, moved, joined_looks}
 
 -- references

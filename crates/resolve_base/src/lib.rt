@@ -7,7 +7,6 @@ mod linked;
 mod paths;
 mod recording;
 mod scopes;
-mod sites;
 mod uses;
 
 pub use binders::{bind, bind_name, bind_variable, variables};
@@ -17,5 +16,4 @@ pub use found::{
 pub use linked::{matched, pinned, tied};
 pub use paths::{opening, path_in, start_of};
 pub use scopes::go_on_with;
-pub use sites::{label_of, operator_of};
 pub use uses::{use_label, use_minus, use_name, use_name_in, use_operator, use_word};
