@@ -1,0 +1,10 @@
+//! What the files of a project are read as and resolved to: its survey.
+#![tactic(auto)]
+
+mod answer;
+mod binders;
+mod calls;
+mod resolving;
+
+pub use answer::{Binder, Survey};
+pub use calls::survey;
