@@ -18,11 +18,11 @@ failed_rose before now r h e = h.failed e
 pub memory_same : {T : Type 0} (before now : ℕ) (r : Result T TreeError) → HasCause before now r → r ≡ Err variant.Memory → now ≡ before
 memory_same before now r h e = h.memory e
 
-told : (content : Option FileMap) (P : FileMap → Type 0) → IfSome content P → (files : FileMap) → content ≡ Some files → P files
-told None P h files e = absurd (no e) where
+at_content : (content : Option FileMap) (P : FileMap → Type 0) → IfSome content P → (files : FileMap) → content ≡ Some files → P files
+at_content None P h files e = absurd (no e) where
   no : ◌≡◌ {A = Option FileMap} None (Some files) → ⊥
   no e = cc
-told (Some held) P h files e = subst P (one e) h where
+at_content (Some held) P h files e = subst P (one e) h where
   one : ◌≡◌ {A = Option FileMap} (Some held) (Some files) → held ≡ files
   one e = cc
 
@@ -41,7 +41,7 @@ module _ (request : Option Command) (f0 f1 s : ℕ) (c0 c1 : Option FileMap) (t 
       → Carried reply (seen f1 s c1 t) now sink_same status → Ending request (seen f0 s c0 t) now tree_same sink_same status
   ends_carried now reply status alone kind said by_itself usage ef ec h =
       let same : seen f1 s c1 t ≡ seen f0 s c0 t = ap (λ (f : ℕ). seen f s c1 t) ef ∙ ap (λ (c : Option FileMap). seen f0 s c t) ec in
-      let to : IsReplyTo request (seen f0 s c0 t) reply = record { kind = kind; said = told c0 (λ files. Says request files reply) said; alone = by_itself; usage = usage } in
+      let to : IsReplyTo request (seen f0 s c0 t) reply = record { kind = kind; said = at_content c0 (λ files. Says request files reply) said; alone = by_itself; usage = usage } in
       carried_by to (subst (λ (m : Seen). Carried reply m now sink_same status) same h)
     where
       carried_by : IsReplyTo request (seen f0 s c0 t) reply → Carried reply (seen f0 s c0 t) now sink_same status → Ending request (seen f0 s c0 t) now tree_same sink_same status
@@ -55,7 +55,7 @@ completes_wanting request content accepts files e = inl refl
 
 pub completes_carried : (request : Option Command) (content : Option FileMap) (accepts : ℕ → Type 0) (reply : Reply) (status : Status) → IfSome content (λ files. Says request files reply)
     → (accepts (length reply.text) → status ≡ reply.status) → (files : FileMap) → content ≡ Some files → IsComplete request files accepts status
-completes_carried request content accepts reply status said h files e = inr (reply, told content (λ files. Says request files reply) said files e, h)
+completes_carried request content accepts reply status said h files e = inr (reply, at_content content (λ files. Says request files reply) said files e, h)
 
 -- a reply without a folder writes nothing
 pub alone_writes : (request : Option Command) (reply : Reply) → SaysAlone request reply → reply.writes ≡ []

@@ -1,7 +1,7 @@
 -- The table of answers, from how a call ends.
 use Rattle.std.proofs.Common.{◌≡◌, ℕ, ◌<◌, ◌⊎◌, inl, inr, List, [], ◌∷◌, ◌++◌, Option, Some, None, option_map, refl, sym, ap, subst, ◌∙◌, arith}
 use Rattle.rotor_base.specs.declared.source.SourceFile.{SourceFile}
-use Rattle.tree_io.specs.Outside.{FileMap, Rose}
+use Rattle.tree_io.specs.Outside.{FileMap, Rose, Takes}
 use Rattle.cli_words.specs.declared.command.Command.{Command}
 use Rattle.rotor_app.specs.declared.status.Status.{Status}
 use Rattle.rotor_app.specs.declared.status.Status.TheVariants.{Done, Refused, Usage, Project, TreeFault, SinkFault, Memory}
@@ -14,12 +14,17 @@ module _ (request : Option Command) (before now : Seen) (tree_same sink_same : T
   written_said : (writes : List SourceFile) (files : FileMap) → Written writes before.content now.content → before.content ≡ Some files → now.content ≡ Some (after writes files)
   written_said writes files w e = w ∙ ap (option_map (after writes)) e
 
+  -- the status, the files and the text are those of the reply that was carried out
+  as_said : (reply : Reply) (files : FileMap) → status ≡ reply.status → Written reply.writes before.content now.content → Takes reply.text before.taken now.taken → before.content ≡ Some files
+      → IsAsSaid reply files before now status
+  as_said reply files s w t e = record { status = s; files = written_said reply.writes files w e; text = t }
+
   -- what is said, where nothing rose and memory was there
   pub answers : Ending request before now tree_same sink_same status → (files : FileMap) → before.content ≡ Some files → IsQuiet before now → (status ≡ Memory → ⊥)
       → SomeReply request files (λ reply. IsAsSaid reply files before now status)
   answers (unread asks s later rose content same rests) files e quiet memory = absurd (quiet.tree rose)
   answers (wanting alone s rests same sink) files e quiet memory = absurd (memory s)
-  answers (carried alone reply to s f w took) files e quiet memory = (reply, to.said files e, record { status = s; files = written_said reply.writes files w e; text = took.taken })
+  answers (carried alone reply to s f w took) files e quiet memory = (reply, to.said files e, as_said reply files s w took.taken e)
   answers (unwritten reply to s later rose stopped same rests) files e quiet memory = absurd (quiet.tree rose)
   answers (unput alone reply to s f w failed) files e quiet memory = absurd (quiet.sink failed.rose)
 
@@ -32,7 +37,7 @@ module _ (request : Option Command) (before now : Seen) (tree_same sink_same : T
   no_memory : (reply : Reply) → IsReply reply.status reply.writes → reply.status ≡ Memory → ⊥
   no_memory reply kind e = subst (λ (s : Status). IsReply s reply.writes) e kind
 
-  -- the usage comes only for words that have none of the forms
+  -- the call returns the usage only for words that have none of the forms
   pub usage_only : Ending request before now tree_same sink_same status → status ≡ Usage → request ≡ None
   usage_only (unread asks s later rose content same rests) e = let no : TreeFault ≡ Usage = sym s ∙ e in cc
   usage_only (wanting alone s rests same sink) e = let no : Memory ≡ Usage = sym s ∙ e in cc
@@ -61,7 +66,7 @@ module _ (request : Option Command) (before now : Seen) (tree_same sink_same : T
   alone_same quiet (unwritten reply to s later rose stopped same rests) a = absurd (nothing_stops reply.writes stopped.0 stopped.2 stopped.1 (quiet reply (to.alone a)) stopped.4)
   alone_same quiet (unput alone reply to s f w failed) a = alone a
 
-  -- and the reply hangs on the words alone
+  -- and the words alone decide the reply
   pub alone_said : (writes_none : (reply : Reply) → SaysAlone request reply → reply.writes ≡ []) → Ending request before now tree_same sink_same status → AsksNothing request
       → (Rose before.sink_faults now.sink_faults → ⊥) → (status ≡ Memory → ⊥) → AnsweredAlone request before now status
   alone_said none (unread asks s later rose content same rests) a quiet memory = absurd (asks a)
@@ -116,7 +121,7 @@ module _ (request : Option Command) (before now : Seen) (tree_same sink_same : T
       inr (reply, to.said files held, (done, subst (λ (c : Option FileMap). StoppedWriting reply.writes c now.content) held stopped))
   tree_stopped (unput alone reply to s f w failed) e files held = let no : SinkFault ≡ TreeFault = sym s ∙ e in cc
 
-  -- what stands after an output that failed
+  -- what an output that failed leaves
   pub sink_stopped : Ending request before now tree_same sink_same status → status ≡ SinkFault → (files : FileMap) → before.content ≡ Some files → SomeReply request files (λ reply. SinkStopped reply files before now)
   sink_stopped (unread asks s later rose content same rests) e files held = let no : TreeFault ≡ SinkFault = sym s ∙ e in cc
   sink_stopped (wanting alone s rests same sink) e files held = let no : Memory ≡ SinkFault = sym s ∙ e in cc
@@ -150,10 +155,11 @@ module _ (request : Option Command) (before now : Seen) (tree_same sink_same : T
   unchanged (unwritten reply to s later rose stopped same rests) h = absurd (subst IsRefusal s h)
   unchanged (unput alone reply to s f w failed) h = absurd (subst IsRefusal s h)
 
-  -- a call that is done is one whose reply is done
-  pub done_said : Ending request before now tree_same sink_same status → status ≡ Done → (files : FileMap) → before.content ≡ Some files → SomeReply request files (λ reply. reply.status ≡ Done)
+  -- a call that is done carried out a reply that is done
+  pub done_said : Ending request before now tree_same sink_same status → status ≡ Done → (files : FileMap) → before.content ≡ Some files
+      → SomeReply request files (λ reply. IsAsSaid reply files before now status × (reply.status ≡ Done))
   done_said (unread asks s later rose content same rests) e files held = let no : TreeFault ≡ Done = sym s ∙ e in cc
   done_said (wanting alone s rests same sink) e files held = let no : Memory ≡ Done = sym s ∙ e in cc
-  done_said (carried alone reply to s f w took) e files held = (reply, to.said files held, sym s ∙ e)
+  done_said (carried alone reply to s f w took) e files held = (reply, to.said files held, (as_said reply files s w took.taken held, sym s ∙ e))
   done_said (unwritten reply to s later rose stopped same rests) e files held = let no : TreeFault ≡ Done = sym s ∙ e in cc
   done_said (unput alone reply to s f w failed) e files held = let no : SinkFault ≡ Done = sym s ∙ e in cc

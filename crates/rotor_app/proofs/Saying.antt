@@ -21,57 +21,53 @@ use Rattle.cli_words.specs.Words.{command_of}
 use Rattle.rename_files.specs.Answer.{Renames}
 use Rattle.rename_files.specs.Steps.{IsRefusedFor}
 use Rattle.rotor_app.specs.Words.{is_ready, if_ready, command_in, sampled_units, asks_folder}
+use Rattle.rotor_app.specs.declared.status.Status.{Status}
 use Rattle.rotor_app.specs.declared.status.Status.TheVariants.{Done, Refused, Usage, Project}
 use Rattle.rotor_app.specs.declared.reply.Reply.{Reply}
-use Rattle.rotor_app.specs.Said.{status_of_refusal, status_of, writes_of, reply_by, usage_reply, told, Answers, not_loaded, answered, SaysTo, IsSampled, SaysSample, Says, SaysAlone, AsksNothing, IsReply}
+use Rattle.rotor_app.specs.Said.{status_of_refusal, status_of, writes_of, reply_by, usage_reply, as_outcome, Answers, not_loaded, answered, SaysTo, IsSampled, SaysSample, Says, SaysAlone, AsksNothing, IsReply}
 
 -- ---- the status of a reply
 
+refusal_status : (r : Refusal) → (status_of_refusal r ≡ Refused) ⊎ (status_of_refusal r ≡ Project)
+refusal_status (refusal.Lex file offset) = inr refl
+refusal_status (refusal.LongName file offset) = inr refl
+refusal_status (refusal.Form at kind) = inr refl
+refusal_status (refusal.Deep at) = inr refl
+refusal_status (refusal.Syntax file) = inr refl
+refusal_status (refusal.Cycle unit) = inr refl
+refusal_status (refusal.Duplicate first again) = inr refl
+refusal_status (refusal.Heavy at) = inr refl
+refusal_status (refusal.Unmatched item) = inr refl
+refusal_status refusal.NoTarget = inl refl
+refusal_status refusal.Operator = inl refl
+refusal_status refusal.BadName = inl refl
+refusal_status refusal.SameName = inl refl
+refusal_status (refusal.Outside at) = inl refl
+refusal_status (refusal.Pun at) = inl refl
+refusal_status (refusal.Blurred at) = inl refl
+refusal_status (refusal.Grown file) = inl refl
+refusal_status (refusal.Clash first again) = inl refl
+refusal_status (refusal.Capture at was would) = inl refl
+refusal_status (refusal.Mislink item was would) = inl refl
+refusal_status refusal.Memory = inr refl
+
 refusal_kind : (r : Refusal) → IsReply (status_of_refusal r) []
-refusal_kind (refusal.Lex file offset) = refl
-refusal_kind (refusal.LongName file offset) = refl
-refusal_kind (refusal.Form at kind) = refl
-refusal_kind (refusal.Deep at) = refl
-refusal_kind (refusal.Syntax file) = refl
-refusal_kind (refusal.Cycle unit) = refl
-refusal_kind (refusal.Duplicate first again) = refl
-refusal_kind (refusal.Heavy at) = refl
-refusal_kind (refusal.Unmatched item) = refl
-refusal_kind refusal.NoTarget = refl
-refusal_kind refusal.Operator = refl
-refusal_kind refusal.BadName = refl
-refusal_kind refusal.SameName = refl
-refusal_kind (refusal.Outside at) = refl
-refusal_kind (refusal.Pun at) = refl
-refusal_kind (refusal.Blurred at) = refl
-refusal_kind (refusal.Grown file) = refl
-refusal_kind (refusal.Clash first again) = refl
-refusal_kind (refusal.Capture at was would) = refl
-refusal_kind (refusal.Mislink item was would) = refl
-refusal_kind refusal.Memory = refl
+refusal_kind r = by (status_of_refusal r) (refusal_status r) where
+  by : (s : Status) → (s ≡ Refused) ⊎ (s ≡ Project) → IsReply s []
+  by s (inl e) = subst (λ (t : Status). IsReply t []) (sym e) refl
+  by s (inr e) = subst (λ (t : Status). IsReply t []) (sym e) refl
 
 no_usage_refusal : (r : Refusal) → status_of_refusal r ≡ Usage → ⊥
-no_usage_refusal (refusal.Lex file offset) e = let no : Project ≡ Usage = e in cc
-no_usage_refusal (refusal.LongName file offset) e = let no : Project ≡ Usage = e in cc
-no_usage_refusal (refusal.Form at kind) e = let no : Project ≡ Usage = e in cc
-no_usage_refusal (refusal.Deep at) e = let no : Project ≡ Usage = e in cc
-no_usage_refusal (refusal.Syntax file) e = let no : Project ≡ Usage = e in cc
-no_usage_refusal (refusal.Cycle unit) e = let no : Project ≡ Usage = e in cc
-no_usage_refusal (refusal.Duplicate first again) e = let no : Project ≡ Usage = e in cc
-no_usage_refusal (refusal.Heavy at) e = let no : Project ≡ Usage = e in cc
-no_usage_refusal (refusal.Unmatched item) e = let no : Project ≡ Usage = e in cc
-no_usage_refusal refusal.NoTarget e = let no : Refused ≡ Usage = e in cc
-no_usage_refusal refusal.Operator e = let no : Refused ≡ Usage = e in cc
-no_usage_refusal refusal.BadName e = let no : Refused ≡ Usage = e in cc
-no_usage_refusal refusal.SameName e = let no : Refused ≡ Usage = e in cc
-no_usage_refusal (refusal.Outside at) e = let no : Refused ≡ Usage = e in cc
-no_usage_refusal (refusal.Pun at) e = let no : Refused ≡ Usage = e in cc
-no_usage_refusal (refusal.Blurred at) e = let no : Refused ≡ Usage = e in cc
-no_usage_refusal (refusal.Grown file) e = let no : Refused ≡ Usage = e in cc
-no_usage_refusal (refusal.Clash first again) e = let no : Refused ≡ Usage = e in cc
-no_usage_refusal (refusal.Capture at was would) e = let no : Refused ≡ Usage = e in cc
-no_usage_refusal (refusal.Mislink item was would) e = let no : Refused ≡ Usage = e in cc
-no_usage_refusal refusal.Memory e = let no : Project ≡ Usage = e in cc
+no_usage_refusal r u = by (status_of_refusal r) (refusal_status r) u where
+  by : (s : Status) → (s ≡ Refused) ⊎ (s ≡ Project) → s ≡ Usage → ⊥
+  by s (inl e) u = let no : Refused ≡ Usage = sym e ∙ u in cc
+  by s (inr e) u = let no : Project ≡ Usage = sym e ∙ u in cc
+
+pub no_done_refusal : (r : Refusal) → status_of_refusal r ≡ Done → ⊥
+no_done_refusal r d = by (status_of_refusal r) (refusal_status r) d where
+  by : (s : Status) → (s ≡ Refused) ⊎ (s ≡ Project) → s ≡ Done → ⊥
+  by s (inl e) d = let no : Refused ≡ Done = sym e ∙ d in cc
+  by s (inr e) d = let no : Project ≡ Done = sym e ∙ d in cc
 
 outcome_kind : (write : Bool) (o : Outcome) → IsReply (status_of o) (writes_of write o)
 outcome_kind write (outcome.Done done) = tt
@@ -88,14 +84,14 @@ outcome_kind false outcome.BadWords = refl
 pub reply_kind : (c : Command) (names : List (List ℕ)) (o : Outcome) (reply : Reply) → reply ≡ reply_by c names o → IsReply reply.status reply.writes
 reply_kind c names o reply e = subst (λ (r : Reply). IsReply r.status r.writes) (sym e) (outcome_kind _ o)
 
-told_usage : {A : Type 0} (f : A → Outcome) (r : Result A Refusal) (o : Outcome) → ((a : A) → status_of (f a) ≡ Usage → ⊥) → o ≡ told f r → status_of o ≡ Usage → ⊥
-told_usage f (Ok a) o h e u = h a (sym (ap status_of e) ∙ u)
-told_usage f (Err r) o h e u = no_usage_refusal r (sym (ap status_of e) ∙ u)
+outcome_usage : {A : Type 0} (f : A → Outcome) (r : Result A Refusal) (o : Outcome) → ((a : A) → status_of (f a) ≡ Usage → ⊥) → o ≡ as_outcome f r → status_of o ≡ Usage → ⊥
+outcome_usage f (Ok a) o h e u = h a (sym (ap status_of e) ∙ u)
+outcome_usage f (Err r) o h e u = no_usage_refusal r (sym (ap status_of e) ∙ u)
 
 answer_usage : (c : Command) (files : FileSet) (o : Outcome) → Answers c files o → status_of o ≡ Usage → ⊥
-answer_usage command.Check files o (r, h, e) u = told_usage outcome.Checked r o (λ a u. let no : Done ≡ Usage = u in cc) e u
-answer_usage (command.Shape target) files o (r, h, e) u = told_usage outcome.Shown r o (λ a u. let no : Done ≡ Usage = u in cc) e u
-answer_usage (command.Rename target name write safe json) files o (r, h, e) u = told_usage outcome.Done r o (λ a u. let no : Done ≡ Usage = u in cc) e u
+answer_usage command.Check files o (r, h, e) u = outcome_usage outcome.Checked r o (λ a u. let no : Done ≡ Usage = u in cc) e u
+answer_usage (command.Shape target) files o (r, h, e) u = outcome_usage outcome.Shown r o (λ a u. let no : Done ≡ Usage = u in cc) e u
+answer_usage (command.Rename target name write safe json) files o (r, h, e) u = outcome_usage outcome.Done r o (λ a u. let no : Done ≡ Usage = u in cc) e u
 answer_usage (command.Sample units) files o h u = h
 answer_usage (command.Verify old new) files o h u = h
 answer_usage (command.Batch file write) files o h u = h
@@ -197,7 +193,7 @@ sample_kind units reply (o, h, e) = reply_kind (command.Sample units) [] o reply
 
 pub sample_usage : (units : ℕ) (reply : Reply) → SaysSample units reply → reply.status ≡ Usage → ⊥
 sample_usage units reply (o, (r, h, t), e) u =
-    told_usage outcome.Sampled r o (λ a v. let no : Done ≡ Usage = v in cc) t (sym (ap (λ (x : Reply). x.status) e) ∙ u)
+    outcome_usage outcome.Sampled r o (λ a v. let no : Done ≡ Usage = v in cc) t (sym (ap (λ (x : Reply). x.status) e) ∙ u)
 
 pub sample_writes : (units : ℕ) (reply : Reply) → SaysSample units reply → reply.writes ≡ []
 sample_writes units reply (o, h, e) = ap (λ (x : Reply). x.writes) e

@@ -5,8 +5,6 @@ use Rattle.std.specs.Option.{option_and_then}
 use Rattle.rotor_base.specs.Files.{FileSet, IsProject, names_of}
 use Rattle.rotor_base.specs.declared.source.SourceFile.{SourceFile}
 use Rattle.rotor_base.specs.declared.place.Place.{Place}
-use Rattle.rotor_base.specs.declared.refusal.Refusal.{Refusal}
-use Rattle.rotor_base.specs.declared.refusal.Refusal.TheVariants as refusal
 use Rattle.rotor_base.specs.declared.report.Outcome.{Outcome}
 use Rattle.rotor_base.specs.declared.report.Outcome.TheVariants as outcome
 use Rattle.rotor_base.specs.declared.report.Renamed.{Renamed}
@@ -24,10 +22,11 @@ use Rattle.cli_words.specs.Words.{command_of}
 use Rattle.cli_words.specs.Laws.{undo_words, UndosAreRead}
 use Rattle.rename_files.specs.Answer.{Renames}
 use Rattle.rename_laws.specs.Laws.{Rewrites, IsUndoPlace, RenamingsRewrite, RenamingsAreUndone, RenamingsAreValid, UndosHavePlaces, RenamingsKeepFacts, RenamingsKeepRuns, FootprintsAreLeast}
-use Rattle.rotor_app.specs.declared.status.Status.TheVariants.{Done, Refused, Project}
+use Rattle.rotor_app.specs.declared.status.Status.TheVariants.{Done, Project}
 use Rattle.rotor_app.specs.declared.reply.Reply.{Reply}
 use Rattle.rotor_app.specs.Words.{command_in, if_ready}
-use Rattle.rotor_app.specs.Said.{status_of, status_of_refusal, writes_of, reply_by, outcome_text, IsAnswer, not_loaded, answered, SaysTo, Says, SomeReply}
+use Rattle.rotor_app.specs.Said.{status_of, writes_of, reply_by, outcome_text, IsAnswer, not_loaded, answered, SaysTo, Says, SomeReply}
+use Rattle.rotor_app.proofs.Saying.{no_done_refusal}
 use Rattle.rotor_app.specs.Done.{rename_words, undo_of, GivesBack, IsDone, IsDoneSo}
 
 -- ---- the last line of the report
@@ -62,7 +61,7 @@ text_ends names done =
 place_is : (names : List (List ℕ)) (p : Place) (source : List ℕ) → slice_get names p.file ≡ Some source → place_text names p ≡ source ++ (codes "#" ++ decimal p.token)
 place_is names p source e = ap (λ (o : Option (List ℕ)). unwrap_or o [] ++ (codes "#" ++ decimal p.token)) e
 
--- a token's number is told in 32 bits
+-- a token's number fits into 32 bits
 within : (n : ℕ) → n ≤ 1048576 → n < 2 ^ 32
 within n h = omega (arith, h)
 
@@ -109,13 +108,15 @@ module _ (laws : HasLaws) where
     back_others : AreOthers done.files undone.0.files
     back_others = record { names = ap (λ (f : FileSet). names_of f.entries) undone.2 ∙ sym rewrites.names; manifest = ap (λ (f : FileSet). f.manifest) undone.2 ∙ sym rewrites.manifest }
 
+    load : loaded (after (files_at done.files.entries done.changed) held) ≡ Ok done.files
+    load = laws.loaded_new held old done.files done.changed loads others rewrites.taken rewrites.covers
+
     gives_back : (reply : Reply) → reply.writes ≡ files_at done.files.entries done.changed → GivesBack (undo_of names done) held reply
     unfolding Says
     gives_back reply w =
         let back = undone.0 in
         let c = command.Rename (At place.source done.undo_at.token) done.old true false false in
         let now = after (files_at done.files.entries done.changed) held in
-        let load : loaded now ≡ Ok done.files = laws.loaded_new held old done.files done.changed loads others rewrites.taken rewrites.covers in
         let r : Reply = reply_by c (names_of done.files.entries) (outcome.Done back) in
         let a : SaysTo c now r = (names_of done.files.entries, outcome.Done back, answered done.files (outcome.Done back) load (Ok back, undone.1, refl), refl) in
         let s : Says (command_in (undo_of names done)) now r = subst (λ (q : Option Command). Says q now r) (sym asked) a in
@@ -128,51 +129,33 @@ module _ (laws : HasLaws) where
         let G : List SourceFile → Type 0 = λ ws. SomeReply (command_in (undo_of names done)) (after ws held) (λ b. (b.status ≡ Done) × (after b.writes (after ws held) ≡ held)) in
         subst G (sym w) (r, s, (refl, whole))
 
-    is_done : (reply : Reply) → reply ≡ reply_by (command.Rename target new write safe json) names (outcome.Done done) → IsDone held target new write json reply
+    writes : (reply : Reply) → reply ≡ reply_by (command.Rename target new write safe json) names (outcome.Done done) → write ≡ true → reply.writes ≡ files_at done.files.entries done.changed
+    writes reply e w = ap (λ (r : Reply). r.writes) e ∙ ap (λ (b : Bool). writes_of b (outcome.Done done)) w
+
+    is_done : (reply : Reply) → reply ≡ reply_by (command.Rename target new write safe json) names (outcome.Done done) → IsDone held target new write safe json reply
     is_done reply e = record {
       old = old;
       done = done;
       loads = loads;
       renames = renames;
+      replied = e;
+      written = λ w. subst (λ (ws : List SourceFile). loaded (after ws held) ≡ Ok done.files) (sym (writes reply e w)) load;
       valid = laws.valid old target new done project renames;
       facts = laws.facts old target new done project renames;
       runs = laws.runs old target new done project renames;
       least = laws.least old target new done project renames;
       line = λ j. let t = text_ends names done in (t.0, ap (λ (r : Reply). r.text) e ∙ (ap (λ (b : Bool). outcome_text b names (outcome.Done done)) j ∙ t.1));
-      back = λ w. gives_back reply (ap (λ (r : Reply). r.writes) e ∙ ap (λ (b : Bool). writes_of b (outcome.Done done)) w);
+      back = λ w. gives_back reply (writes reply e w);
     }
 
   -- ---- a reply that is done
 
-  no_refusal : (r : Refusal) → status_of_refusal r ≡ Done → ⊥
-  no_refusal (refusal.Lex file offset) e = let no : Project ≡ Done = e in cc
-  no_refusal (refusal.LongName file offset) e = let no : Project ≡ Done = e in cc
-  no_refusal (refusal.Form at kind) e = let no : Project ≡ Done = e in cc
-  no_refusal (refusal.Deep at) e = let no : Project ≡ Done = e in cc
-  no_refusal (refusal.Syntax file) e = let no : Project ≡ Done = e in cc
-  no_refusal (refusal.Cycle unit) e = let no : Project ≡ Done = e in cc
-  no_refusal (refusal.Duplicate first again) e = let no : Project ≡ Done = e in cc
-  no_refusal (refusal.Heavy at) e = let no : Project ≡ Done = e in cc
-  no_refusal (refusal.Unmatched item) e = let no : Project ≡ Done = e in cc
-  no_refusal refusal.NoTarget e = let no : Refused ≡ Done = e in cc
-  no_refusal refusal.Operator e = let no : Refused ≡ Done = e in cc
-  no_refusal refusal.BadName e = let no : Refused ≡ Done = e in cc
-  no_refusal refusal.SameName e = let no : Refused ≡ Done = e in cc
-  no_refusal (refusal.Outside at) e = let no : Refused ≡ Done = e in cc
-  no_refusal (refusal.Pun at) e = let no : Refused ≡ Done = e in cc
-  no_refusal (refusal.Blurred at) e = let no : Refused ≡ Done = e in cc
-  no_refusal (refusal.Grown file) e = let no : Refused ≡ Done = e in cc
-  no_refusal (refusal.Clash first again) e = let no : Refused ≡ Done = e in cc
-  no_refusal (refusal.Capture at was would) e = let no : Refused ≡ Done = e in cc
-  no_refusal (refusal.Mislink item was would) e = let no : Refused ≡ Done = e in cc
-  no_refusal refusal.Memory e = let no : Project ≡ Done = e in cc
-
   by_answer : (held : FileMap) (target : Target) (new : List ℕ) (write safe json : Bool) (names : List (List ℕ)) (o : Outcome) (reply : Reply)
       → IsAnswer held (command.Rename target new write safe json) names o → reply ≡ reply_by (command.Rename target new write safe json) names o → reply.status ≡ Done
-      → IsDone held target new write json reply
+      → IsDone held target new write safe json reply
   by_answer held target new write safe json names o reply (not_loaded error l) e d = absurd (let no : Project ≡ Done = sym (ap (λ (r : Reply). r.status) e) ∙ d in cc)
   by_answer held target new write safe json names o reply (answered files _ l (Err r, h, t)) e d =
-      absurd (no_refusal r (sym (ap status_of t) ∙ (sym (ap (λ (x : Reply). x.status) e) ∙ d)))
+      absurd (no_done_refusal r (sym (ap status_of t) ∙ (sym (ap (λ (x : Reply). x.status) e) ∙ d)))
   by_answer held target new write safe json names o reply (answered files _ l (Ok done, h, t)) e d =
       is_done held target new write safe json files done l h reply (e ∙ ap (λ (x : Outcome). reply_by (command.Rename target new write safe json) (names_of files.entries) x) t)
 
@@ -187,5 +170,6 @@ module _ (laws : HasLaws) where
   by_says (Some (command.Batch file write)) held reply s d = tt
   by_says (Some command.Recover) held reply s d = tt
 
-  pub done_so : (request : Option Command) (held : FileMap) → SomeReply request held (λ reply. reply.status ≡ Done) → SomeReply request held (λ reply. IsDoneSo request held reply)
-  done_so request held s = (s.0, s.1, by_says request held s.0 s.1 s.2)
+  pub done_so : (request : Option Command) (held : FileMap) (P : Reply → Type 0) → SomeReply request held (λ reply. P reply × (reply.status ≡ Done))
+      → SomeReply request held (λ reply. P reply × IsDoneSo request held reply)
+  done_so request held P s = (s.0, s.1, (s.2.0, by_says request held s.0 s.1 s.2.1))

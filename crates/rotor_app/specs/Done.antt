@@ -1,6 +1,7 @@
 -- What holds of a renaming that is done: what it keeps, and that the words of its undo give the old files back.
 use Rattle.std.specs.Prelude.{◌≡◌, ℕ, List, [], ◌∷◌, ◌++◌, Bool, true, false, Option, Some, None, Ok, codes}
 use Rattle.rotor_base.specs.Files.{FileSet, names_of}
+use Rattle.rotor_base.specs.declared.report.Outcome.TheVariants as outcome
 use Rattle.rotor_base.specs.declared.report.Renamed.{Renamed}
 use Rattle.rotor_base.specs.declared.target.Target.{Target}
 use Rattle.tree_io.specs.Outside.{FileMap}
@@ -16,7 +17,7 @@ use Rattle.rename_laws.specs.Laws.{IsValidFor, KeepsFacts, KeepsRuns, IsLeastFor
 use Rattle.rotor_app.specs.declared.status.Status.TheVariants.{Done}
 use Rattle.rotor_app.specs.declared.reply.Reply.{Reply}
 use Rattle.rotor_app.specs.Words.{command_in}
-use Rattle.rotor_app.specs.Said.{SomeReply}
+use Rattle.rotor_app.specs.Said.{reply_by, SomeReply}
 
 -- the words `rename PLACE NAME --write`
 abbrev pub rename_words : List ℕ → List ℕ → List (List ℕ)
@@ -34,12 +35,14 @@ EndsWithUndo names done reply = (front : List ℕ) × (reply.text ≡ front ++ e
 abbrev pub GivesBack : List (List ℕ) → FileMap → Reply → Type 0
 GivesBack words held reply = SomeReply (command_in words) (after reply.writes held) (λ back. (back.status ≡ Done) × (after back.writes (after reply.writes held) ≡ held))
 
--- a renaming of the files that a folder loads as is done
-pub record IsDone (held : FileMap) (target : Target) (new : List ℕ) (write json : Bool) (reply : Reply) : Type 0 where
+-- a renaming of the files that a folder loads as is done, and the reply is that of its outcome
+pub record IsDone (held : FileMap) (target : Target) (new : List ℕ) (write safe json : Bool) (reply : Reply) : Type 0 where
   pub old : FileSet
   pub done : Renamed
   pub loads : loaded held ≡ Ok old
   pub renames : Renames old target new (Ok done)
+  pub replied : reply ≡ reply_by (command.Rename target new write safe json) (names_of old.entries) (outcome.Done done)
+  pub written : write ≡ true → loaded (after reply.writes held) ≡ Ok done.files
   pub valid : IsValidFor old done
   pub facts : KeepsFacts old done.files
   pub runs : KeepsRuns old done.files
@@ -52,7 +55,7 @@ abbrev pub IsDoneSo : Option Command → FileMap → Reply → Type 0
 IsDoneSo None held reply = Unit {0}
 IsDoneSo (Some command.Check) held reply = Unit {0}
 IsDoneSo (Some (command.Shape target)) held reply = Unit {0}
-IsDoneSo (Some (command.Rename target name write safe json)) held reply = IsDone held target name write json reply
+IsDoneSo (Some (command.Rename target name write safe json)) held reply = IsDone held target name write safe json reply
 IsDoneSo (Some (command.Sample units)) held reply = Unit {0}
 IsDoneSo (Some (command.Verify old new)) held reply = Unit {0}
 IsDoneSo (Some (command.Batch file write)) held reply = Unit {0}

@@ -86,15 +86,15 @@ usage_reply = record { status = Usage; writes = []; text = text_of [] outcome.Ba
 -- ---- what is said
 
 -- an answer, as an outcome
-abbrev pub told : {A : Type 0} → (A → Outcome) → Result A Refusal → Outcome
-told f (Ok a) = f a
-told f (Err r) = outcome.Refused r
+abbrev pub as_outcome : {A : Type 0} → (A → Outcome) → Result A Refusal → Outcome
+as_outcome f (Ok a) = f a
+as_outcome f (Err r) = outcome.Refused r
 
 -- the outcome of a command over the files of a project
 abbrev pub Answers : Command → FileSet → Outcome → Type 0
-Answers command.Check files o = (r : Result Counts Refusal) × Checks files r × (o ≡ told outcome.Checked r)
-Answers (command.Shape target) files o = (r : Result FootReport Refusal) × Shows files target r × (o ≡ told outcome.Shown r)
-Answers (command.Rename target name write safe json) files o = (r : Result Renamed Refusal) × Renames files target name r × (o ≡ told outcome.Done r)
+Answers command.Check files o = (r : Result Counts Refusal) × Checks files r × (o ≡ as_outcome outcome.Checked r)
+Answers (command.Shape target) files o = (r : Result FootReport Refusal) × Shows files target r × (o ≡ as_outcome outcome.Shown r)
+Answers (command.Rename target name write safe json) files o = (r : Result Renamed Refusal) × Renames files target name r × (o ≡ as_outcome outcome.Done r)
 Answers (command.Sample units) files o = ⊥
 Answers (command.Verify old new) files o = ⊥
 Answers (command.Batch file write) files o = ⊥
@@ -111,9 +111,9 @@ SaysTo c held reply = (names : List (List ℕ)) × (o : Outcome) × IsAnswer hel
 
 -- the outcome of `sample`
 abbrev pub IsSampled : ℕ → Outcome → Type 0
-IsSampled units o = (r : Result SampleReport Refusal) × Samples units r × (o ≡ told outcome.Sampled r)
+IsSampled units o = (r : Result SampleReport Refusal) × Samples units r × (o ≡ as_outcome outcome.Sampled r)
 
--- a reply to `sample`, which hangs on the number of units alone
+-- a reply to `sample`, which the number of units decides alone
 abbrev pub SaysSample : ℕ → Reply → Type 0
 SaysSample units reply = (o : Outcome) × IsSampled units o × (reply ≡ reply_by (command.Sample units) [] o)
 

@@ -1,4 +1,4 @@
--- What stands after a call of the program: the table of its answers.
+-- What a call of the program leaves: the table of its answers.
 use Rattle.std.specs.Prelude.{◌≡◌, ◌⊎◌, ℕ, ◌<◌, ◌≤◌, List, ◌∷◌, ◌++◌, length, Option, Some, None, option_map}
 use Rattle.std.specs.FinMap.{insert}
 use Rattle.rotor_base.specs.declared.source.SourceFile.{SourceFile}
@@ -10,7 +10,7 @@ use Rattle.rotor_app.specs.declared.reply.Reply.{Reply}
 use Rattle.rotor_app.specs.Said.{IsReply, Says, AsksNothing, SaysAlone, SomeReply}
 use Rattle.project_load.specs.Rewritten.{after}
 
--- where the content is told, all these files were written
+-- where the content is known, all these files were written
 abbrev pub Written : List SourceFile → Option FileMap → Option FileMap → Type 0
 Written writes before now = now ≡ option_map (after writes) before
 
@@ -38,7 +38,7 @@ pub record IsAsSaid (reply : Reply) (held : FileMap) (before now : Seen) (ended 
   pub files : now.content ≡ Some (after reply.writes held)
   pub text : Takes reply.text before.taken now.taken
 
--- The status comes only where a count rose, and always where it is greater afterwards.
+-- the call returns the status only where the count rose, and always where the count is greater afterwards
 pub record IsFault (fault : Status) (before now : ℕ) (status : Status) : Type 0 where
   pub later : before ≤ now
   pub only : status ≡ fault → Rose before now
@@ -48,7 +48,7 @@ pub record IsFault (fault : Status) (before now : ℕ) (status : Status) : Type 
 abbrev pub TreeStopped : Option Command → FileMap → Option FileMap → Type 0
 TreeStopped request files now = (now ≡ Some files) ⊎ SomeReply request files (λ reply. (reply.status ≡ Done) × StoppedWriting reply.writes (Some files) now)
 
--- the output failed: the folder is as at the status that would have come, and a prefix of the text was taken
+-- the output failed: the folder is as with the status of the reply, and a prefix of the text was taken
 pub record SinkStopped (reply : Reply) (held : FileMap) (before now : Seen) : Type 0 where
   pub files : now.content ≡ Some (after reply.writes held)
   pub text : TakesPrefix reply.text before.taken now.taken

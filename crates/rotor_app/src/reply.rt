@@ -29,7 +29,7 @@ pub struct Reply {
 pub fn decide<T: Tree>(alloc: Global, words: &[String], tree: &mut T) -> Result<Reply, TreeError>
     ensures kind { IfOk result (λ reply. IsReply reply.status reply.writes) }
     ensures said { IfOk result (λ reply. IfSome (T.content tree.old) (λ files. Says (command_in (map string_bytes words.now)) files reply)) }
-    ensures told_alone { IfOk result (λ reply. AsksNothing (command_in (map string_bytes words.now)) → SaysAlone (command_in (map string_bytes words.now)) reply) }
+    ensures said_alone { IfOk result (λ reply. AsksNothing (command_in (map string_bytes words.now)) → SaysAlone (command_in (map string_bytes words.now)) reply) }
     ensures usage { IfOk result (λ reply. reply.status ≡ Status.Usage → command_in (map string_bytes words.now) ≡ None) }
     ensures alone { AsksNothing (command_in (map string_bytes words.now)) → tree.new ≡ tree.old }
     ensures read { IsErrOf result TreeError.Failed → AsksNothing (command_in (map string_bytes words.now)) → ⊥ }
@@ -95,7 +95,7 @@ fn reply_over(alloc: Global, command: &Command, files: &Files) -> Result<Reply, 
 
 /// The reply of a folder that is not taken as a project's files, if neither the folder nor memory failed.
 fn refused_reply(alloc: Global, command: &Command, error: LoadError) -> Result<Reply, TreeError>
-    ensures told { IfOk result (λ reply. reply ≡ reply_by command.now [] (Outcome.NotLoaded error)) }
+    ensures refused { IfOk result (λ reply. reply ≡ reply_by command.now [] (Outcome.NotLoaded error)) }
     ensures answered { OnOk result (IsOutside error → ⊥) }
     ensures failed { IsErrOf result TreeError.Failed ↔ (error ≡ LoadError.Read) }
 {

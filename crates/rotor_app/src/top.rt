@@ -34,7 +34,7 @@ pub fn rotor<T: Tree, S: Sink>(alloc: Global, words: &[String], tree: &mut T, ou
         (seen (T.faults tree.old) (S.faults out.old) (T.content tree.old) (S.taken out.old))
         (seen (T.faults tree.new) (S.faults out.new) (T.content tree.new) (S.taken out.new)) result)) }
 
-    // Where the words ask nothing of the folder, it is not called, and the reply hangs on the words alone.
+    // Where the words ask nothing of the folder, it is not called, and the words alone decide the reply.
     ensures alone { AsksNothing (command_in (map string_bytes words.now)) → tree.new ≡ tree.old }
     ensures alone_said { AsksNothing (command_in (map string_bytes words.now)) → (Rose (S.faults out.old) (S.faults out.new) → ⊥) → (result ≡ Status.Memory → ⊥)
         → AnsweredAlone (command_in (map string_bytes words.now))
@@ -45,7 +45,7 @@ pub fn rotor<T: Tree, S: Sink>(alloc: Global, words: &[String], tree: &mut T, ou
         (seen (T.faults tree.new) (S.faults out.new) (T.content tree.new) (S.taken out.new)) }
     ensures usage { (result ≡ Status.Usage) → (command_in (map string_bytes words.now) ≡ None) }
 
-    // A fault comes only where its count rose, and none is passed over.
+    // The call returns a fault only where its count rose, and passes over none.
     ensures tree_fault { IsFault Status.TreeFault (T.faults tree.old) (T.faults tree.new) result }
     ensures sink_fault { IsFault Status.SinkFault (S.faults out.old) (S.faults out.new) result }
 
@@ -60,9 +60,13 @@ pub fn rotor<T: Tree, S: Sink>(alloc: Global, words: &[String], tree: &mut T, ou
     ensures unchanged { IsRefusal result → T.content tree.new ≡ T.content tree.old }
     ensures quiet { (result ≡ Status.TreeFault) ⊎ (result ≡ Status.Memory) → out.new ≡ out.old }
 
-    // A renaming that is done is valid, keeps facts and runs, changes a least footprint, and the words of its undo give
-    // the old files back.
-    ensures renamed { (result ≡ Status.Done) → ForSome (T.content tree.old) (λ files. SomeReply (command_in (map string_bytes words.now)) files (λ reply. IsDoneSo (command_in (map string_bytes words.now)) files reply)) }
+    // A renaming that is done is valid, keeps facts and runs, and changes a least footprint. The files and the text are
+    // those of its reply, and the words of its undo give the old files back.
+    ensures renamed { (result ≡ Status.Done) → ForSome (T.content tree.old) (λ files. SomeReply (command_in (map string_bytes words.now)) files (λ reply.
+        IsAsSaid reply files
+        (seen (T.faults tree.old) (S.faults out.old) (T.content tree.old) (S.taken out.old))
+        (seen (T.faults tree.new) (S.faults out.new) (T.content tree.new) (S.taken out.new)) result
+        × IsDoneSo (command_in (map string_bytes words.now)) files reply)) }
 
     // Over a folder and an output that do not fail, the status is the one that is said, or there was no memory.
     ensures complete { T.is_steady tree.old → ForSome (T.content tree.old) (λ files. IsComplete (command_in (map string_bytes words.now)) files (S.accepts out.old) result) }

@@ -10,8 +10,8 @@ returns-in-None-clause-said g c =
     usage_said (command_in (map string_bytes c.args.words.now)) (g.T.Tree.content c.args.tree.now) c.in_ok-usage-in-None.field-0
     (sym c.in_ok-command_in.ensures ∙ c.in-None.is) c.in_ok-usage-in-None.ensures
 
-pub returns-in-None-clause-told_alone : goal.returns-in-None-clause-told_alone
-returns-in-None-clause-told_alone g c = λ asks.
+pub returns-in-None-clause-said_alone : goal.returns-in-None-clause-said_alone
+returns-in-None-clause-said_alone g c = λ asks.
     usage_alone (command_in (map string_bytes c.args.words.now)) c.in_ok-usage-in-None.field-0 (sym c.in_ok-command_in.ensures ∙ c.in-None.is) c.in_ok-usage-in-None.ensures
 
 -- `sample`
@@ -22,8 +22,8 @@ returns-in-Some-sampled_units-clause-said g c =
     c.in_ok-sample_reply-in-Some-sampled_units.field-0 (sym c.in_ok-command_in.ensures ∙ c.in-Some.is) (sym c.sampled_units.ensures ∙ c.in-Some-sampled_units.is)
     c.in_ok-sample_reply-in-Some-sampled_units.ensures
 
-pub returns-in-Some-sampled_units-clause-told_alone : goal.returns-in-Some-sampled_units-clause-told_alone
-returns-in-Some-sampled_units-clause-told_alone g c = λ asks.
+pub returns-in-Some-sampled_units-clause-said_alone : goal.returns-in-Some-sampled_units-clause-said_alone
+returns-in-Some-sampled_units-clause-said_alone g c = λ asks.
     sample_alone (command_in (map string_bytes c.args.words.now)) c.in-Some.command c.in-Some-sampled_units.units c.in_ok-sample_reply-in-Some-sampled_units.field-0
     (sym c.in_ok-command_in.ensures ∙ c.in-Some.is) (sym c.sampled_units.ensures ∙ c.in-Some-sampled_units.is) c.in_ok-sample_reply-in-Some-sampled_units.ensures
 

@@ -12,4 +12,4 @@ returns-in_ok-reply_over-in-Ok-clause-said g c =
 pub returns-in-Err-clause-said : goal.returns-in-Err-clause-said
 returns-in-Err-clause-said g c =
     refused_answer (g.T.Tree.content c.args.tree.now) c.load.result c.in-Err.error c.args.command.now c.refused_reply.result c.in-Err.is c.load.ensures.answer
-    c.refused_reply.ensures.told c.refused_reply.ensures.answered
+    c.refused_reply.ensures.refused c.refused_reply.ensures.answered

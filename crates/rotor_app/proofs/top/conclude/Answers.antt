@@ -18,5 +18,5 @@ returns-in-Err-Memory-clause-ending g c =
 pub returns-in-Ok-clause-ending : goal.returns-in-Ok-clause-ending
 returns-in-Ok-clause-ending g c =
     ends_carried (command_in (map string_bytes c.args.words.now)) (g.T.Tree.faults c.args.tree.now) (g.T.Tree.faults c.decide.new.tree) (g.S.Sink.faults c.args.out.now)
-    (g.T.Tree.content c.args.tree.now) (g.T.Tree.content c.decide.new.tree) (g.S.Sink.taken c.args.out.now) _ _ _ c.in-Ok.reply _ (λ a. c.carry_out.ensures.none (alone_writes _ _ (c.in-Ok.ensures.told_alone a)) ∙ c.decide.ensures.alone a) c.in-Ok.ensures.kind c.in-Ok.ensures.said c.in-Ok.ensures.told_alone c.in-Ok.ensures.usage c.in-Ok.ensures.cause.ok
+    (g.T.Tree.content c.args.tree.now) (g.T.Tree.content c.decide.new.tree) (g.S.Sink.taken c.args.out.now) _ _ _ c.in-Ok.reply _ (λ a. c.carry_out.ensures.none (alone_writes _ _ (c.in-Ok.ensures.said_alone a)) ∙ c.decide.ensures.alone a) c.in-Ok.ensures.kind c.in-Ok.ensures.said c.in-Ok.ensures.said_alone c.in-Ok.ensures.usage c.in-Ok.ensures.cause.ok
     c.decide.ensures.content c.carry_out.ensures.carried

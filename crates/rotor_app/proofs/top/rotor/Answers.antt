@@ -1,6 +1,6 @@
 use Rattle.std.proofs.Common.{◌≡◌, map, string_bytes}
 use Rattle.rotor_app.specs.Words.{command_in}
-use Rattle.rotor_app.specs.Table.{seen}
+use Rattle.rotor_app.specs.Table.{seen, IsAsSaid}
 use Rattle.rotor_app.proofs.Endings.{answers, usage_only, alone_same, alone_said, alone_cut, tree_fault, sink_fault, tree_stopped, sink_stopped, unchanged, quiet_sink, done_said}
 use Rattle.rotor_app.proofs.Concluded.{alone_writes}
 use Rattle.rotor_app.proofs.Undoing.{HasLaws, done_so}
@@ -98,7 +98,9 @@ returns-clause-renamed g c = λ done files held.
       runs = c.renamings_keep_runs.ensures;
       least = c.footprints_are_least.ensures;
     } in
-    done_so laws (command_in (map string_bytes c.args.words.now)) files (
+    done_so laws (command_in (map string_bytes c.args.words.now)) files (λ reply. IsAsSaid reply files
+    (seen (g.T.Tree.faults c.args.tree.now) (g.S.Sink.faults c.args.out.now) (g.T.Tree.content c.args.tree.now) (g.S.Sink.taken c.args.out.now))
+    (seen (g.T.Tree.faults c.conclude.new.tree) (g.S.Sink.faults c.conclude.new.out) (g.T.Tree.content c.conclude.new.tree) (g.S.Sink.taken c.conclude.new.out)) c.conclude.result) (
     done_said (command_in (map string_bytes c.args.words.now))
     (seen (g.T.Tree.faults c.args.tree.now) (g.S.Sink.faults c.args.out.now) (g.T.Tree.content c.args.tree.now) (g.S.Sink.taken c.args.out.now))
     (seen (g.T.Tree.faults c.conclude.new.tree) (g.S.Sink.faults c.conclude.new.out) (g.T.Tree.content c.conclude.new.tree) (g.S.Sink.taken c.conclude.new.out))
