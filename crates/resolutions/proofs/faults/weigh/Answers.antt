@@ -1,0 +1,13 @@
+use Rattle.std.proofs.Common.{subst}
+use Rattle.rotor_base.specs.declared.place.Facts.{Facts}
+use Rattle.dependency_kernel.specs.Foot.{IsFoot}
+use Rattle.ml_syntax.specs.View.{view_project}
+use Rattle.resolutions.proofs.Watching.{is_watched}
+use Rattle.resolutions.proofs.faults.weigh.Goals as goal
+
+pub local_fault-requires-clause-watched : goal.local_fault-requires-clause-watched
+local_fault-requires-clause-watched c =
+    let d = c.args.binder in
+    let w = c.args.watch.now in
+    let foot = subst (λ (f : Facts). IsFoot f.links d w.foot) c.requires.facts c.requires.foot in
+    is_watched (view_project c.args.project.now) d w c.requires.sound foot c.requires.binds c.requires.old (c.in-Ok.ensures.free d c.requires.old)

@@ -1,0 +1,91 @@
+//! The looks of a folder under a watch.
+
+use crate::pieces::{Object, goal, list, place, place_or_null};
+use crate::project::{find_aim, survey};
+use dependency_kernel::footprint;
+use mod_shape::looks;
+use project_reading::read_project;
+use rotor_base::{
+    Files, LinkLook, Looks, Name, Place, RefLook, Refusal, SourceFile, Target, Watch,
+};
+use std::alloc::{AllocError, Global};
+
+/// A position in a list, a declaration, and the number of outside modules after that position.
+type Spot = (u64, Place, u64);
+
+/// The looks as an object: those of references, those of links, and the number of all links.
+pub fn looks_object(
+    alloc: Global,
+    files: &Files,
+    target: &Target,
+    name: &str,
+) -> Result<String, Refusal> {
+    let read = read_project(alloc, files)?;
+    let resolved = survey(alloc, &read.project)?;
+    let aim = find_aim(alloc, files, &read.project, &resolved.top, target)?;
+    let foot = footprint(alloc, &resolved.facts, aim.place)?;
+    let new = Name::new(alloc, name.as_bytes())?;
+    let watch = Watch {
+        old: aim.mark.name,
+        new,
+        foot,
+    };
+    let looks = looks(alloc, &read.project, &watch)?;
+    Ok(object(alloc, files.entries(), &looks)?)
+}
+
+fn object(alloc: Global, sources: &[SourceFile], looks: &Looks) -> Result<String, AllocError> {
+    let mut links = Vec::new(alloc);
+    for look in looks.links.as_slice() {
+        links.push(link_text(alloc, sources, *look)?)?;
+    }
+    let links = list(alloc, &links)?;
+    let mut refs = Vec::new(alloc);
+    for look in looks.refs.as_slice() {
+        refs.push(ref_text(alloc, sources, *look)?)?;
+    }
+    let refs = list(alloc, &refs)?;
+    let mut object = Object::new(alloc);
+    object.add("links", links.as_str())?;
+    object.add_number("passed", looks.passed)?;
+    object.add("refs", refs.as_str())?;
+    object.end()
+}
+
+fn link_text(alloc: Global, sources: &[SourceFile], look: LinkLook) -> Result<String, AllocError> {
+    let mut object = Object::new(alloc);
+    object.add("by", place_or_null(alloc, sources, look.by)?.as_str())?;
+    object.add_number("darks", look.darks)?;
+    object.add("foot", spot(alloc, sources, look.foot)?.as_str())?;
+    object.add_flag("is_new", look.is_new)?;
+    object.add("item", place(alloc, sources, look.item)?.as_str())?;
+    object.add_flag("later_foot", look.later_foot)?;
+    object.add_flag("later_new", look.later_new)?;
+    object.add_flag("later_old", look.later_old)?;
+    object.add("new", spot(alloc, sources, look.new)?.as_str())?;
+    object.add_number("number", look.number)?;
+    object.add("old", spot(alloc, sources, look.old)?.as_str())?;
+    object.add_flag("pinned", look.pinned)?;
+    object.end()
+}
+
+fn ref_text(alloc: Global, sources: &[SourceFile], look: RefLook) -> Result<String, AllocError> {
+    let mut object = Object::new(alloc);
+    object.add("at", place(alloc, sources, look.at)?.as_str())?;
+    object.add("by", place_or_null(alloc, sources, look.by)?.as_str())?;
+    object.add_number("darks", look.darks)?;
+    object.add("foot", spot(alloc, sources, look.foot)?.as_str())?;
+    object.add("goal", goal(alloc, sources, look.goal)?.as_str())?;
+    object.add_flag("is_new", look.is_new)?;
+    object.add("new", spot(alloc, sources, look.new)?.as_str())?;
+    object.end()
+}
+
+/// A spot as a list, or `null`.
+fn spot(alloc: Global, sources: &[SourceFile], found: Option<Spot>) -> Result<String, AllocError> {
+    let Some(spot) = found else {
+        return String::from_str(alloc, "null");
+    };
+    let at = place(alloc, sources, spot.1)?;
+    format!(in alloc; "[{}, {at}, {}]", spot.0, spot.2)
+}
