@@ -11,7 +11,7 @@ use Rattle.ml_syntax.specs.Places.{Site, sites}
 use Rattle.ml_syntax.specs.Sound.{IsSound}
 use Rattle.ml_syntax.specs.Tree.{FileTree, Body, Face, UnitTree}
 use Rattle.shape_core.specs.Shape.{Name, Entries, none, vals, last_of, or_else, some_if}
-use Rattle.binding_model.specs.Each.{Each}
+use Rattle.ml_syntax.specs.Each.{Each}
 use Rattle.binding_model.specs.Scopes.{here, bound, after_unit}
 use Rattle.binding_model.specs.Steps.{Steps, groups_of}
 use Rattle.binding_model.specs.Walk.{file_steps, maybe_file_steps, unit_links, unit_steps, units_steps, steps}

@@ -9,7 +9,7 @@ use Rattle.shape_core.specs.Shape.{Shape, Struct as Structure, Functor as Functo
 use Rattle.binding_model.specs.Variables.{names, variables, pats_variables, field_variables, fields_variables, param_variables, binding_variables, bindings_variables, for_variables}
 use Rattle.binding_model.specs.Scopes.{path_shape, applied, local_shape, here, bound, let_bound, let_scope, params_bound, opens, sig_opens, mod_shape, param_in, params_in, adds, type_shape, sig_adds}
 use Rattle.binding_model.specs.Walk.{path_start, apply_steps, local_steps, locals_steps, uses, uses_under, value_steps, ties, pat_steps, pats_steps, field_pat_steps, fields_pat_steps, expr_steps, links_steps, maybe_steps, tail_steps, binding_steps, bindings_steps, case_steps, cases_steps, argument_steps, arguments_steps, param_steps, params_steps, part_steps, parts_steps, field_steps, fields_steps, mod_steps, mod_argument_steps, mod_arguments_steps, functor_param_steps, functor_steps, type_steps, sealing_steps, item_steps, items_steps, sig_item_steps, sig_items_steps}
-use Rattle.binding_model.specs.Each.{Each}
+use Rattle.ml_syntax.specs.Each.{Each}
 use Rattle.binding_model.proofs.Sounds.{each_map, each_joined}
 use Rattle.binding_model.proofs.Uses.{append_assoc, append_nil}
 use Rattle.binding_model.specs.Steps.{groups_of, Steps, quiet, ◌⨾◌, UseAlone, UseUnder, MatchOf, PinOf, TieOf, GroupOf, WeighedSite, OpenedSite, UnitStart}

@@ -4,7 +4,7 @@ use Rattle.rotor_base.specs.declared.place.Place.{Place}
 use Rattle.ml_syntax.specs.Sound.{IsSound}
 use Rattle.ml_syntax.specs.Tree.{UnitTree}
 use Rattle.shape_core.specs.Shape.{vals}
-use Rattle.binding_model.specs.Each.{Each}
+use Rattle.ml_syntax.specs.Each.{Each}
 use Rattle.binding_model.specs.Steps.{groups_of}
 use Rattle.binding_model.specs.Walk.{steps}
 use Rattle.binding_model.specs.Facts.{facts, unmatched, AreNamedApart, IsGood}

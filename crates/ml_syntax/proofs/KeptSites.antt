@@ -6,7 +6,8 @@ use Rattle.ml_syntax.specs.declared.fixed.Fixed.TheVariants as key
 use Rattle.ml_syntax.specs.Tok.{Name, Tok, placed, word}
 use Rattle.ml_syntax.specs.Places.{Site, operated, operator_sites}
 use Rattle.ml_syntax.specs.Respelled.{Spelling, spelled, spell_tok}
-use Rattle.ml_syntax.specs.SpelledSites.{Each, IsKept, spell_site}
+use Rattle.ml_syntax.specs.Each.{Each}
+use Rattle.ml_syntax.specs.SpelledSites.{IsKept, spell_site}
 use Rattle.ml_syntax.proofs.Sited.{back}
 
 pub map-both : {A B : Type 0} (s : A → B) (a b : List A) → map s a ++ map s b ≡ map s (a ++ b)

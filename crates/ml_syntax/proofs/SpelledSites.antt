@@ -6,7 +6,8 @@ use Rattle.ml_syntax.specs.Places.{Site, plain, punned, operated, operator_sites
 use Rattle.ml_syntax.specs.Respelled.{Spelling, spell_tok, spell_value_name, spell_pat, spell_pats, spell_pat_field, spell_pat_fields, spell_variable, spell_expr, spell_links, spell_maybe_expr, spell_tail, spell_binding, spell_bindings, spell_case, spell_cases, spell_argument, spell_arguments, spell_param, spell_params, spell_part, spell_parts, spell_field, spell_fields, spell_mod_expr, spell_mod_argument, spell_mod_arguments, spell_functor_param, spell_functor_params, spell_mod_type, spell_maybe_type, spell_item, spell_items, spell_sig_item, spell_sig_items, spell_file}
 use Rattle.ml_syntax.specs.Tree.{ValueName, PlainName, OperatorName, Pat, AsPat, OrPat, TuplePat, ConsPat, ConstrApplyPat, TagApplyPat, LazyPat, ExceptionPat, AnyPat, ValuePat, LiteralPat, NegativePat, RangePat, ConstrPat, TagPat, BoolPat, UnitPat, ParenPat, TypedPat, EmptyPat, ListPat, RecordPat, OpenedPat, Pats, no_pat, more_pat, PatField, PunnedField, MatchedField, PatFields, no_pat_field, more_pat_field, Variable, PlainVariable, AnyVariable, Expr, Seq, Let, LetOpen, LetModule, Fun, Function, Match, Try, If, Chain, Minus, Apply, ConstrApply, TagApply, Assert, Lazy, Postfix, Prefixed, Literal, BoolExpr, Value, Constr, Tag, UnitExpr, Paren, Typed, Coerced, EmptyBegin, Begin, EmptyList, ListExpr, Record, Opened, While, For, Links, no_link, more_link, MaybeExpr, no_expr, some_expr, Tail, no_else, or_else, or_if, Binding, PlainBinding, AppliedBinding, Bindings, no_binding, more_binding, Case, CaseOf, Cases, no_case, more_case, Argument, Positional, LabelPun, Labelled, Arguments, no_argument, more_argument, Param, PatternParam, LabelParam, LabelPattern, DefaultParam, WrappedParam, WrappedDefault, TypesParam, Params, no_param, more_param, Part, LabelPart, IndexPart, CharPart, Parts, no_part, more_part, Field, FieldPun, AssignedField, Fields, no_field, more_field, ModExpr, ModPath, Struct, Functor, ModApply, ModParen, Sealed, ModArgument, ModuleArgument, SealedArgument, NoArgument, ModArguments, no_mod_argument, more_mod_argument, FunctorParam, NamedParam, NoParam, FunctorParams, no_functor_param, more_functor_param, ModType, TypePath, Sig, TypeOf, TypeParen, With, FunctorType, ParamArrow, Arrow, MaybeType, no_type, some_type, Item, ExprItem, SeparatorItem, ValueItem, ExternalItem, TypeItem, ExceptionItem, ModuleItem, ModuleTypeItem, OpenItem, IncludeItem, Items, no_item, more_item, SigItem, SeparatorSig, ValSig, ExternalSig, TypeSig, ExceptionSig, ModuleSig, AliasSig, ModuleTypeSig, OpenSig, IncludeSig, SigItems, no_sig_item, more_sig_item, FileTree, Body, Face}
 use Rattle.ml_syntax.proofs.Sited.{names_stay, pats_stay, pat_fields_stay, expr_stay, links_stay, maybe_stay, tail_stay, bindings_stay, case_stay, cases_stay, arguments_stay, params_stay, parts_stay, field_stay, fields_stay, mod_stay, mod_arguments_stay, functor_params_stay, mod_type_stay, signature_stay, items_stay, sig_items_stay}
-use Rattle.ml_syntax.specs.SpelledSites.{Each, IsKept, spell_site, SitesAreRespelled}
+use Rattle.ml_syntax.specs.Each.{Each}
+use Rattle.ml_syntax.specs.SpelledSites.{IsKept, spell_site, SitesAreRespelled}
 use Rattle.ml_syntax.proofs.KeptSites.{map-both, one_kept, operator-spell}
 
 module _ (v : Spelling) where

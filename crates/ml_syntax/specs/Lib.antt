@@ -9,5 +9,6 @@ pub mod Sites
 pub mod Respelled
 pub mod Sound
 pub mod Standing
+pub mod Each
 pub mod SpelledSites
 pub mod RespelledFile

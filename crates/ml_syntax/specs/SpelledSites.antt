@@ -1,13 +1,9 @@
 -- The places of a respelled tree.
-use Rattle.std.specs.Prelude.{◌≡◌, List, [], ◌∷◌, ◌||◌, IsTrue, map}
+use Rattle.std.specs.Prelude.{◌≡◌, ◌||◌, IsTrue, map}
+use Rattle.ml_syntax.specs.Each.{Each}
 use Rattle.ml_syntax.specs.Tree.{FileTree}
 use Rattle.ml_syntax.specs.Places.{Site, sites}
 use Rattle.ml_syntax.specs.Respelled.{Spelling, spell_file}
-
--- a fact of each of some places
-abbrev pub Each : (Site → Type 0) → List Site → Type 0
-Each P [] = Unit {0}
-Each P (x ∷ xs) = P x × Each P xs
 
 -- an operator, and a word that is a label or a field too, keeps its word
 abbrev pub IsKept : Spelling → Site → Type 0

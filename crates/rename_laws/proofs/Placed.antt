@@ -17,7 +17,7 @@ use Rattle.ml_syntax.specs.Places.{Site, sites}
 use Rattle.ml_syntax.specs.RespelledFile.{lexeme_toks}
 use Rattle.ml_syntax.specs.Tok.{Name, Tok, word, fixed_of, tok}
 use Rattle.ml_syntax.specs.Tree.{FileTree, Body, Face, UnitTree}
-use Rattle.binding_model.specs.Each.{Each}
+use Rattle.ml_syntax.specs.Each.{Each}
 use Rattle.binding_model.specs.Renaming.{placed_sites, file_places, places}
 use Rattle.binding_model.specs.Scopes.{here}
 use Rattle.binding_model.proofs.Sounds.{each_joined}

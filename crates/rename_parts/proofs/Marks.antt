@@ -9,7 +9,7 @@ use Rattle.ml_syntax.specs.Sound.{IsSound}
 use Rattle.ml_syntax.specs.Tree.{FileTree, Body, Face, UnitTree}
 use Rattle.shape_core.specs.Shape.{or_else, some_if}
 use Rattle.shape_core.specs.Respell.{over}
-use Rattle.binding_model.specs.Each.{Each}
+use Rattle.ml_syntax.specs.Each.{Each}
 use Rattle.binding_model.specs.Scopes.{here}
 use Rattle.binding_model.specs.Renaming.{places, placed_sites, file_places, at_place}
 use Rattle.binding_model.proofs.Leasts.{place_in}

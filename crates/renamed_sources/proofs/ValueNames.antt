@@ -22,7 +22,7 @@ use Rattle.ml_syntax.specs.Tree.{FileTree, Body, Face, UnitTree}
 use Rattle.ml_syntax.specs.Words.{words}
 use Rattle.ml_syntax.proofs.RespelledNames.{lexemes_are_numbered}
 use Rattle.ml_syntax.proofs.SiteWords.{sites_are_words}
-use Rattle.binding_model.specs.Each.{Each}
+use Rattle.ml_syntax.specs.Each.{Each}
 use Rattle.binding_model.specs.Renaming.{placed_sites, file_places, places}
 use Rattle.binding_model.proofs.Leasts.{place_in}
 use Rattle.binding_model.proofs.Sounds.{each_joined}

@@ -14,7 +14,7 @@ use Rattle.parse_module.specs.declared.files.FileKind.TheVariants as kind
 use Rattle.parse_module.specs.Whole.{IsOfFile}
 use Rattle.shape_core.specs.Shape.{Name}
 use Rattle.shape_core.specs.Respell.{Words}
-use Rattle.binding_model.specs.Each.{Each}
+use Rattle.ml_syntax.specs.Each.{Each}
 use Rattle.binding_model.specs.Renaming.{placed_sites, file_places, places, at_place, in_file}
 use Rattle.binding_model.specs.Scopes.{here}
 use Rattle.binding_model.proofs.Leasts.{place_in}

@@ -14,7 +14,7 @@ use Rattle.ml_syntax.specs.Sound.{IsSound, IsSoundUnit, unit_files}
 use Rattle.ml_syntax.specs.Tree.{FileTree, Body, Face, UnitTree}
 use Rattle.shape_core.specs.Shape.{Name, or_else, some_if, or_value}
 use Rattle.shape_core.specs.Respell.{Words, over}
-use Rattle.binding_model.specs.Each.{Each}
+use Rattle.ml_syntax.specs.Each.{Each}
 use Rattle.binding_model.specs.Facts.{facts}
 use Rattle.binding_model.specs.Local.{renaming}
 use Rattle.binding_model.specs.Renaming as model

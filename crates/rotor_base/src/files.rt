@@ -32,6 +32,23 @@ impl Model for Files {
 }
 
 impl Files {
+    /// The files of a project, made of its sources and the bytes of its manifest. It takes no memory.
+    pub fn from_parts(entries: Vec<SourceFile>, manifest: Option<Vec<u8>>) -> Self
+        requires { IsProject (record { entries = entries.items; manifest = option_map (λ bytes. bytes.items) manifest }) }
+        ensures { result ≡ record { entries = entries.items; manifest = option_map (λ bytes. bytes.items) manifest } }
+    {
+        Files { entries, manifest }
+    }
+
+    /// The sources and the bytes of the manifest. It takes no memory.
+    pub fn into_parts(self) -> (Vec<SourceFile>, Option<Vec<u8>>)
+        ensures entries { result.0.items ≡ self.entries }
+        ensures manifest { option_map (λ bytes. bytes.items) result.1 ≡ self.manifest }
+        ensures project { IsProject self }
+    {
+        (self.entries, self.manifest)
+    }
+
     /// The sources, in byte order of their names. It takes no memory.
     pub fn entries(&self) -> &[SourceFile]
         ensures entries { result.now ≡ self.now.entries }

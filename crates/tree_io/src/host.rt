@@ -14,7 +14,7 @@ use std::rt::Files;
 /// The most entries of a folder that is listed. One more is a fault.
 const MAX_ENTRIES: usize = 1_048_576;
 /// The bytes that one read asks for at most.
-const CHUNK_BYTES: usize = 8_192;
+const CHUNK_BYTES: usize = 65_536;
 
 /// The current folder of the system. It tells no content, and its `room` does nothing. It counts each Err of the
 /// system; one ends the call with `Failed`. Want of memory is not counted.

@@ -5,7 +5,7 @@ use Rattle.tree_io.proofs.host.read_front.Given as goal
 abbrev pub invariant-loop-chunk : goal.invariant-loop-chunk
 invariant-loop-chunk g l = record {
   within : vec_len l.bytes ≤ l.most;
-  chunk : length l.chunk ≡ 8192;
+  chunk : length l.chunk ≡ 65536;
   given : Consumes (g.F.Read.remaining l.fn.file) (g.F.Read.remaining l.file) l.bytes.items;
 }
 
