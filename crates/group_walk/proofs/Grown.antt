@@ -10,7 +10,7 @@ use Rattle.binding_model.specs.Facts.{decls}
 use Rattle.binding_model.specs.Steps.{Steps, quiet, ◌⨾◌, UseAlone, UseUnder, MatchOf, PinOf, TieOf, GroupOf, WeighedSite, OpenedSite, UnitStart, groups_of, trace}
 use Rattle.binding_model.specs.Sums.{sums_after, is_over}
 use Rattle.binding_model.specs.Taken.{Taken, Going, HeavyAt, taken, with_links, with_sums, unless_over, recorded}
-use Rattle.binding_model.proofs.Kept.{map-both}
+use Rattle.ml_syntax.proofs.KeptSites.{map-both}
 use Rattle.binding_model.proofs.Takings.{heavy_stays}
 
 -- what is in hand has the groups of the start and these
