@@ -1,0 +1,4 @@
+pub mod Table
+pub mod Begins
+pub mod Trivia
+pub mod Laws
