@@ -1,0 +1,9 @@
+pub mod Gates
+pub mod Maps
+pub mod Plans
+pub mod Stops
+pub mod Texts
+pub mod Writings
+pub mod Picked
+pub mod Readings
+pub mod Recovering

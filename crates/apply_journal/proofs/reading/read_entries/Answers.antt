@@ -1,0 +1,19 @@
+use Rattle.std.proofs.Common.{List, [], ◌∷◌, length, length-append, ap, sym, subst, arith}
+use Rattle.rotor_base.specs.declared.source.SourceFile.{SourceFile}
+use Rattle.apply_journal.specs.Reading.{AreEntries}
+use Rattle.apply_journal.proofs.Readings.{no_more_entries, entries_push}
+use Rattle.apply_journal.specs.declared.error.PlanError.TheVariants.{Bad}
+use Rattle.apply_journal.proofs.Recovering.{goes_up}
+use Rattle.apply_journal.proofs.reading.read_entries.Goals as goal
+
+pub returns-in-Err-clause-bad : goal.returns-in-Err-clause-bad
+returns-in-Err-clause-bad c = λ is.
+    no_more_entries c.args.bytes.now c.loop.files.items c.loop.rest.now c.args.count c.loop.invariant.read (omega (arith, c.loop.invariant.count, c.loop-test.true)) (c.in-Err.ensures.bad (goes_up c.in-Err.error Bad is))
+
+pub loop-preserved : goal.loop-preserved
+loop-preserved c =
+    let pushed = c.in_ok-push-in-Ok.ensures.items in
+    record {
+      count = omega (arith, c.loop.invariant.count, ap length pushed, length-append c.loop.files.items (c.in-Ok.file ∷ []));
+      read = subst (λ (fs : List SourceFile). AreEntries c.args.bytes.now fs c.in-Ok.behind.now) (sym pushed) (entries_push c.args.bytes.now c.loop.files.items c.in-Ok.file c.loop.rest.now c.in-Ok.behind.now c.loop.invariant.read c.in-Ok.ensures.read);
+    }

@@ -1,0 +1,5 @@
+pub mod Cause
+pub mod Laws
+pub mod Plan
+pub mod Reading
+pub mod Recovered

@@ -1,0 +1,5 @@
+//! The worked rows of safe writes and of their recovery.
+#![tactic(auto)]
+
+#[cfg(test)]
+mod tests;
