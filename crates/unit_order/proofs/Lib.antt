@@ -1,5 +1,7 @@
 pub mod Locals
 pub mod Branches
+pub mod Counted
+pub mod Fronts
 pub mod Chains
 pub mod Spread
 pub mod Stuck

@@ -3,12 +3,13 @@
 //! Each function goes down with its tree, so it takes stack at each level: the parsers build no tree that is deeper
 //! than the bound on levels.
 
-ghost use Rattle.std.specs.Prelude.{◌≡◌, OnOk};
+ghost use Rattle.std.specs.Prelude.{◌≡◌, ◌++◌, ◌∷◌, [], OnOk};
 ghost use Rattle.ml_syntax.specs.View.{view, view_binding, view_argument, view_param, view_part, view_field, links, commas, ops, maybe, bindings, view_case, cases, arguments, params, parts, fields};
 ghost use Rattle.unit_order.specs.Heads.{expr_heads, links_heads, maybe_heads, binding_heads, bindings_heads, case_heads, cases_heads, argument_heads, arguments_heads, param_heads, params_heads, part_heads, parts_heads, field_heads, fields_heads};
 
+use crate::bound::Bound;
 use crate::local_heads::local;
-use crate::path::{add_head, add_prefix, with_name};
+use crate::path::{add_head, add_prefix};
 use crate::pattern_heads::pattern;
 use ml_syntax::{Argument, Binding, Case, Expr, Field, Param, Part, Word};
 use rotor_base::{Memory, Name};
@@ -19,11 +20,12 @@ use std::alloc::Global;
 #[tactic(auto, using(ml_syntax::proofs::Variants::expr_views))]
 pub fn expression(
     alloc: Global,
-    bound: &[Name],
+    bound: &mut Bound,
     found: &mut Vec<Name>,
     e: &Expr,
 ) -> Result<(), Memory>
-    ensures { OnOk result (found.new.items ≡ expr_heads bound.now found.old.items (view e.now)) }
+    ensures heads { OnOk result (found.new.items ≡ expr_heads bound.old found.old.items (view e.now)) }
+    ensures kept { OnOk result (bound.new ≡ bound.old) }
 {
     match e {
         Expr::Seq { first, rest, .. } => {
@@ -51,8 +53,7 @@ pub fn expression(
             ..
         } => {
             local(alloc, bound, found, value)?;
-            let inner = with_name(alloc, bound, name.name.as_bytes())?;
-            expression(alloc, &inner, found, body)
+            with_name(alloc, bound, found, name, body)
         }
         Expr::Fun { params, body, .. } => {
             parameters(alloc, bound, found, params)?;
@@ -174,16 +175,37 @@ pub fn expression(
     }
 }
 
+/// Adds the heads of an expression in which a name is bound.
+#[cycle(expression_heads)]
+#[tactic(auto, using(crate::proofs::Fronts::behind_name))]
+fn with_name(
+    alloc: Global,
+    bound: &mut Bound,
+    found: &mut Vec<Name>,
+    name: &Word,
+    body: &Expr,
+) -> Result<(), Memory>
+    ensures heads { OnOk result (found.new.items ≡ expr_heads (bound.old ++ name.now.name ∷ []) found.old.items (view body.now)) }
+    ensures kept { OnOk result (bound.new ≡ bound.old) }
+{
+    let outer = bound.len();
+    bound.push(alloc, name.name.as_bytes())?;
+    expression(alloc, bound, found, body)?;
+    bound.cut(outer);
+    Ok(())
+}
+
 /// Adds the heads of an optional expression.
 #[cycle(expression_heads)]
 #[tactic(auto, using(ml_syntax::proofs::Variants::expr_views))]
 fn optional(
     alloc: Global,
-    bound: &[Name],
+    bound: &mut Bound,
     found: &mut Vec<Name>,
     e: &Option<Box<Expr>>,
 ) -> Result<(), Memory>
-    ensures { OnOk result (found.new.items ≡ maybe_heads bound.now found.old.items (maybe e.now)) }
+    ensures heads { OnOk result (found.new.items ≡ maybe_heads bound.old found.old.items (maybe e.now)) }
+    ensures kept { OnOk result (bound.new ≡ bound.old) }
 {
     match e {
         Some(e) => expression(alloc, bound, found, e),
@@ -196,12 +218,13 @@ fn optional(
 #[tactic(auto, using(ml_syntax::proofs::Variants::expr_views))]
 fn expressions(
     alloc: Global,
-    bound: &[Name],
+    bound: &mut Bound,
     found: &mut Vec<Name>,
     list: &[Expr],
 ) -> Result<(), Memory>
-    ensures links { OnOk result (found.new.items ≡ links_heads bound.now found.old.items (links list.now)) }
-    ensures commas { OnOk result (found.new.items ≡ links_heads bound.now found.old.items (commas list.now)) }
+    ensures links { OnOk result (found.new.items ≡ links_heads bound.old found.old.items (links list.now)) }
+    ensures commas { OnOk result (found.new.items ≡ links_heads bound.old found.old.items (commas list.now)) }
+    ensures kept { OnOk result (bound.new ≡ bound.old) }
 {
     for e in list {
         expression(alloc, bound, found, e)?;
@@ -214,11 +237,12 @@ fn expressions(
 #[tactic(auto, using(ml_syntax::proofs::Variants::expr_views))]
 fn operands(
     alloc: Global,
-    bound: &[Name],
+    bound: &mut Bound,
     found: &mut Vec<Name>,
     list: &[(Word, Expr)],
 ) -> Result<(), Memory>
-    ensures { OnOk result (found.new.items ≡ links_heads bound.now found.old.items (ops list.now)) }
+    ensures heads { OnOk result (found.new.items ≡ links_heads bound.old found.old.items (ops list.now)) }
+    ensures kept { OnOk result (bound.new ≡ bound.old) }
 {
     for link in list {
         expression(alloc, bound, found, &link.1)?;
@@ -230,11 +254,12 @@ fn operands(
 #[tactic(auto, using(ml_syntax::proofs::Variants::expr_views, ml_syntax::proofs::Variants::binding_views))]
 pub fn binding(
     alloc: Global,
-    bound: &[Name],
+    bound: &mut Bound,
     found: &mut Vec<Name>,
     part: &Binding,
 ) -> Result<(), Memory>
-    ensures { OnOk result (found.new.items ≡ binding_heads bound.now found.old.items (view_binding part.now)) }
+    ensures heads { OnOk result (found.new.items ≡ binding_heads bound.old found.old.items (view_binding part.now)) }
+    ensures kept { OnOk result (bound.new ≡ bound.old) }
 {
     match part {
         Binding::Plain { pat, value, .. } => {
@@ -252,11 +277,12 @@ pub fn binding(
 #[tactic(auto, using(ml_syntax::proofs::Variants::expr_views))]
 pub fn more_bindings(
     alloc: Global,
-    bound: &[Name],
+    bound: &mut Bound,
     found: &mut Vec<Name>,
     list: &[Binding],
 ) -> Result<(), Memory>
-    ensures { OnOk result (found.new.items ≡ bindings_heads bound.now found.old.items (bindings list.now)) }
+    ensures heads { OnOk result (found.new.items ≡ bindings_heads bound.old found.old.items (bindings list.now)) }
+    ensures kept { OnOk result (bound.new ≡ bound.old) }
 {
     for part in list {
         binding(alloc, bound, found, part)?;
@@ -266,8 +292,9 @@ pub fn more_bindings(
 
 #[cycle(expression_heads)]
 #[tactic(auto, using(ml_syntax::proofs::Variants::expr_views))]
-fn case(alloc: Global, bound: &[Name], found: &mut Vec<Name>, part: &Case) -> Result<(), Memory>
-    ensures { OnOk result (found.new.items ≡ case_heads bound.now found.old.items (view_case part.now)) }
+fn case(alloc: Global, bound: &mut Bound, found: &mut Vec<Name>, part: &Case) -> Result<(), Memory>
+    ensures heads { OnOk result (found.new.items ≡ case_heads bound.old found.old.items (view_case part.now)) }
+    ensures kept { OnOk result (bound.new ≡ bound.old) }
 {
     pattern(alloc, bound, found, &part.pat)?;
     optional(alloc, bound, found, &part.guard)?;
@@ -278,11 +305,12 @@ fn case(alloc: Global, bound: &[Name], found: &mut Vec<Name>, part: &Case) -> Re
 #[tactic(auto, using(ml_syntax::proofs::Variants::expr_views))]
 fn more_cases(
     alloc: Global,
-    bound: &[Name],
+    bound: &mut Bound,
     found: &mut Vec<Name>,
     list: &[Case],
 ) -> Result<(), Memory>
-    ensures { OnOk result (found.new.items ≡ cases_heads bound.now found.old.items (cases list.now)) }
+    ensures heads { OnOk result (found.new.items ≡ cases_heads bound.old found.old.items (cases list.now)) }
+    ensures kept { OnOk result (bound.new ≡ bound.old) }
 {
     for part in list {
         case(alloc, bound, found, part)?;
@@ -294,11 +322,12 @@ fn more_cases(
 #[tactic(auto, using(ml_syntax::proofs::Variants::argument_views))]
 fn argument(
     alloc: Global,
-    bound: &[Name],
+    bound: &mut Bound,
     found: &mut Vec<Name>,
     part: &Argument,
 ) -> Result<(), Memory>
-    ensures { OnOk result (found.new.items ≡ argument_heads bound.now found.old.items (view_argument part.now)) }
+    ensures heads { OnOk result (found.new.items ≡ argument_heads bound.old found.old.items (view_argument part.now)) }
+    ensures kept { OnOk result (bound.new ≡ bound.old) }
 {
     match part {
         Argument::Positional(e) => expression(alloc, bound, found, e),
@@ -311,11 +340,12 @@ fn argument(
 #[tactic(auto, using(ml_syntax::proofs::Variants::argument_views))]
 fn all_arguments(
     alloc: Global,
-    bound: &[Name],
+    bound: &mut Bound,
     found: &mut Vec<Name>,
     list: &[Argument],
 ) -> Result<(), Memory>
-    ensures { OnOk result (found.new.items ≡ arguments_heads bound.now found.old.items (arguments list.now)) }
+    ensures heads { OnOk result (found.new.items ≡ arguments_heads bound.old found.old.items (arguments list.now)) }
+    ensures kept { OnOk result (bound.new ≡ bound.old) }
 {
     for part in list {
         argument(alloc, bound, found, part)?;
@@ -327,11 +357,12 @@ fn all_arguments(
 #[tactic(auto, using(ml_syntax::proofs::Variants::param_views))]
 fn parameter(
     alloc: Global,
-    bound: &[Name],
+    bound: &mut Bound,
     found: &mut Vec<Name>,
     part: &Param,
 ) -> Result<(), Memory>
-    ensures { OnOk result (found.new.items ≡ param_heads bound.now found.old.items (view_param part.now)) }
+    ensures heads { OnOk result (found.new.items ≡ param_heads bound.old found.old.items (view_param part.now)) }
+    ensures kept { OnOk result (bound.new ≡ bound.old) }
 {
     match part {
         Param::Pattern(pat) => pattern(alloc, bound, found, pat),
@@ -351,11 +382,12 @@ fn parameter(
 #[tactic(auto, using(ml_syntax::proofs::Variants::param_views))]
 fn parameters(
     alloc: Global,
-    bound: &[Name],
+    bound: &mut Bound,
     found: &mut Vec<Name>,
     list: &[Param],
 ) -> Result<(), Memory>
-    ensures { OnOk result (found.new.items ≡ params_heads bound.now found.old.items (params list.now)) }
+    ensures heads { OnOk result (found.new.items ≡ params_heads bound.old found.old.items (params list.now)) }
+    ensures kept { OnOk result (bound.new ≡ bound.old) }
 {
     for part in list {
         parameter(alloc, bound, found, part)?;
@@ -365,8 +397,9 @@ fn parameters(
 
 #[cycle(expression_heads)]
 #[tactic(auto, using(ml_syntax::proofs::Variants::part_views))]
-fn part(alloc: Global, bound: &[Name], found: &mut Vec<Name>, part: &Part) -> Result<(), Memory>
-    ensures { OnOk result (found.new.items ≡ part_heads bound.now found.old.items (view_part part.now)) }
+fn part(alloc: Global, bound: &mut Bound, found: &mut Vec<Name>, part: &Part) -> Result<(), Memory>
+    ensures heads { OnOk result (found.new.items ≡ part_heads bound.old found.old.items (view_part part.now)) }
+    ensures kept { OnOk result (bound.new ≡ bound.old) }
 {
     match part {
         Part::Select { path, .. } => add_head(alloc, bound, found, path),
@@ -379,11 +412,12 @@ fn part(alloc: Global, bound: &[Name], found: &mut Vec<Name>, part: &Part) -> Re
 #[tactic(auto, using(ml_syntax::proofs::Variants::part_views))]
 fn all_parts(
     alloc: Global,
-    bound: &[Name],
+    bound: &mut Bound,
     found: &mut Vec<Name>,
     list: &[Part],
 ) -> Result<(), Memory>
-    ensures { OnOk result (found.new.items ≡ parts_heads bound.now found.old.items (parts list.now)) }
+    ensures heads { OnOk result (found.new.items ≡ parts_heads bound.old found.old.items (parts list.now)) }
+    ensures kept { OnOk result (bound.new ≡ bound.old) }
 {
     for one in list {
         part(alloc, bound, found, one)?;
@@ -393,8 +427,14 @@ fn all_parts(
 
 #[cycle(expression_heads)]
 #[tactic(auto, using(ml_syntax::proofs::Variants::field_views))]
-fn field(alloc: Global, bound: &[Name], found: &mut Vec<Name>, part: &Field) -> Result<(), Memory>
-    ensures { OnOk result (found.new.items ≡ field_heads bound.now found.old.items (view_field part.now)) }
+fn field(
+    alloc: Global,
+    bound: &mut Bound,
+    found: &mut Vec<Name>,
+    part: &Field,
+) -> Result<(), Memory>
+    ensures heads { OnOk result (found.new.items ≡ field_heads bound.old found.old.items (view_field part.now)) }
+    ensures kept { OnOk result (bound.new ≡ bound.old) }
 {
     match part {
         Field::FieldPun { path, .. } => add_head(alloc, bound, found, path),
@@ -409,11 +449,12 @@ fn field(alloc: Global, bound: &[Name], found: &mut Vec<Name>, part: &Field) -> 
 #[tactic(auto, using(ml_syntax::proofs::Variants::field_views))]
 fn more_fields(
     alloc: Global,
-    bound: &[Name],
+    bound: &mut Bound,
     found: &mut Vec<Name>,
     list: &[Field],
 ) -> Result<(), Memory>
-    ensures { OnOk result (found.new.items ≡ fields_heads bound.now found.old.items (fields list.now)) }
+    ensures heads { OnOk result (found.new.items ≡ fields_heads bound.old found.old.items (fields list.now)) }
+    ensures kept { OnOk result (bound.new ≡ bound.old) }
 {
     for part in list {
         field(alloc, bound, found, part)?;

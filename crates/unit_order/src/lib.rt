@@ -1,6 +1,8 @@
 //! The order in which units are linked.
 #![tactic(auto)]
 
+mod bound;
+mod counts;
 mod cycle;
 mod expression_heads;
 mod link_order;

@@ -8,6 +8,7 @@ ghost use Rattle.ml_syntax.specs.Tree.{no_local};
 ghost use Rattle.ml_syntax.specs.View.{view_local, view_local_then, locals};
 ghost use Rattle.unit_order.specs.Heads.{local_heads, locals_heads};
 
+use crate::bound::Bound;
 use crate::path::add_head;
 use ml_syntax::{LocalArgument, LocalModule};
 use rotor_base::{Memory, Name};
@@ -18,7 +19,7 @@ use std::alloc::Global;
 #[tactic(auto, using(crate::proofs::Locals::local_views))]
 pub fn local(
     alloc: Global,
-    bound: &[Name],
+    bound: &Bound,
     found: &mut Vec<Name>,
     m: &LocalModule,
 ) -> Result<(), Memory>
@@ -32,7 +33,7 @@ pub fn local(
 #[tactic(auto, using(crate::proofs::Locals::local_views))]
 fn argument(
     alloc: Global,
-    bound: &[Name],
+    bound: &Bound,
     found: &mut Vec<Name>,
     part: &LocalArgument,
 ) -> Result<(), Memory>
@@ -48,7 +49,7 @@ fn argument(
 #[tactic(auto, using(crate::proofs::Locals::local_then))]
 fn arguments(
     alloc: Global,
-    bound: &[Name],
+    bound: &Bound,
     found: &mut Vec<Name>,
     list: &[LocalArgument],
 ) -> Result<(), Memory>

@@ -3,20 +3,21 @@
 //! Each function goes down with its tree, so it takes stack at each level: the parsers build no tree that is deeper
 //! than the bound on levels.
 
-ghost use Rattle.std.specs.Prelude.{◌≡◌, OnOk, IfOk};
+ghost use Rattle.std.specs.Prelude.{◌≡◌, OnOk};
 ghost use Rattle.ml_syntax.specs.View.{view_mod, view_mod_argument, view_functor_param, view_mod_type, view_item, view_sig_item, mod_arguments, functor_params, signature, items, sig_items};
 ghost use Rattle.unit_order.specs.Heads.{bound_by_param, bound_by_params, bound_by_item, bound_by_sig_item, mod_heads, mod_argument_heads, mod_arguments_heads, functor_param_heads, functor_params_heads, mod_type_heads, signature_heads, item_heads, items_heads, sig_item_heads, sig_items_heads};
 
+use crate::bound::Bound;
 use crate::expression_heads::{binding, expression, more_bindings};
-use crate::path::{add_head, add_prefix, bind, copy};
+use crate::path::{add_head, add_prefix, bind};
 use ml_syntax::{FunctorParam, Item, ModArgument, ModExpr, ModType, SigItem};
 use rotor_base::{Memory, Name};
 use std::alloc::Global;
 
 /// Adds the name that a parameter of a functor binds.
 #[tactic(auto, using(ml_syntax::proofs::Variants::functor_param_views))]
-fn bind_parameter(alloc: Global, bound: &mut Vec<Name>, part: &FunctorParam) -> Result<(), Memory>
-    ensures { OnOk result (bound.new.items ≡ bound_by_param bound.old.items (view_functor_param part.now)) }
+fn bind_parameter(alloc: Global, bound: &mut Bound, part: &FunctorParam) -> Result<(), Memory>
+    ensures { OnOk result (bound.new ≡ bound_by_param bound.old (view_functor_param part.now)) }
 {
     match part {
         FunctorParam::Named { name, .. } => bind(alloc, bound, name),
@@ -24,22 +25,10 @@ fn bind_parameter(alloc: Global, bound: &mut Vec<Name>, part: &FunctorParam) -> 
     }
 }
 
-/// The names that are bound behind the parameters of a functor.
-#[tactic(auto, using(ml_syntax::proofs::Variants::functor_param_views))]
-fn bound_behind(alloc: Global, bound: &[Name], list: &[FunctorParam]) -> Result<Vec<Name>, Memory>
-    ensures { IfOk result (λ names. names.items ≡ bound_by_params bound.now (functor_params list.now)) }
-{
-    let mut names = copy(alloc, bound)?;
-    for part in list {
-        bind_parameter(alloc, &mut names, part)?;
-    }
-    Ok(names)
-}
-
 /// Adds the name that an item of a structure binds.
 #[tactic(auto, using(ml_syntax::proofs::Variants::item_views))]
-fn bind_item(alloc: Global, bound: &mut Vec<Name>, part: &Item) -> Result<(), Memory>
-    ensures { OnOk result (bound.new.items ≡ bound_by_item bound.old.items (view_item part.now)) }
+fn bind_item(alloc: Global, bound: &mut Bound, part: &Item) -> Result<(), Memory>
+    ensures { OnOk result (bound.new ≡ bound_by_item bound.old (view_item part.now)) }
 {
     match part {
         Item::Module { name, .. } => bind(alloc, bound, name),
@@ -57,15 +46,12 @@ fn bind_item(alloc: Global, bound: &mut Vec<Name>, part: &Item) -> Result<(), Me
 
 /// Adds the name that an item of a signature binds.
 #[tactic(auto, using(ml_syntax::proofs::Variants::sig_item_views))]
-fn bind_signature_item(alloc: Global, bound: &mut Vec<Name>, part: &SigItem) -> Result<(), Memory>
-    ensures { OnOk result (bound.new.items ≡ bound_by_sig_item bound.old.items (view_sig_item part.now)) }
+fn bind_signature_item(alloc: Global, bound: &mut Bound, part: &SigItem) -> Result<(), Memory>
+    ensures { OnOk result (bound.new ≡ bound_by_sig_item bound.old (view_sig_item part.now)) }
 {
     match part {
         SigItem::SigModule { name, .. } => bind(alloc, bound, name),
-        SigItem::Alias { name, .. } => {
-            bound.push(Name::new(alloc, name.name.as_bytes())?)?;
-            Ok(())
-        }
+        SigItem::Alias { name, .. } => bound.push(alloc, name.name.as_bytes()),
         SigItem::SigSeparator => Ok(()),
         SigItem::Val { .. } => Ok(()),
         SigItem::SigExternal(_) => Ok(()),
@@ -79,17 +65,25 @@ fn bind_signature_item(alloc: Global, bound: &mut Vec<Name>, part: &SigItem) -> 
 
 /// Adds the heads of a module expression.
 #[cycle(module_heads)]
-#[tactic(auto, using(ml_syntax::proofs::Variants::mod_expr_views))]
-fn module(alloc: Global, bound: &[Name], found: &mut Vec<Name>, m: &ModExpr) -> Result<(), Memory>
-    ensures { OnOk result (found.new.items ≡ mod_heads bound.now found.old.items (view_mod m.now)) }
+#[tactic(auto, using(ml_syntax::proofs::Variants::mod_expr_views, crate::proofs::Fronts::fronts))]
+fn module(
+    alloc: Global,
+    bound: &mut Bound,
+    found: &mut Vec<Name>,
+    m: &ModExpr,
+) -> Result<(), Memory>
+    ensures heads { OnOk result (found.new.items ≡ mod_heads bound.old found.old.items (view_mod m.now)) }
+    ensures kept { OnOk result (bound.new ≡ bound.old) }
 {
     match m {
         ModExpr::ModPath(path) => add_head(alloc, bound, found, &path.words),
         ModExpr::Struct { items, .. } => body(alloc, bound, found, items),
         ModExpr::Functor { params, body, .. } => {
+            let outer = bound.len();
             parameters(alloc, bound, found, params)?;
-            let inner = bound_behind(alloc, bound, params)?;
-            module(alloc, &inner, found, body)
+            module(alloc, bound, found, body)?;
+            bound.cut(outer);
+            Ok(())
         }
         ModExpr::Apply {
             function,
@@ -114,11 +108,12 @@ fn module(alloc: Global, bound: &[Name], found: &mut Vec<Name>, m: &ModExpr) -> 
 #[tactic(auto, using(ml_syntax::proofs::Variants::mod_argument_views))]
 fn argument(
     alloc: Global,
-    bound: &[Name],
+    bound: &mut Bound,
     found: &mut Vec<Name>,
     part: &ModArgument,
 ) -> Result<(), Memory>
-    ensures { OnOk result (found.new.items ≡ mod_argument_heads bound.now found.old.items (view_mod_argument part.now)) }
+    ensures heads { OnOk result (found.new.items ≡ mod_argument_heads bound.old found.old.items (view_mod_argument part.now)) }
+    ensures kept { OnOk result (bound.new ≡ bound.old) }
 {
     match part {
         ModArgument::Given { module: m, .. } => module(alloc, bound, found, m),
@@ -138,11 +133,12 @@ fn argument(
 #[tactic(auto, using(ml_syntax::proofs::Variants::mod_argument_views))]
 fn all_arguments(
     alloc: Global,
-    bound: &[Name],
+    bound: &mut Bound,
     found: &mut Vec<Name>,
     list: &[ModArgument],
 ) -> Result<(), Memory>
-    ensures { OnOk result (found.new.items ≡ mod_arguments_heads bound.now found.old.items (mod_arguments list.now)) }
+    ensures heads { OnOk result (found.new.items ≡ mod_arguments_heads bound.old found.old.items (mod_arguments list.now)) }
+    ensures kept { OnOk result (bound.new ≡ bound.old) }
 {
     for part in list {
         argument(alloc, bound, found, part)?;
@@ -154,11 +150,12 @@ fn all_arguments(
 #[tactic(auto, using(ml_syntax::proofs::Variants::functor_param_views))]
 fn parameter(
     alloc: Global,
-    bound: &[Name],
+    bound: &mut Bound,
     found: &mut Vec<Name>,
     part: &FunctorParam,
 ) -> Result<(), Memory>
-    ensures { OnOk result (found.new.items ≡ functor_param_heads bound.now found.old.items (view_functor_param part.now)) }
+    ensures heads { OnOk result (found.new.items ≡ functor_param_heads bound.old found.old.items (view_functor_param part.now)) }
+    ensures kept { OnOk result (bound.new ≡ bound.old) }
 {
     match part {
         FunctorParam::Named { signature, .. } => module_type(alloc, bound, found, signature),
@@ -170,30 +167,31 @@ fn parameter(
 #[tactic(auto, using(ml_syntax::proofs::Variants::functor_param_views))]
 fn parameters(
     alloc: Global,
-    bound: &[Name],
+    bound: &mut Bound,
     found: &mut Vec<Name>,
     list: &[FunctorParam],
 ) -> Result<(), Memory>
-    ensures { OnOk result (found.new.items ≡ functor_params_heads bound.now found.old.items (functor_params list.now)) }
+    ensures heads { OnOk result (found.new.items ≡ functor_params_heads bound.old found.old.items (functor_params list.now)) }
+    ensures binds { OnOk result (bound.new ≡ bound_by_params bound.old (functor_params list.now)) }
 {
-    let mut inner = copy(alloc, bound)?;
     for part in list {
-        parameter(alloc, &inner, found, part)?;
-        bind_parameter(alloc, &mut inner, part)?;
+        parameter(alloc, bound, found, part)?;
+        bind_parameter(alloc, bound, part)?;
     }
     Ok(())
 }
 
 /// Adds the heads of a module type.
 #[cycle(module_heads)]
-#[tactic(auto, using(ml_syntax::proofs::Variants::mod_type_views))]
+#[tactic(auto, using(ml_syntax::proofs::Variants::mod_type_views, crate::proofs::Fronts::fronts))]
 fn module_type(
     alloc: Global,
-    bound: &[Name],
+    bound: &mut Bound,
     found: &mut Vec<Name>,
     s: &ModType,
 ) -> Result<(), Memory>
-    ensures { OnOk result (found.new.items ≡ mod_type_heads bound.now found.old.items (view_mod_type s.now)) }
+    ensures heads { OnOk result (found.new.items ≡ mod_type_heads bound.old found.old.items (view_mod_type s.now)) }
+    ensures kept { OnOk result (bound.new ≡ bound.old) }
 {
     match s {
         ModType::TypePath(path) => add_prefix(alloc, bound, found, &path.words),
@@ -202,15 +200,19 @@ fn module_type(
         ModType::TypeParen { body, .. } => module_type(alloc, bound, found, body),
         ModType::With { body, .. } => module_type(alloc, bound, found, body),
         ModType::FunctorType { params, result, .. } => {
+            let outer = bound.len();
             parameters(alloc, bound, found, params)?;
-            let inner = bound_behind(alloc, bound, params)?;
-            module_type(alloc, &inner, found, result)
+            module_type(alloc, bound, found, result)?;
+            bound.cut(outer);
+            Ok(())
         }
         ModType::ParamArrow { param, result } => {
+            let outer = bound.len();
             parameter(alloc, bound, found, param)?;
-            let mut inner = copy(alloc, bound)?;
-            bind_parameter(alloc, &mut inner, param)?;
-            module_type(alloc, &inner, found, result)
+            bind_parameter(alloc, bound, param)?;
+            module_type(alloc, bound, found, result)?;
+            bound.cut(outer);
+            Ok(())
         }
         ModType::Arrow { param, result } => {
             module_type(alloc, bound, found, param)?;
@@ -223,11 +225,12 @@ fn module_type(
 #[tactic(auto, using(ml_syntax::proofs::Variants::mod_type_views))]
 fn optional(
     alloc: Global,
-    bound: &[Name],
+    bound: &mut Bound,
     found: &mut Vec<Name>,
     s: &Option<Box<ModType>>,
 ) -> Result<(), Memory>
-    ensures { OnOk result (found.new.items ≡ signature_heads bound.now found.old.items (signature s.now)) }
+    ensures heads { OnOk result (found.new.items ≡ signature_heads bound.old found.old.items (signature s.now)) }
+    ensures kept { OnOk result (bound.new ≡ bound.old) }
 {
     match s {
         Some(s) => module_type(alloc, bound, found, s),
@@ -237,9 +240,10 @@ fn optional(
 
 /// Adds the heads of an item of a structure.
 #[cycle(module_heads)]
-#[tactic(auto, using(ml_syntax::proofs::Variants::item_views))]
-fn item(alloc: Global, bound: &[Name], found: &mut Vec<Name>, part: &Item) -> Result<(), Memory>
-    ensures { OnOk result (found.new.items ≡ item_heads bound.now found.old.items (view_item part.now)) }
+#[tactic(auto, using(ml_syntax::proofs::Variants::item_views, crate::proofs::Fronts::fronts))]
+fn item(alloc: Global, bound: &mut Bound, found: &mut Vec<Name>, part: &Item) -> Result<(), Memory>
+    ensures heads { OnOk result (found.new.items ≡ item_heads bound.old found.old.items (view_item part.now)) }
+    ensures kept { OnOk result (bound.new ≡ bound.old) }
 {
     match part {
         Item::Expression(e) => expression(alloc, bound, found, e),
@@ -257,10 +261,12 @@ fn item(alloc: Global, bound: &[Name], found: &mut Vec<Name>, part: &Item) -> Re
             body,
             ..
         } => {
+            let outer = bound.len();
             parameters(alloc, bound, found, params)?;
-            let inner = bound_behind(alloc, bound, params)?;
-            optional(alloc, &inner, found, signature)?;
-            module(alloc, &inner, found, body)
+            optional(alloc, bound, found, signature)?;
+            module(alloc, bound, found, body)?;
+            bound.cut(outer);
+            Ok(())
         }
         Item::ModuleType { signature, .. } => module_type(alloc, bound, found, signature),
         Item::Open(opened) => add_head(alloc, bound, found, &opened.path.words),
@@ -270,33 +276,36 @@ fn item(alloc: Global, bound: &[Name], found: &mut Vec<Name>, part: &Item) -> Re
 
 /// Adds the heads of the items of a structure.
 #[cycle(module_heads)]
-#[tactic(auto, using(ml_syntax::proofs::Variants::item_views))]
+#[tactic(auto, using(ml_syntax::proofs::Variants::item_views, crate::proofs::Fronts::front_of_item))]
 pub fn body(
     alloc: Global,
-    bound: &[Name],
+    bound: &mut Bound,
     found: &mut Vec<Name>,
     list: &[Item],
 ) -> Result<(), Memory>
-    ensures { OnOk result (found.new.items ≡ items_heads bound.now found.old.items (items list.now)) }
+    ensures heads { OnOk result (found.new.items ≡ items_heads bound.old found.old.items (items list.now)) }
+    ensures kept { OnOk result (bound.new ≡ bound.old) }
 {
-    let mut inner = copy(alloc, bound)?;
+    let outer = bound.len();
     for part in list {
-        item(alloc, &inner, found, part)?;
-        bind_item(alloc, &mut inner, part)?;
+        item(alloc, bound, found, part)?;
+        bind_item(alloc, bound, part)?;
     }
+    bound.cut(outer);
     Ok(())
 }
 
 /// Adds the heads of an item of a signature.
 #[cycle(module_heads)]
-#[tactic(auto, using(ml_syntax::proofs::Variants::sig_item_views))]
+#[tactic(auto, using(ml_syntax::proofs::Variants::sig_item_views, crate::proofs::Fronts::fronts))]
 fn signature_item(
     alloc: Global,
-    bound: &[Name],
+    bound: &mut Bound,
     found: &mut Vec<Name>,
     part: &SigItem,
 ) -> Result<(), Memory>
-    ensures { OnOk result (found.new.items ≡ sig_item_heads bound.now found.old.items (view_sig_item part.now)) }
+    ensures heads { OnOk result (found.new.items ≡ sig_item_heads bound.old found.old.items (view_sig_item part.now)) }
+    ensures kept { OnOk result (bound.new ≡ bound.old) }
 {
     match part {
         SigItem::SigSeparator => Ok(()),
@@ -309,9 +318,11 @@ fn signature_item(
             signature,
             ..
         } => {
+            let outer = bound.len();
             parameters(alloc, bound, found, params)?;
-            let inner = bound_behind(alloc, bound, params)?;
-            module_type(alloc, &inner, found, signature)
+            module_type(alloc, bound, found, signature)?;
+            bound.cut(outer);
+            Ok(())
         }
         SigItem::Alias { path, .. } => add_head(alloc, bound, found, &path.words),
         SigItem::SigModuleType { signature, .. } => module_type(alloc, bound, found, signature),
@@ -322,19 +333,21 @@ fn signature_item(
 
 /// Adds the heads of the items of a signature.
 #[cycle(module_heads)]
-#[tactic(auto, using(ml_syntax::proofs::Variants::sig_item_views))]
+#[tactic(auto, using(ml_syntax::proofs::Variants::sig_item_views, crate::proofs::Fronts::front_of_sig_item))]
 pub fn face(
     alloc: Global,
-    bound: &[Name],
+    bound: &mut Bound,
     found: &mut Vec<Name>,
     list: &[SigItem],
 ) -> Result<(), Memory>
-    ensures { OnOk result (found.new.items ≡ sig_items_heads bound.now found.old.items (sig_items list.now)) }
+    ensures heads { OnOk result (found.new.items ≡ sig_items_heads bound.old found.old.items (sig_items list.now)) }
+    ensures kept { OnOk result (bound.new ≡ bound.old) }
 {
-    let mut inner = copy(alloc, bound)?;
+    let outer = bound.len();
     for part in list {
-        signature_item(alloc, &inner, found, part)?;
-        bind_signature_item(alloc, &mut inner, part)?;
+        signature_item(alloc, bound, found, part)?;
+        bind_signature_item(alloc, bound, part)?;
     }
+    bound.cut(outer);
     Ok(())
 }

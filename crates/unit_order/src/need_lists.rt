@@ -1,14 +1,15 @@
 //! Which units need which.
 
-ghost use Rattle.std.specs.Prelude.{◌≡◌, ◌&&◌, ◌+◌, ◌<◌, ℕ, IfOk, OnOk, All, cond, count_by, length, map, nat_eq, not};
+ghost use Rattle.std.specs.Prelude.{◌≡◌, ◌&&◌, ◌+◌, ◌<◌, ℕ, List, IfOk, OnOk, All, cond, count_by, length, map, nat_eq, not};
 ghost use Rattle.ml_syntax.specs.View.{view_unit};
 ghost use Rattle.std.specs.Str.{bytes_eq};
-ghost use Rattle.unit_order.specs.Heads.{is_among};
+ghost use Rattle.unit_order.specs.Counts.{AreCounts};
+ghost use Rattle.unit_order.specs.Heads.{is_among, unit_heads};
 ghost use Rattle.unit_order.specs.Order.{needs_unit};
 ghost use Rattle.unit_order.specs.Positions.{views};
 ghost use Rattle.unit_order.specs.Needs.{need_table, positions_from, times};
 
-use crate::path::is_bound;
+use crate::counts::Counts;
 use crate::unit_needs::needs;
 use ml_syntax::UnitTree;
 use rotor_base::{Memory, Name};
@@ -29,11 +30,8 @@ pub fn need_lists(alloc: Global, units: &[UnitTree]) -> Result<Vec<Vec<usize>>, 
 fn need_list(alloc: Global, unit: &UnitTree, units: &[UnitTree]) -> Result<Vec<usize>, Memory>
     ensures { IfOk result (λ list. list.items ≡ positions_from 0 (map (λ v. needs_unit (view_unit unit.now) v.name) units.now)) }
 {
-    let heads = needs(alloc, unit)?;
+    let heads = head_counts(alloc, unit)?;
     let mut list = Vec::new(alloc);
-    if heads.is_empty() {
-        return Ok(list);
-    }
     for at in 0..units.len() {
         if is_needed(&heads, unit.name.as_bytes(), units[at].name.as_bytes()) {
             list.push(at)?;
@@ -42,11 +40,30 @@ fn need_list(alloc: Global, unit: &UnitTree, units: &[UnitTree]) -> Result<Vec<u
     Ok(list)
 }
 
-/// Whether a name is one of these heads, and not the unit's own.
-fn is_needed(heads: &[Name], own: &[u8], name: &[u8]) -> bool
-    ensures { result ≡ (is_among heads.now name.now && not (bytes_eq name.now own.now)) }
+/// How often each name is in a list.
+fn counts_of(alloc: Global, names: &[Name]) -> Result<Counts, Memory>
+    ensures { IfOk result (λ counts. AreCounts counts names.now) }
 {
-    is_bound(heads, name) && name != own
+    let mut counts = Counts::new(alloc);
+    for name in names {
+        counts.add(alloc, name.as_bytes())?;
+    }
+    Ok(counts)
+}
+
+/// How often each name is a head of a unit.
+fn head_counts(alloc: Global, unit: &UnitTree) -> Result<Counts, Memory>
+    ensures { IfOk result (λ counts. AreCounts counts (unit_heads (view_unit unit.now))) }
+{
+    let heads = needs(alloc, unit)?;
+    counts_of(alloc, &heads)
+}
+
+/// Whether a name is one of the heads that are counted, and not the unit's own.
+fn is_needed(heads: &Counts, own: &[u8], name: &[u8]) -> bool
+    ensures { (names : List (List ℕ)) → AreCounts heads.now names → result ≡ (is_among names name.now && not (bytes_eq name.now own.now)) }
+{
+    heads.contains(name) && name != own
 }
 
 /// For each unit, the positions of those that need it.

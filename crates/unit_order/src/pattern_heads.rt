@@ -7,6 +7,7 @@ ghost use Rattle.std.specs.Prelude.{◌≡◌, OnOk};
 ghost use Rattle.ml_syntax.specs.View.{view_pat, view_pat_field, pats, pat_fields};
 ghost use Rattle.unit_order.specs.Heads.{pat_heads, pats_heads, pat_field_heads, pat_fields_heads};
 
+use crate::bound::Bound;
 use crate::path::{add_head, add_prefix};
 use ml_syntax::{Pat, PatField};
 use rotor_base::{Memory, Name};
@@ -15,12 +16,7 @@ use std::alloc::Global;
 /// Adds the heads of a pattern.
 #[cycle(pattern_heads)]
 #[tactic(auto, using(ml_syntax::proofs::Variants::pat_views, ml_syntax::proofs::Variants::pat_field_views))]
-pub fn pattern(
-    alloc: Global,
-    bound: &[Name],
-    found: &mut Vec<Name>,
-    pat: &Pat,
-) -> Result<(), Memory>
+pub fn pattern(alloc: Global, bound: &Bound, found: &mut Vec<Name>, pat: &Pat) -> Result<(), Memory>
     ensures { OnOk result (found.new.items ≡ pat_heads bound.now found.old.items (view_pat pat.now)) }
 {
     match pat {
@@ -73,12 +69,7 @@ pub fn pattern(
 
 #[cycle(pattern_heads)]
 #[tactic(auto, using(ml_syntax::proofs::Variants::pat_views, ml_syntax::proofs::Variants::pat_field_views))]
-fn patterns(
-    alloc: Global,
-    bound: &[Name],
-    found: &mut Vec<Name>,
-    list: &[Pat],
-) -> Result<(), Memory>
+fn patterns(alloc: Global, bound: &Bound, found: &mut Vec<Name>, list: &[Pat]) -> Result<(), Memory>
     ensures { OnOk result (found.new.items ≡ pats_heads bound.now found.old.items (pats list.now)) }
 {
     for pat in list {
@@ -91,7 +82,7 @@ fn patterns(
 #[tactic(auto, using(ml_syntax::proofs::Variants::pat_views, ml_syntax::proofs::Variants::pat_field_views))]
 fn field(
     alloc: Global,
-    bound: &[Name],
+    bound: &Bound,
     found: &mut Vec<Name>,
     field: &PatField,
 ) -> Result<(), Memory>
@@ -110,7 +101,7 @@ fn field(
 #[tactic(auto, using(ml_syntax::proofs::Variants::pat_views, ml_syntax::proofs::Variants::pat_field_views))]
 fn fields(
     alloc: Global,
-    bound: &[Name],
+    bound: &Bound,
     found: &mut Vec<Name>,
     list: &[PatField],
 ) -> Result<(), Memory>

@@ -4,6 +4,7 @@ ghost use Rattle.std.specs.Prelude.{◌≡◌, OnOk, IfOk};
 ghost use Rattle.ml_syntax.specs.View.{view_part_of, view_unit};
 ghost use Rattle.unit_order.specs.Heads.{file_heads, unit_heads};
 
+use crate::bound::Bound;
 use crate::module_heads::{body, face};
 use ml_syntax::{FileTree, UnitTree};
 use rotor_base::{Memory, Name};
@@ -30,7 +31,7 @@ fn add_file(alloc: Global, found: &mut Vec<Name>, file: &Option<FileTree>) -> Re
 {
     match file {
         None => Ok(()),
-        Some(FileTree::Body(_, items)) => body(alloc, &[], found, items),
-        Some(FileTree::Face(_, items)) => face(alloc, &[], found, items),
+        Some(FileTree::Body(_, items)) => body(alloc, &mut Bound::new(alloc), found, items),
+        Some(FileTree::Face(_, items)) => face(alloc, &mut Bound::new(alloc), found, items),
     }
 }

@@ -1,4 +1,4 @@
--- What `order` asks of the units `A`, `B` and `C`.
+-- The conditions of `order` on the units `A`, `B` and `C`.
 use Rattle.std.proofs.Common.{◌≡◌, ℕ, List, [], ◌∷◌, Some, None, true, codes, length, ◌<◌, map, refl, sym, subst, ap, ◌∙◌, arith}
 use Rattle.std.proofs.lemmas.List.{length-map}
 use Rattle.std.specs.List.Sorted.{IsStrictlySortedBy}

@@ -59,7 +59,7 @@ fn listed(alloc: Global, modules: [&[&str]; 3]) -> Result<String, Fail> {
 const ORDERS: [([&[&str]; 3], &str); 6] = [
     // no needs: byte order; a module outside and the unit itself count for nothing
     ([&[], &["List"], &["C"]], " 0 1 2"),
-    // a unit comes behind those that it needs
+    // a unit is behind those that it needs
     ([&["B", "B"], &["C"], &[]], " 2 1 0"),
     // each time the first in byte order: `A` before `C` once `B` is taken
     ([&["B"], &[], &["A"]], " 1 0 2"),

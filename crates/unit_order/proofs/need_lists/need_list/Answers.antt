@@ -10,11 +10,6 @@ use Rattle.unit_order.proofs.Table.{no_needs, positions_more}
 use Rattle.unit_order.proofs.need_lists.need_list.Goals.{then-is_needed+in_ok-push, else-is_needed}
 use Rattle.unit_order.proofs.need_lists.need_list.Goals as goal
 
-pub returns-then-is_empty : goal.returns-then-is_empty
-returns-then-is_empty c =
-    let none : c.in_ok-heads.heads.items ≡ [] = grind (arith, common_steps) in
-    c.new-list.ensures.items ∙ sym (no_needs (view_unit c.args.unit.now) c.args.units.now 0 (sym c.in_ok-heads.ensures ∙ none))
-
 pub loop-at-preserved : goal.loop-at-preserved
 loop-at-preserved c =
     let u = view_unit c.args.unit.now in
@@ -26,8 +21,7 @@ loop-at-preserved c =
     let lt : at < length units = omega (arith, c.loop-at-test.true) in
     let other = (get_or units at c.index-units-at.result).name in
     let entry : c.is_needed.result ≡ get_or row at false =
-    c.is_needed.ensures
-    ∙ ap (λ heads. is_among heads c.as_bytes-in-loop-at.result.now && not (bytes_eq c.as_bytes-in-loop-at.result.now c.as_bytes.result.now)) (c.deref.ensures.value ∙ c.in_ok-heads.ensures)
+    c.is_needed.ensures (unit_heads u) c.in_ok-heads.ensures
     ∙ ap (λ name. is_among (unit_heads u) name && not (bytes_eq name c.as_bytes.result.now)) c.as_bytes-in-loop-at.ensures
     ∙ ap (λ own. is_among (unit_heads u) other && not (bytes_eq other own)) c.as_bytes.ensures
     ∙ sym (get_or-map (λ v. needs_unit u v.name) units at c.index-units-at.result false lt) in
