@@ -28,7 +28,8 @@ use Rattle.rename_steps.specs.Findings.{IsFree, IsRefused}
 use Rattle.rename_steps.specs.Sources.{AreMade}
 use Rattle.rename_steps.proofs.Bridge.{watched, all_made}
 use Rattle.rename_steps.proofs.Rungs.{past_six, none_met, Rest}
-use Rattle.rename_files.specs.Steps.{IsRefusedFor, IsFreeOf, LastRungs}
+use Rattle.rename_project.specs.Steps.{IsRefusedFor, IsFreeOf}
+use Rattle.rename_files.specs.Steps.{LastRungs}
 
 -- a watch is that of its binder
 pub watch_is : (us : List UnitTree) (d : Place) (w : Watch) → w.old ≡ name_of us d → w ≡ watch_of us d w.foot w.new

@@ -1,6 +1,5 @@
 pub mod Refusals
-pub mod Cuts
-pub mod Aimed
+pub mod Making
 pub mod Judging
 pub mod Renaming
 pub mod One

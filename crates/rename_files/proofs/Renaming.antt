@@ -15,7 +15,7 @@ use Rattle.rename_model.specs.Project.{refusals_of_project}
 use Rattle.rename_model.specs.Foot.{IsTheFoot}
 use Rattle.rename_model.specs.Renaming.{HasNoTarget, refusals_of_binder}
 use Rattle.rename_files.specs.Answer.{Rejects, Renames}
-use Rattle.rename_files.specs.Steps.{IsRefusedFor, IsFreeOf}
+use Rattle.rename_project.specs.Steps.{IsRefusedFor, IsFreeOf}
 
 pub not_renamed : (files : FileSet) (target : Target) (new : Name) (e : Refusal) → IsRefusedFor (Rejects files) e → IsRefusedFor (λ why. Renames files target new (Err why)) e
 not_renamed files target new e (inl h) = inl (inl h)

@@ -1,20 +1,11 @@
--- What the steps of a call answer.
-use Rattle.std.specs.Prelude.{◌≡◌, ◌⊎◌, List}
+-- The last refusals of a renaming.
+use Rattle.std.specs.Prelude.{List}
 use Rattle.rotor_base.specs.declared.refusal.Refusal.{Refusal}
-use Rattle.rotor_base.specs.declared.refusal.Refusal.TheVariants as refusal
 use Rattle.rotor_base.specs.declared.looks.Watch.{Watch}
 use Rattle.ml_syntax.specs.Tree.{UnitTree}
-use Rattle.capture_check.specs.Fault.{IsMet, before}
+use Rattle.capture_check.specs.Fault.{before}
 use Rattle.rename_model.specs.Ladder.{no_more}
 use Rattle.rename_model.specs.Renaming.{IsClash, IsCapture, IsMislink, renamed}
-
--- a refusal meets a condition, or there was no memory
-abbrev pub IsRefusedFor : (Refusal → Type 0) → Refusal → Type 0
-IsRefusedFor c why = c why ⊎ (why ≡ refusal.Memory)
-
--- nothing meets a condition
-abbrev pub IsFreeOf : (Refusal → Type 0) → Type 0
-IsFreeOf c = IsMet c → ⊥
 
 -- the last three refusals of a renaming, in their order
 abbrev pub LastRungs : List UnitTree → Watch → Refusal → Type 0

@@ -3,14 +3,13 @@
 ghost use Rattle.std.specs.Prelude.{◌≡◌, ◌⊎◌, Err, IfErr, IfOk, Ok};
 ghost use Rattle.rotor_base.specs.declared.refusal.Refusal.TheVariants as refusal;
 ghost use Rattle.rename_files.specs.Answer.{Checks, Renames, Shows};
-ghost use Rattle.rename_files.specs.Steps.{IsRefusedFor};
+ghost use Rattle.rename_project.specs.Steps.{IsRefusedFor};
 
-use crate::aim::find_aim;
 use crate::judge::judge;
-use crate::project::resolve;
 use dependency_kernel::footprint;
 use project_reading::read_project;
 use rename_parts::{binder_places, count_refs, set_of};
+use rename_project::{find_aim, resolve};
 use rename_steps::{changed_files, remake};
 use rotor_base::{Counts, Files, FootReport, Name, Refusal, Renamed, Row, Target, Watch};
 use std::alloc::Global;
@@ -19,7 +18,7 @@ use std::alloc::Global;
 ///
 /// # Errors
 ///
-/// The first of these that stands: the refusals of `read_project`; `Duplicate` with the least place that repeats a name
+/// The first of these that holds: the refusals of `read_project`; `Duplicate` with the least place that repeats a name
 /// of its group, and the least place of that name there; `Heavy` with the first site to end that is too heavy;
 /// `Unmatched` with the least item of a link that lacks its source. `Memory`.
 pub fn check(alloc: Global, files: &Files) -> Result<Counts, Refusal>

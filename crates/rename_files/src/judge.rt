@@ -17,7 +17,8 @@ ghost use Rattle.rename_model.specs.Bytes.{AreRespelled, position_with};
 ghost use Rattle.rename_model.specs.Foot.{hits};
 ghost use Rattle.rename_model.specs.Renaming.{refusals_of_binder, renamed_words};
 ghost use Rattle.rename_steps.specs.Sources.{AreMade};
-ghost use Rattle.rename_files.specs.Steps.{IsRefusedFor, IsFreeOf, LastRungs};
+ghost use Rattle.rename_project.specs.Steps.{IsRefusedFor, IsFreeOf};
+ghost use Rattle.rename_files.specs.Steps.{LastRungs};
 
 use capture_check::local_fault;
 use mod_shape::looks;

@@ -1,11 +1,9 @@
 //! Renaming a value binding throughout the files of a project.
 #![tactic(auto)]
 
-mod aim;
 mod calls;
 mod judge;
 mod laws;
-mod project;
 
 pub use calls::{check, foot, rename};
 pub use laws::answers_are_one;

@@ -68,7 +68,7 @@ module _ (set : BTreeSet Place) where
       (λ q k. elim k [ inl a ↦ inl a | inr b ↦ inr (b.0, found_within n ls b.0 le b.1, b.2) ])
       (λ q k. elim k [ inl a ↦ inl a | inr b ↦ inr (b.0, found_all n ls b.0 ge b.1, b.2) ]) h
 
-  -- the same of what stands at a position
+  -- the same of the item at a position
   pub ref_step : (rs : List Ref) (n : ℕ) (d : Ref) (best new : Option Place) → n < length rs → new ≡ earlier_of best (blurred_ref set (get_or rs n d)) → IsLeastOrNone (RefBelow rs n) best → IsLeastOrNone (RefBelow rs (n + 1)) new
   ref_step rs n d best new w e h = subst (IsLeastOrNone (RefBelow rs (n + 1))) (sym e) (refs_more rs n (get_or rs n d) best w (get_or_default rs n d (get_or rs n d) w) h)
 

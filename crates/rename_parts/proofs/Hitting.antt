@@ -1,4 +1,4 @@
--- What stands at the places of a set, file by file.
+-- What is at the places of a set, file by file.
 use Rattle.std.proofs.Common.{◌≡◌, ℕ, ◌+◌, ◌<◌, ◌≤◌, inl, inr, List, [], ◌∷◌, ◌++◌, Bool, true, false, not, cond, Option, Some, None, map, filter, take, length, get_or, Contains, refl, ap, sym, subst, ◌∙◌, append_assoc, true≢false}
 use Rattle.std.proofs.lemmas.List.{append-nil, get_or_default}
 use Rattle.std.specs.BTreeSet.{BTreeSet, contains}

@@ -84,7 +84,7 @@ binding_placed : (f : ℕ) (xs : List Site) → binding (placed_sites f xs) ≡ 
 binding_placed f [] = refl
 binding_placed f (x ∷ xs) = placed_case f x xs (filter (λ x. x.binds) xs) x.binds (binding_placed f xs)
 
-file_binding : (t : FileTree) → binding (file_places (Some t)) ≡ placed_sites (number_of t) (binder_sites t)
+pub file_binding : (t : FileTree) → binding (file_places (Some t)) ≡ placed_sites (number_of t) (binder_sites t)
 file_binding (Body file is) = binding_placed file (sites (Body file is))
 file_binding (Face file is) = binding_placed file (sites (Face file is))
 
@@ -184,7 +184,7 @@ mark_is us s p (Some m) e =
     let k = place_in (λ z. (at_place L z.0 ≡ Some z.1) × (z.1.binds ≡ true)) (binding L) p x.0 (each_binding (λ z. at_place L z.0 ≡ Some z.1) L (found_all L (apart_of us s))) x.1 in
     (x.0, k.0, k.1, x.2)
 
--- what stands at a position hangs on no default
+-- the item at a position does not depend on a default
 pub whatever_default : {A : Type 0} (xs : List A) (i : ℕ) (d e : A) → i < length xs → get_or xs i d ≡ get_or xs i e
 whatever_default [] i d e w = absurd (omega arith)
 whatever_default (x ∷ xs) zero d e w = refl

@@ -35,7 +35,7 @@ joined true true r = refl
 joined true false r = refl
 joined false b r = refl
 
--- with what is to come, the set has what it is to have
+-- with what is left, the set has all that it shall have
 abbrev pub Gathers : List Place → ℕ → BTreeSet Place → Type 0
 Gathers ds i set = (p : Place) → (contains place_cmp set p || list_any (same_place p) (drop i ds)) ≡ list_any (same_place p) ds
 

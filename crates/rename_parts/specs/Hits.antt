@@ -1,4 +1,4 @@
--- The places of a project that take a new word, with what stands there.
+-- The places of a project that take a new word, with what is there.
 use Rattle.std.specs.Prelude.{ℕ, suc, List, [], ◌∷◌, ◌++◌, Bool, true, false, not, map, filter, if◌then◌else◌, ◌&&◌}
 use Rattle.std.specs.BTreeSet.{BTreeSet, contains}
 use Rattle.rotor_base.specs.declared.place.Place.{Place}
@@ -12,7 +12,7 @@ use Rattle.binding_model.specs.Scopes.{here}
 use Rattle.binding_model.specs.Renaming.{file_places}
 use Rattle.rename_parts.specs.declared.checks.Hit.{Hit}
 
--- what stands at a place
+-- what is at a place
 abbrev pub hit_of : Place × Site → Hit
 hit_of e = record { place = e.0; pun = e.1.pun; operator = e.1.operator }
 

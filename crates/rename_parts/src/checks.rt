@@ -1,4 +1,4 @@
-//! What stands at the places that take a new word.
+//! What is at the places that take a new word.
 
 ghost use Rattle.std.specs.Prelude.{◌≡◌, ◌++◌, Contains, IfOk, OnOk, Some, [], ◌∷◌, filter, map, true, if◌then◌else◌};
 ghost use Rattle.binding_model.specs.Facts.{earlier};
@@ -27,7 +27,7 @@ pub struct Hit {
     pub operator: bool,
 }
 
-/// What stands at the places of a set.
+/// What is at the places of a set.
 pub fn hit_marks(
     alloc: Global,
     project: &Project,

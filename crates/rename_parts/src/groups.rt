@@ -1,4 +1,4 @@
-//! The first name that stands twice in a group of a project.
+//! The first name that occurs twice in a group of a project.
 
 ghost use Rattle.std.specs.Prelude.{◌≡◌, IfOk};
 ghost use Rattle.ml_syntax.specs.View.{view_project};

@@ -11,7 +11,7 @@ mod links;
 mod members;
 mod targets;
 
-pub use binders::{binder_at, binder_places};
+pub use binders::{binder_at, binder_places, number_of_file};
 pub use blurred::least_blurred;
 pub use bytes::{first_over, new_bytes};
 pub use checks::{Hit, has_operator, hit_marks, least_pun};

@@ -39,7 +39,7 @@ set_has ps set p h e = member_in p ps (sym (h p) ∙ e)
 pub has_set : (ps : List Place) (set : BTreeSet Place) (p : Place) → HasPlaces ps set → Contains ps p → contains place_cmp set p ≡ true
 has_set ps set p h c = h p ∙ any_has (same_place p) ps (has_contained (λ q. same_place p q ≡ true) ps p c (same_self p))
 
--- ---- what stands at a place
+-- ---- what is at a place
 
 site_case : (z : Place × Site) (L : List (Place × Site)) (p : Place) (x : Site) (b : Bool) → same_place z.0 p ≡ b → (at_place L p ≡ Some x → Has (λ e. (e.0 ≡ p) × (e.1 ≡ x)) L) → or_else (some_if b z.1) (at_place L p) ≡ Some x
     → Has (λ e. (e.0 ≡ p) × (e.1 ≡ x)) (z ∷ L)

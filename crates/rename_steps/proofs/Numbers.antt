@@ -93,7 +93,3 @@ still_taken olds news m e small h =
     (both_none (long_manifest m) _ (none_left (long_manifest m) _ r2)
     (both_none (double_unit (units_of news)) _ (ap double_unit units ∙ none_left (double_unit (units_of olds)) _ r3)
     (ap (λ us. bad_manifest us m) units ∙ none_right (double_unit (units_of olds)) _ r3))))
-
-pub memory_alone : (o : Option LoadError) (e : LoadError) → o ≡ None → IsRefusedBy o e → e ≡ Memory
-memory_alone o e n (inl h) = let wrong : None ≡ Some e = sym n ∙ h in absurd cc
-memory_alone o e n (inr h) = h

@@ -66,7 +66,7 @@ pub fn judge_foot(
     }
 }
 
-/// What is found of a footprint, by its members and by what stands at the places that take the new word.
+/// What is found of a footprint, by its members and by what is at the places that take the new word.
 fn find_all(facts: &Facts, watch: &Watch, members: &BTreeSet<Place>, marks: &[Hit]) -> Findings
     ensures operator { result.operator ≡ list_any (λ h. h.operator) marks.now }
     ensures valid { result.valid ≡ is_value_name watch.now.new }

@@ -11,7 +11,7 @@ ghost use Rattle.rename_model.specs.Report.{hit_files};
 ghost use Rattle.rename_steps.specs.Sources.{IsMade};
 
 use rename_parts::new_bytes;
-use rotor_base::{Files, LoadError, Memory, Place, Row, SourceFile, Text, Token, make_files};
+use rotor_base::{Files, Memory, Place, Row, SourceFile, Text, Token};
 use std::alloc::Global;
 use std::collections::BTreeSet;
 
@@ -44,10 +44,7 @@ pub fn remake(alloc: Global, files: &Files, sources: Vec<SourceFile>) -> Result<
     ensures { IfOk result (λ new. new ≡ record { entries = sources.items; manifest = files.now.manifest }) }
 {
     let manifest = copy_manifest(alloc, files)?;
-    match make_files(alloc, sources, manifest) {
-        Ok(files) => Ok(files),
-        Err(error) => Err(only_memory(error)),
-    }
+    Ok(Files::from_parts(sources, manifest))
 }
 
 /// The bytes of the manifest, where there is one.
@@ -60,13 +57,6 @@ fn copy_manifest(alloc: Global, files: &Files) -> Result<Option<Vec<u8>>, Memory
         None => Ok(None),
         Some(bytes) => Ok(Some(bytes.to_vec(alloc)?)),
     }
-}
-
-/// Want of memory, where it is the only error.
-fn only_memory(_error: LoadError) -> Memory
-    requires { _error ≡ LoadError.Memory }
-{
-    Memory
 }
 
 /// The numbers of the sources that have one of some places, in order.

@@ -90,7 +90,7 @@ module _ (us : List UnitTree) (w : Watch) where
         (λ q z. ap (λ (v : Place). v.file == n) z ∙ (ap (λ m. m == n) f ∙ own_number n)) h) in
         true≢false (sym some ∙ none)
 
-    -- no member and no reference to one stands in it
+    -- it has no member and no reference to one
     member_in : (p : Place) → is_in w.foot p ≡ true → Has (λ q. q ≡ p) w.foot.decls
     member_in p e = has_as (λ (q : Place). same_place p q ≡ true) (λ (q : Place). q ≡ p) w.foot.decls (λ q s. sym (same_is p q s))
         (has_any (same_place p) w.foot.decls e)

@@ -19,7 +19,7 @@ use Rattle.cli_words.specs.declared.command.Command.{Command}
 use Rattle.cli_words.specs.declared.command.Command.TheVariants as command
 use Rattle.cli_words.specs.Words.{command_of}
 use Rattle.rename_files.specs.Answer.{Renames}
-use Rattle.rename_files.specs.Steps.{IsRefusedFor}
+use Rattle.rename_project.specs.Steps.{IsRefusedFor}
 use Rattle.rotor_app.specs.Words.{is_ready, if_ready, command_in, sampled_units, asks_folder}
 use Rattle.rotor_app.specs.declared.status.Status.{Status}
 use Rattle.rotor_app.specs.declared.status.Status.TheVariants.{Done, Refused, Usage, Project}

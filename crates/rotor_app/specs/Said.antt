@@ -128,7 +128,7 @@ Says (Some (command.Verify old new)) held reply = ⊥
 Says (Some (command.Batch file write)) held reply = ⊥
 Says (Some command.Recover) held reply = ⊥
 
--- what the words ask for asks nothing of the folder
+-- the command of the words does not call the folder
 abbrev pub AsksNothing : Option Command → Type 0
 AsksNothing None = Unit {0}
 AsksNothing (Some c) = sampled_units c ≢ None

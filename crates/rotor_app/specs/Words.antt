@@ -14,7 +14,7 @@ is_ready (command.Verify old new) = false
 is_ready (command.Batch file write) = false
 is_ready command.Recover = false
 
--- the number of units of `sample`, which asks nothing of the folder
+-- the number of units of `sample`, which does not call the folder
 abbrev pub sampled_units : Command → Option ℕ
 sampled_units command.Check = None
 sampled_units (command.Shape target) = None

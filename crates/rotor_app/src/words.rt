@@ -28,7 +28,7 @@ fn is_ready(command: &Command) -> bool
     }
 }
 
-/// The number of units of `sample`, which asks nothing of the folder.
+/// The number of units of `sample`, which does not call the folder.
 pub fn sampled_units(command: &Command) -> Option<u32>
     ensures { result ≡ sampled_units command.now }
 {

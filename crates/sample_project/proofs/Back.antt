@@ -8,7 +8,7 @@ use Rattle.rotor_base.specs.declared.source.SourceFile.{SourceFile}
 use Rattle.rotor_base.specs.declared.target.Target.{Target}
 use Rattle.rotor_base.specs.declared.target.Target.TheVariants.{At}
 use Rattle.rename_files.specs.Answer.{Renames}
-use Rattle.rename_files.specs.Steps.{IsRefusedFor}
+use Rattle.rename_project.specs.Steps.{IsRefusedFor}
 use Rattle.rename_files.specs.Laws.{OneRenaming}
 use Rattle.rename_laws.specs.Laws.{RenamingsAreUndone, UndosHavePlaces}
 use Rattle.sample_project.specs.Sample.{name_of, undo_target, IsUndone}

@@ -2,7 +2,7 @@
 ghost use Rattle.std.specs.Prelude.{◌≡◌, ◌++◌, ◌∷◌, [], ◌+◌, ◌*◌, ◌≤◌, IfOk, OnOk};
 ghost use Rattle.sample_project.specs.Sources.{source_name, source_text, source_of, with_digit, with_digits, sources_below, sample_files};
 
-use rotor_base::{Files, Memory, Row, SourceFile, Text, make_files};
+use rotor_base::{Files, Memory, Row, SourceFile, Text};
 use std::alloc::Global;
 
 /// The text of the first unit.
@@ -26,10 +26,7 @@ pub fn sample_files(alloc: Global, units: u32) -> Result<Files, Memory>
     for digit in &NONZERO_DIGITS {
         push_with_digits(alloc, &mut sources, units, *digit)?;
     }
-    match make_files(alloc, sources, None) {
-        Ok(files) => Ok(files),
-        Err(_) => Err(Memory),
-    }
+    Ok(Files::from_parts(sources, None))
 }
 
 /// Adds the sources of a number and of those with one digit or two more.

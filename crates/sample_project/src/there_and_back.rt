@@ -1,6 +1,6 @@
 //! The renaming of `sample`, there and back.
 ghost use Rattle.std.specs.Prelude.{◌≡◌, ◌↔◌, true, IfErr, IfOk, Ok, Err};
-ghost use Rattle.rename_files.specs.Steps.{IsRefusedFor};
+ghost use Rattle.rename_project.specs.Steps.{IsRefusedFor};
 ghost use Rattle.sample_project.specs.Sample.{Answers, IsUndone, Samples, sample_target, undo_target};
 ghost use Rattle.sample_project.specs.Sources.{sample_files};
 

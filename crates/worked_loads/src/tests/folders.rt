@@ -143,7 +143,7 @@ const FOLDERS: [Folder; 25] = [
         files: &[("a.ml", ""), ("b.ml", ""), ("rotor.units", "C\n")],
         told: Told::BadManifest(1),
     },
-    // A double unit stands before a bad manifest.
+    // A double unit is reported before a bad manifest.
     Folder {
         files: &[("A.ml", ""), ("a.ml", ""), ("rotor.units", "C\n")],
         told: Told::DoubleUnit("A"),

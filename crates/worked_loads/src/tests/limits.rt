@@ -28,7 +28,7 @@ fn many_sources(rt: HostRuntime) -> Result<(), Fail> {
     let alloc = rt.alloc();
     let mut tree = tree_of(&rt, alloc, empty_sources(alloc, 2_000)?, &[])?;
     assert_eq!(rt; loaded_count(&load(alloc, &mut tree)), 2_000);
-    // With one more no file is read: the second call of the folder, which fails, does not come.
+    // With one more no file is read: the second call of the folder, which fails, is not made.
     let mut tree = tree_of(&rt, alloc, empty_sources(alloc, 2_001)?, &[2])?;
     assert!(rt; is_told(&load(alloc, &mut tree), &Told::TooMany(2_001)));
     Ok(())

@@ -91,7 +91,7 @@ fn host_tree(rt: HostRuntime) -> Result<(), Fail> {
 /// Loads with listings that a folder in memory cannot have.
 fn odd_names<R: Abort + Files>(rt: &R, alloc: Global) -> Result<(), Fail> {
     fs::write(rt, "a.ml", "let x = 1")?;
-    // A name that stands twice is loaded once; one that is no UTF-8 is a fault, a source or not.
+    // A name that is listed twice is loaded once; one that is no UTF-8 is a fault, a source or not.
     let cases: [(&[u8], Told); 4] = [
         (
             b".\0..\0a.ml\0\xc3\xa9\0a.ml\0",

@@ -5,7 +5,7 @@ use rotor_app::{Status, rotor};
 use std::test::Fail;
 use tree_io::MemSink;
 
-/// The words, what fails, and what stands after it.
+/// The words, what fails, and what is there after it.
 struct Fault {
     target: &'static str,
     flag: &'static str,
@@ -21,7 +21,7 @@ const HALF: &str = "rename x to z\ndeclaration a.ml#2\nr";
 
 /// The calls are list, read and write; the report of row one-line has 68 bytes.
 const FAULTS: [Fault; 13] = [
-    // The list, the read, the write, and a call that does not come.
+    // The list, the read, the write, and a call that is not made.
     Fault {
         target: "A.x",
         flag: "--write",
@@ -62,7 +62,7 @@ const FAULTS: [Fault; 13] = [
         after: ONE_LINE_NEW,
         text: ONE_LINE_TEXT,
     },
-    // Two faults: the first is told.
+    // Two faults: the first is reported.
     Fault {
         target: "A.x",
         flag: "--write",
@@ -124,7 +124,7 @@ const FAULTS: [Fault; 13] = [
         after: ONE_LINE_NEW,
         text: "",
     },
-    // The put of a refusal, with a write that does not come; and of the usage line, with no call of the folder.
+    // The put of a refusal, with a write that is not made; and of the usage line, with no call of the folder.
     Fault {
         target: "A.q",
         flag: "--write",

@@ -109,7 +109,7 @@ fn ties_and_exotic_bytes(rt: HostRuntime) -> Result<(), AllocError> {
 #[test]
 fn hostile_texts(rt: HostRuntime) -> Result<(), AllocError> {
     let alloc = rt.alloc();
-    // The opener, how often it stands, and the answer.
+    // The opener, how often it occurs, and the answer.
     let rows = [
         ("x", 255, "Lower 0 255 "),
         ("x", 256, "longname 0 "),

@@ -10,9 +10,10 @@ use Rattle.binding_model.specs.Facts.{facts}
 use Rattle.binding_model.specs.Renaming.{places}
 use Rattle.rename_parts.specs.Binders.{binding}
 use Rattle.rename_files.specs.Answer.{Rejects}
-use Rattle.rename_files.specs.Steps.{IsRefusedFor}
-use Rattle.rename_files.proofs.Cuts.{length_map}
-use Rattle.rename_files.proofs.Refusals.{stopped, rejects}
+use Rattle.rename_project.specs.Steps.{IsRefusedFor}
+use Rattle.rename_project.proofs.Cuts.{length_map}
+use Rattle.rename_project.proofs.Refusals.{stopped}
+use Rattle.rename_files.proofs.Refusals.{rejects}
 use Rattle.rename_files.proofs.calls.check.Goals as goal
 
 five : (a b p d e f g h i j : ℕ) → a ≡ f → b ≡ g → p ≡ h → d ≡ i → e ≡ j

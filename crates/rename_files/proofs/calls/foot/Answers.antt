@@ -11,9 +11,10 @@ use Rattle.binding_model.specs.Facts.{facts}
 use Rattle.rename_model.specs.Foot.{refs_to}
 use Rattle.rename_parts.specs.Members.{HasPlaces, IsSetOf}
 use Rattle.rename_files.specs.Answer.{Shows}
-use Rattle.rename_files.specs.Steps.{IsRefusedFor}
-use Rattle.rename_files.proofs.Refusals.{stopped, rejects, not_shown, no_target_shown}
-use Rattle.rename_files.proofs.Aimed.{mark_name}
+use Rattle.rename_project.specs.Steps.{IsRefusedFor}
+use Rattle.rename_project.proofs.Refusals.{stopped}
+use Rattle.rename_files.proofs.Refusals.{rejects, not_shown, no_target_shown}
+use Rattle.rename_project.proofs.Aimed.{mark_name}
 use Rattle.rename_files.proofs.calls.foot.Goals as goal
 
 three : (a b : List ℕ) (f : Foot) (m n : ℕ) → a ≡ b → m ≡ n → let x : FootReport = record { old = a; foot = f; refs = m } in let y : FootReport = record { old = b; foot = f; refs = n } in x ≡ y

@@ -16,10 +16,11 @@ use Rattle.rename_model.specs.Report.{hit_files}
 use Rattle.rename_model.specs.Renaming.{watch_of, renamed_words, refusals_of_binder}
 use Rattle.rename_parts.specs.Members.{HasPlaces, IsSetOf}
 use Rattle.rename_files.specs.Answer.{Renames}
-use Rattle.rename_files.specs.Steps.{IsRefusedFor, IsFreeOf}
-use Rattle.rename_files.proofs.Aimed.{mark_name}
+use Rattle.rename_project.specs.Steps.{IsRefusedFor, IsFreeOf}
+use Rattle.rename_project.proofs.Aimed.{mark_name}
 use Rattle.rename_files.proofs.Judging.{names_kept, small_enough}
-use Rattle.rename_files.proofs.Refusals.{stopped, rejects}
+use Rattle.rename_project.proofs.Refusals.{stopped}
+use Rattle.rename_files.proofs.Refusals.{rejects}
 use Rattle.rename_files.proofs.Renaming.{not_renamed, no_target_renamed, judged_renamed}
 use Rattle.rename_files.proofs.calls.rename.Goals as goal
 

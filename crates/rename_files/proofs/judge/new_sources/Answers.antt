@@ -4,7 +4,8 @@ use Rattle.std.specs.Global.{Vec}
 use Rattle.rotor_base.specs.declared.source.SourceFile.{SourceFile}
 use Rattle.rotor_base.specs.declared.token.Token.{Token}
 use Rattle.ml_lexer.specs.Lexed.{Lexed, Lexeme, view_tokens}
-use Rattle.rename_files.proofs.Cuts.{within, lexed_at, made_more}
+use Rattle.rename_project.proofs.Cuts.{within, lexed_at}
+use Rattle.rename_files.proofs.Making.{made_more}
 use Rattle.rename_files.proofs.judge.new_sources.Goals as goal
 
 abbrev view : Vec Token → List Lexeme

@@ -3,7 +3,7 @@ use Rattle.edits.specs.Replaced.{HasShortText}
 use Rattle.rename_parts.proofs.Words.{Continues}
 use Rattle.rename_parts.proofs.bytes.edits_of.Given as goal
 
--- with the edits of the tokens to come, they give all tokens their words
+-- with the edits of the tokens that are left, they give all tokens their words
 abbrev pub invariant-loop-token : goal.invariant-loop-token
 invariant-loop-token l = record {
   count : l.number ≡ l.token-index + 1;

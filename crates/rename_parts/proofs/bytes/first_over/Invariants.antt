@@ -4,7 +4,7 @@ use Rattle.rename_model.specs.Bytes.{position_with}
 use Rattle.rename_parts.proofs.Searches.{counted}
 use Rattle.rename_parts.proofs.bytes.first_over.Given as goal
 
--- the sources so far keep the limits, so the first with which they are over is among those to come
+-- the sources so far keep the limits, so the first with which they are over is among those that are left
 abbrev pub invariant-loop-file : goal.invariant-loop-file
 invariant-loop-file l = record {
   count : l.number ≡ l.file-index;

@@ -4,7 +4,7 @@ use Rattle.rename_model.specs.Target.{first_at, holds}
 use Rattle.rename_parts.proofs.Searches.{counted}
 use Rattle.rename_parts.proofs.targets.lexeme_over.Given as goal
 
--- the token is among those to come
+-- the token is among those that are left
 abbrev pub invariant-loop-token : goal.invariant-loop-token
 invariant-loop-token l = record {
   count : l.number ≡ l.token-index + 1;

@@ -4,7 +4,7 @@ use Rattle.rename_model.specs.Target.{first_at, number_of}
 use Rattle.rename_parts.proofs.Searches.{counted}
 use Rattle.rename_parts.proofs.targets.number_of.Given as goal
 
--- the source is among those to come
+-- the source is among those that are left
 abbrev pub invariant-loop-file : goal.invariant-loop-file
 invariant-loop-file l = record {
   count : l.number ≡ l.file-index;

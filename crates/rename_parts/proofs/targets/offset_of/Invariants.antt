@@ -3,7 +3,7 @@ use Rattle.rename_model.specs.Target.{offset_from, offset_of}
 use Rattle.rename_parts.proofs.Searches.{counted}
 use Rattle.rename_parts.proofs.targets.offset_of.Given as goal
 
--- the byte is among those to come
+-- the byte is among those that are left
 abbrev pub invariant-loop-byte : goal.invariant-loop-byte
 invariant-loop-byte l = record {
   count : l.offset ≡ l.byte-index;

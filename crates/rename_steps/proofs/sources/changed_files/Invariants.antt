@@ -2,7 +2,7 @@ use Rattle.std.proofs.Common.{◌≡◌, ◌++◌, drop}
 use Rattle.rename_model.specs.Report.{hit_files}
 use Rattle.rename_steps.proofs.sources.changed_files.Given as goal
 
--- with those of the sources to come, they are all
+-- with those of the sources that are left, they are all
 abbrev pub invariant-loop-source : goal.invariant-loop-source
 invariant-loop-source l = record {
   count : l.number ≡ l._source-index;

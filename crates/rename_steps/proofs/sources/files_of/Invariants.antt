@@ -1,6 +1,6 @@
 use Rattle.rename_steps.proofs.Numbers.{Gathers}
 use Rattle.rename_steps.proofs.sources.files_of.Given as goal
 
--- with the places to come, the set has all their files
+-- with the places that are left, the set has all their files
 abbrev pub invariant-loop-place : goal.invariant-loop-place
 invariant-loop-place l = Gathers l.places l.place-index l.set

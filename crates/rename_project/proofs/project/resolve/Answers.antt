@@ -4,9 +4,9 @@ use Rattle.rotor_base.specs.declared.place.Facts.{Facts}
 use Rattle.ml_syntax.specs.View.{view_project}
 use Rattle.binding_model.specs.Facts.{facts, least, unmatched_items}
 use Rattle.rename_model.specs.Project.{refusals_of_project}
-use Rattle.rename_files.specs.Steps.{IsRefusedFor}
-use Rattle.rename_files.proofs.Refusals.{stopped, unmatched_is}
-use Rattle.rename_files.proofs.project.resolve.Goals as goal
+use Rattle.rename_project.specs.Steps.{IsRefusedFor}
+use Rattle.rename_project.proofs.Refusals.{stopped, unmatched_is}
+use Rattle.rename_project.proofs.project.resolve.Goals as goal
 
 pub returns-in_err-check_links-clause-refused : goal.returns-in_err-check_links-clause-refused
 returns-in_err-check_links-clause-refused c =

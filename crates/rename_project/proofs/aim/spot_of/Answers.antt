@@ -5,8 +5,8 @@ use Rattle.rotor_base.specs.declared.source.SourceFile.{SourceFile}
 use Rattle.rotor_base.specs.declared.token.Token.{Token}
 use Rattle.ml_lexer.specs.Lexed.{Lexeme, view_token, view_tokens}
 use Rattle.rename_model.specs.Target.{IsSpot, number_of}
-use Rattle.rename_files.proofs.Cuts.{within, spot_at, few_at, length_map, IsTold}
-use Rattle.rename_files.proofs.aim.spot_of.Goals as goal
+use Rattle.rename_project.proofs.Cuts.{within, spot_at, few_at, length_map, IsTold}
+use Rattle.rename_project.proofs.aim.spot_of.Goals as goal
 
 abbrev view : Vec Token → List Lexeme
 view list = view_tokens list.items

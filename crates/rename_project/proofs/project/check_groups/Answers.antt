@@ -5,8 +5,8 @@ use Rattle.binding_model.specs.Facts.{facts}
 use Rattle.binding_model.specs.Renaming.{name_of}
 use Rattle.capture_check.specs.declared.fault.Repeat.{Repeat}
 use Rattle.capture_check.specs.Firsts.{IsFirstRepeat}
-use Rattle.rename_files.proofs.Refusals.{duplicate_free}
-use Rattle.rename_files.proofs.project.check_groups.Goals as goal
+use Rattle.rename_project.proofs.Refusals.{duplicate_free}
+use Rattle.rename_project.proofs.project.check_groups.Goals as goal
 
 pub returns-in-None-clause-passed : goal.returns-in-None-clause-passed
 returns-in-None-clause-passed c =

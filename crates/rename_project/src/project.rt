@@ -11,7 +11,7 @@ ghost use Rattle.rotor_base.specs.declared.refusal.Refusal.TheVariants as refusa
 ghost use Rattle.binding_model.specs.Scopes.{after_units};
 ghost use Rattle.binding_model.specs.Sums.{heavy};
 ghost use Rattle.rename_model.specs.Project.{IsDuplicate, IsHeavy, IsUnmatched, refusals_of_project};
-ghost use Rattle.rename_files.specs.Steps.{IsRefusedFor, IsFreeOf};
+ghost use Rattle.rename_project.specs.Steps.{IsRefusedFor, IsFreeOf};
 
 use ml_syntax::Project;
 use mod_shape::{Resolved, facts, groups};
@@ -20,8 +20,8 @@ use rotor_base::{Link, Refusal};
 use shape_core::FactError;
 use std::alloc::Global;
 
-/// The facts of a project and the scope after its units, where it has no refusal: no name stands twice in a group, no
-/// site is too heavy, and no link lacks its source.
+/// The facts of a project and the scope after its units, if it has no refusal: no name occurs twice in a group, no site
+/// is too heavy, and no link lacks its source.
 pub fn resolve(alloc: Global, project: &Project) -> Result<Resolved, Refusal>
     requires { IsSound (view_project project.now) }
     ensures facts { IfOk result (λ done. done.facts ≡ facts (view_project project.now)) }
@@ -31,12 +31,12 @@ pub fn resolve(alloc: Global, project: &Project) -> Result<Resolved, Refusal>
     ensures refused { IfErr result (IsRefusedFor (refusals_of_project (view_project project.now))) }
 {
     check_groups(alloc, project)?;
-    let resolved = facts_of(alloc, project)?;
+    let resolved = resolve_facts(alloc, project)?;
     check_links(resolved.facts.links.as_slice())?;
     Ok(resolved)
 }
 
-/// Whether no name stands twice in a group.
+/// Whether no name occurs twice in a group.
 fn check_groups(alloc: Global, project: &Project) -> Result<(), Refusal>
     requires { IsSound (view_project project.now) }
     ensures passed { OnOk result (IsFreeOf (IsDuplicate (view_project project.now))) }
@@ -52,8 +52,9 @@ fn check_groups(alloc: Global, project: &Project) -> Result<(), Refusal>
     }
 }
 
-/// The facts of a project, where no site is too heavy.
-fn facts_of(alloc: Global, project: &Project) -> Result<Resolved, Refusal>
+/// The facts of a project and the scope after its units, if no site is too heavy. The errors are `Heavy` with the first
+/// site to end that is too heavy, and `Memory`.
+pub fn resolve_facts(alloc: Global, project: &Project) -> Result<Resolved, Refusal>
     requires { IsSound (view_project project.now) }
     ensures facts { IfOk result (λ done. done.facts ≡ facts (view_project project.now)) }
     ensures top { IfOk result (λ done. entries_of done.top ≡ after_units none (view_project project.now)) }

@@ -14,7 +14,7 @@ ghost use Rattle.project_reading.specs.Sources.{AreCut};
 ghost use Rattle.rename_model.specs.Renaming.{HasNoTarget};
 ghost use Rattle.rename_model.specs.Target.{IsSpot, Names, Aims, number_of};
 ghost use Rattle.rename_parts.specs.Binders.{IsMarkAt};
-ghost use Rattle.rename_files.specs.Steps.{IsRefusedFor};
+ghost use Rattle.rename_project.specs.Steps.{IsRefusedFor};
 
 use ml_syntax::Mark;
 use project_reading::Read;

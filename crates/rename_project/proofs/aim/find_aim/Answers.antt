@@ -3,7 +3,7 @@ use Rattle.ml_syntax.specs.View.{view_project}
 use Rattle.binding_model.specs.Least.{IsBinder}
 use Rattle.rename_model.proofs.One.{one_name}
 use Rattle.rename_parts.specs.Binders.{IsMarkAt}
-use Rattle.rename_files.proofs.aim.find_aim.Goals as goal
+use Rattle.rename_project.proofs.aim.find_aim.Goals as goal
 
 pub returns-in-None-clause-refused : goal.returns-in-None-clause-refused
 returns-in-None-clause-refused c =
