@@ -3,12 +3,12 @@
 ghost use Rattle.std.specs.Prelude.{◌≡◌, ◌++◌, IfOk, OnOk, Some, map};
 ghost use Rattle.ml_syntax.specs.View.{view_project, view_part_of, view_file};
 ghost use Rattle.binding_model.specs.Renaming.{file_places};
-ghost use Rattle.capture_check.specs.Tables.{number_of};
 ghost use Rattle.rename_parts.specs.Binders.{binding};
 ghost use Rattle.rename_survey.specs.Survey.{binder_of, binders_of};
 
 use crate::answer::Binder;
 use ml_syntax::{FileTree, Project, binders};
+use rename_parts::number_of_file;
 use rotor_base::{Memory, Place};
 use std::alloc::Global;
 
@@ -40,7 +40,7 @@ fn add_part(alloc: Global, list: &mut Vec<Binder>, part: &Option<FileTree>) -> R
 fn add_file(alloc: Global, list: &mut Vec<Binder>, tree: &FileTree) -> Result<(), Memory>
     ensures { OnOk result (list.new.items ≡ list.old.items ++ map binder_of (binding (file_places (Some (view_file tree.now))))) }
 {
-    let file = file_number(tree);
+    let file = number_of_file(tree);
     for mark in binders(alloc, tree)? {
         let at = Place {
             file,
@@ -54,14 +54,4 @@ fn add_file(alloc: Global, list: &mut Vec<Binder>, tree: &FileTree) -> Result<()
         })?;
     }
     Ok(())
-}
-
-/// The number of a file.
-fn file_number(tree: &FileTree) -> u32
-    ensures { result ≡ number_of (view_file tree.now) }
-{
-    match tree {
-        FileTree::Body(file, _) => *file,
-        FileTree::Face(file, _) => *file,
-    }
 }

@@ -4,15 +4,15 @@ ghost use Rattle.std.specs.Prelude.{◌≡◌, IfErr, IfOk, Err, Ok};
 ghost use Rattle.ml_syntax.specs.Sound.{IsSound};
 ghost use Rattle.ml_syntax.specs.View.{view_project};
 ghost use Rattle.binding_model.specs.Facts.{facts as facts_of};
-ghost use Rattle.rename_files.specs.Steps.{IsRefusedFor};
+ghost use Rattle.rename_project.specs.Steps.{IsRefusedFor};
 ghost use Rattle.rename_survey.specs.Survey.{IsFirstBad, Surveys};
 
 use crate::answer::Survey;
 use crate::binders::list_binders;
-use crate::resolving::resolve;
 use ml_syntax::Project;
 use project_reading::read_project;
 use rename_parts::{first_duplicate, least_unmatched};
+use rename_project::resolve_facts;
 use rotor_base::{Facts, Files, Memory, Refusal};
 use std::alloc::Global;
 
@@ -27,7 +27,7 @@ pub fn survey(alloc: Global, files: &Files) -> Result<Survey, Refusal>
     ensures refused { IfErr result (IsRefusedFor (λ why. Surveys files.now (Err why))) }
 {
     let read = read_project(alloc, files)?;
-    let facts = resolve(alloc, &read.project)?;
+    let facts = resolve_facts(alloc, &read.project)?.facts;
     let bad = first_bad(alloc, &read.project, &facts)?;
     let binders = list_binders(alloc, &read.project)?;
     Ok(Survey {

@@ -4,7 +4,8 @@
 mod answer;
 mod binders;
 mod calls;
-mod resolving;
+mod laws;
 
 pub use answer::{Binder, Survey};
 pub use calls::survey;
+pub use laws::listed_are_binders;

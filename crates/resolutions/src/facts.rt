@@ -1,12 +1,11 @@
 //! The facts of a folder.
 
 use crate::pieces::{Object, goal, line, list, place};
-use crate::project::{first_bad, resolve};
 use binding_model::Sums;
 use found_facts::from_nothing;
 use ml_syntax::Project;
 use mod_resolve::units;
-use project_reading::read_project;
+use rename_survey::{Survey, survey};
 use rotor_base::{Facts, Files, Link, Outcome, Place, Ref, Refusal, Row, SourceFile};
 use shape_core::{FactError, Scope};
 use std::alloc::{AllocError, Global};
@@ -14,14 +13,18 @@ use std::alloc::{AllocError, Global};
 /// The facts as an object: references, links in the order of resolution, groups in their order, the running sums at
 /// the end, and the first refusal that they give.
 pub fn facts_object(alloc: Global, files: &Files) -> Result<String, Refusal> {
-    let read = read_project(alloc, files)?;
-    let resolved = resolve(alloc, &read.project)?;
-    let sums = sums_of(alloc, &read.project)?;
-    let bad = match first_bad(alloc, &read.project, &resolved.facts)? {
+    let Survey {
+        project,
+        binders: _,
+        facts,
+        bad,
+    } = survey(alloc, files)?;
+    let sums = sums_of(alloc, &project)?;
+    let bad = match bad {
         Some(why) => line(alloc, files.entries(), &Outcome::Refused(why))?,
         None => String::from_str(alloc, "null")?,
     };
-    Ok(object(alloc, files.entries(), &resolved.facts, sums, bad.as_str())?)
+    Ok(object(alloc, files.entries(), &facts, sums, bad.as_str())?)
 }
 
 /// The running sums after all units.

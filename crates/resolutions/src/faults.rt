@@ -12,17 +12,17 @@ ghost use Rattle.dependency_kernel.specs.Foot.{IsFoot};
 
 use crate::folder::load_sources;
 use crate::pieces::{Object, goal, place};
-use crate::project::{find_aim, resolve, survey};
+use crate::watched::watch_target;
 use capture_check::{Fault, first_fault, local_fault};
-use dependency_kernel::footprint;
 use ml_lexer::lex;
 use ml_syntax::Project;
 use mod_shape::looks;
 use project_reading::read_project;
+use rename_project::resolve_facts;
 use rename_steps::{judge_foot, new_source};
 use rotor_base::{
-    Facts, Files, Goal, Link, MAX_FILE_BYTES, MAX_NAME_BYTES, Memory, Name, Place, Ref, Refusal,
-    Row, SourceFile, Target, Watch,
+    Facts, Files, Goal, Link, MAX_FILE_BYTES, MAX_NAME_BYTES, Memory, Place, Ref, Refusal, Row,
+    SourceFile, Target, Watch,
 };
 use std::alloc::{AllocError, Global};
 use std::collections::BTreeSet;
@@ -41,19 +41,16 @@ pub fn faults_object(
     target: &Target,
     name: &str,
 ) -> Result<String, Refusal> {
-    let read = read_project(alloc, files)?;
-    let resolved = survey(alloc, &read.project)?;
-    let aim = find_aim(alloc, files, &read.project, &resolved.top, target)?;
-    let foot = footprint(alloc, &resolved.facts, aim.place)?;
-    let new = Name::new(alloc, name.as_bytes())?;
-    let watch = Watch {
-        old: aim.mark.name,
-        new,
-        foot,
-    };
-    let weighed = weigh(alloc, &read.project, &resolved.facts, &watch, aim.place)?;
+    let found = watch_target(alloc, files, target, name)?;
+    let weighed = weigh(
+        alloc,
+        &found.project,
+        &found.facts,
+        &found.watch,
+        found.binder,
+    )?;
     let renamed = renamed_files(alloc, files, &weighed.set, name.as_bytes())?;
-    let first = compared(alloc, &resolved.facts, &renamed)?;
+    let first = compared(alloc, &found.facts, &renamed)?;
     let first = fault_text(alloc, files.entries(), first)?;
     let local = fault_text(alloc, files.entries(), weighed.fault)?;
     let mut object = Object::new(alloc);
@@ -92,7 +89,7 @@ fn weigh(
 /// The first fault between the facts of a project and those of the renamed files.
 fn compared(alloc: Global, old: &Facts, renamed: &Files) -> Result<Option<Fault>, Refusal> {
     let read = read_project(alloc, renamed)?;
-    let resolved = resolve(alloc, &read.project)?;
+    let resolved = resolve_facts(alloc, &read.project)?;
     let new = &resolved.facts;
     if same_ref_places(old.refs.as_slice(), new.refs.as_slice())
         && same_items(old.links.as_slice(), new.links.as_slice())

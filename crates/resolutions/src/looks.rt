@@ -1,13 +1,9 @@
 //! The looks of a folder under a watch.
 
 use crate::pieces::{Object, goal, list, place, place_or_null};
-use crate::project::{find_aim, survey};
-use dependency_kernel::footprint;
+use crate::watched::watch_target;
 use mod_shape::looks;
-use project_reading::read_project;
-use rotor_base::{
-    Files, LinkLook, Looks, Name, Place, RefLook, Refusal, SourceFile, Target, Watch,
-};
+use rotor_base::{Files, LinkLook, Looks, Place, RefLook, Refusal, SourceFile, Target};
 use std::alloc::{AllocError, Global};
 
 /// A position in a list, a declaration, and the number of outside modules after that position.
@@ -20,17 +16,8 @@ pub fn looks_object(
     target: &Target,
     name: &str,
 ) -> Result<String, Refusal> {
-    let read = read_project(alloc, files)?;
-    let resolved = survey(alloc, &read.project)?;
-    let aim = find_aim(alloc, files, &read.project, &resolved.top, target)?;
-    let foot = footprint(alloc, &resolved.facts, aim.place)?;
-    let new = Name::new(alloc, name.as_bytes())?;
-    let watch = Watch {
-        old: aim.mark.name,
-        new,
-        foot,
-    };
-    let looks = looks(alloc, &read.project, &watch)?;
+    let found = watch_target(alloc, files, target, name)?;
+    let looks = looks(alloc, &found.project, &found.watch)?;
     Ok(object(alloc, files.entries(), &looks)?)
 }
 

@@ -1,4 +1,5 @@
-//! Dumps what the calls of resolving return for the folders of its input: facts, looks, and faults by both calls.
+//! Dumps what the calls of resolving return for the folders of its input: facts, looks, faults by both calls, and the
+//! sources under a map of names.
 //! A folder is given as lines, and each request about it prints one object of JSON.
 #![tactic(auto)]
 
@@ -7,8 +8,9 @@ mod faults;
 mod folder;
 mod looks;
 mod pieces;
-mod project;
 mod request;
+mod respelled;
+mod watched;
 
 use folder::Folder;
 use request::{Request, answer};

@@ -1,4 +1,4 @@
-//! The pieces of JSON that the answers are made of. No text in them has a byte that JSON escapes.
+//! The pieces of JSON that the answers are made of. No name in them has a byte that JSON escapes.
 
 use report::text;
 use rotor_base::{Goal, Memory, Outcome, Place, SourceFile};
@@ -34,6 +34,21 @@ fn goal_text(alloc: Global, sources: &[SourceFile], goal: Goal) -> Result<String
 pub fn place(alloc: Global, sources: &[SourceFile], place: Place) -> Result<String, AllocError> {
     let text = place_text(alloc, sources, place)?;
     format!(in alloc; "\"{text}\"")
+}
+
+/// A text of ASCII, quoted. Of the bytes that JSON escapes it has the quote, the backslash and the line feed alone.
+pub fn quoted(alloc: Global, bytes: &[u8]) -> Result<String, AllocError> {
+    let mut text = String::from_str(alloc, "\"")?;
+    for byte in bytes {
+        match byte {
+            b'\n' => text.push_str("\\n")?,
+            b'"' => text.push_str("\\\"")?,
+            b'\\' => text.push_str("\\\\")?,
+            _ => text.push(*byte as char)?,
+        }
+    }
+    text.push('"')?;
+    Ok(text)
 }
 
 /// A place, quoted, or `null`.
@@ -122,7 +137,7 @@ pub fn line(alloc: Global, sources: &[SourceFile], outcome: &Outcome) -> Result<
     Ok(format!(in alloc; "\"{}\"", line.trim_end())?)
 }
 
-/// The object of a refusal that comes first.
+/// The object of a refusal, if a request is refused.
 pub fn stopped(alloc: Global, sources: &[SourceFile], outcome: &Outcome) -> Result<String, Memory> {
     let line = line(alloc, sources, outcome)?;
     let mut object = Object::new(alloc);

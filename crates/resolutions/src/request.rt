@@ -5,11 +5,12 @@ use crate::faults::faults_object;
 use crate::folder::Folder;
 use crate::looks::looks_object;
 use crate::pieces::stopped;
+use crate::respelled::respelled_object;
 use cli_words::read_target;
 use rotor_base::{Files, LoadError, Memory, Outcome, Refusal};
 use std::alloc::{AllocError, Global};
 
-/// What is asked about a folder.
+/// A request about a folder.
 #[derive(Clone, Copy)]
 pub enum Request<'a> {
     /// `facts`: references, links, groups and sums.
@@ -18,6 +19,8 @@ pub enum Request<'a> {
     Looks { target: &'a str, name: &'a str },
     /// `fault TARGET NAME`: the first fault of a renaming, by the renamed project and by the looks.
     Fault { target: &'a str, name: &'a str },
+    /// `respell NAME`: the binders, and the sources if all of them take the name.
+    Respell { name: &'a str },
 }
 
 impl<'a> Request<'a> {
@@ -27,6 +30,9 @@ impl<'a> Request<'a> {
             return Some(Request::Facts);
         }
         let (kind, words) = line.split_once(' ')?;
+        if kind == "respell" {
+            return Some(Request::Respell { name: words });
+        }
         let (target, name) = words.split_once(' ')?;
         match kind {
             "looks" => Some(Request::Looks { target, name }),
@@ -71,5 +77,6 @@ fn object_of(alloc: Global, files: &Files, request: Request) -> Result<String, R
             let target = read_target(alloc, target)?;
             faults_object(alloc, files, &target, name)
         }
+        Request::Respell { name } => respelled_object(alloc, files, name),
     }
 }

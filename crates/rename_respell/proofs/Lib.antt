@@ -1,0 +1,5 @@
+pub mod Labels
+pub mod Written
+pub mod Changing
+pub mod Given
+pub mod Listed
