@@ -8,7 +8,8 @@ use Rattle.rotor_app.specs.declared.status.Status.TheVariants.{Done, Refused, Us
 use Rattle.rotor_app.specs.declared.reply.Reply.{Reply}
 use Rattle.rotor_app.specs.Said.{IsReply, SaysAlone, AsksNothing, SomeReply}
 use Rattle.project_load.specs.Rewritten.{after}
-use Rattle.rotor_app.specs.Table.{Seen, Ending, unread, wanting, carried, unwritten, unput, IsQuiet, IsAsSaid, IsFault, TreeStopped, SinkStopped, IsRefusal, Written, StoppedWriting, AnsweredAlone, CutAlone}
+use Rattle.rotor_app.specs.Table.{Seen, Ending, unread, wanting, carried, unwritten, unput, IsQuiet, IsAsSaid, IsFault, TreeStopped, SinkStopped, IsRefusal, AnsweredAlone, CutAlone}
+use Rattle.tree_writes.specs.Writes.{Written, StoppedWriting}
 
 module _ (request : Option Command) (before now : Seen) (tree_same sink_same : Type 0) (status : Status) where
   written_said : (writes : List SourceFile) (files : FileMap) → Written writes before.content now.content → before.content ≡ Some files → now.content ≡ Some (after writes files)

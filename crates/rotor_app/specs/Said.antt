@@ -148,10 +148,6 @@ SaysAlone (Some command.Recover) reply = ⊥
 abbrev pub SomeReply : Option Command → FileMap → (Reply → Type 0) → Type 0
 SomeReply request files P = (reply : Reply) × Says request files reply × P reply
 
--- there is room for each of these files
-abbrev pub HasRoom : (List ℕ → ℕ) → List SourceFile → Type 0
-HasRoom room writes = AllByRecursion (λ f. (length f.bytes ≤ room f.name) × (1 ≤ room f.name)) writes
-
 -- a status that a reply has: files are written only where it is Done
 abbrev pub IsReply : Status → List SourceFile → Type 0
 IsReply Done writes = Unit {0}

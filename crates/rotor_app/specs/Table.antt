@@ -9,16 +9,7 @@ use Rattle.rotor_app.specs.declared.status.Status.TheVariants.{Done, Refused, Us
 use Rattle.rotor_app.specs.declared.reply.Reply.{Reply}
 use Rattle.rotor_app.specs.Said.{IsReply, Says, AsksNothing, SaysAlone, SomeReply}
 use Rattle.project_load.specs.Rewritten.{after}
-
--- where the content is known, all these files were written
-abbrev pub Written : List SourceFile → Option FileMap → Option FileMap → Type 0
-Written writes before now = now ≡ option_map (after writes) before
-
--- a write failed: the files before it hold their new bytes, that one any bytes, all others their old
-abbrev pub StoppedWriting : List SourceFile → Option FileMap → Option FileMap → Type 0
-StoppedWriting writes before now =
-    (done : List SourceFile) × (failed : SourceFile) × (rest : List SourceFile) × (any : List ℕ)
-    × (writes ≡ done ++ failed ∷ rest) × (now ≡ option_map (λ files. insert (after done files) failed.name any) before)
+use Rattle.tree_writes.specs.Writes.{Written, StoppedWriting}
 
 -- what can be seen of a folder and of an output before a call and after it: the counts of faults, the files, the bytes taken
 pub record Seen : Type 0 where

@@ -4,7 +4,8 @@ ghost use Rattle.tree_io.specs.Outside.{HasCause, StaysSteady};
 ghost use Rattle.rotor_base.specs.Files.{names_of};
 ghost use Rattle.project_load.specs.Load.{IsOutside};
 ghost use Rattle.rotor_app.specs.Words.{asks_folder, command_in};
-ghost use Rattle.rotor_app.specs.Said.{Answers, reply_by, SaysTo, HasRoom, IsReply, Says, SaysAlone, AsksNothing};
+ghost use Rattle.rotor_app.specs.Said.{Answers, reply_by, SaysTo, IsReply, Says, SaysAlone, AsksNothing};
+ghost use Rattle.tree_writes.specs.Writes.{HasRoom};
 
 use crate::outcome::{outcome_of, reply_by, sample_reply, source_names, usage};
 use crate::status::Status;
@@ -14,6 +15,7 @@ use project_load::load;
 use rotor_base::{Files, LoadError, Memory, Outcome, Row, SourceFile};
 use std::alloc::Global;
 use tree_io::{Tree, TreeError};
+use tree_writes::take_room;
 
 /// An answer, before anything is written: the status, the changed files with their new bytes in byte order of their
 /// names, and the text.
@@ -104,21 +106,4 @@ fn refused_reply(alloc: Global, command: &Command, error: LoadError) -> Result<R
         LoadError::Memory => Err(TreeError::Memory),
         error => Ok(reply_by(alloc, command, &[], &Outcome::NotLoaded(error))?),
     }
-}
-
-/// Takes the folder's room for each file that will be written.
-fn take_room<T: Tree>(alloc: Global, writes: &[SourceFile], tree: &mut T) -> Result<(), Memory>
-    ensures room { OnOk result (HasRoom (T.room_for tree.new) writes.now) }
-    ensures content { T.content tree.new ≡ T.content tree.old }
-    ensures count { T.faults tree.new ≡ T.faults tree.old }
-    ensures steady { T.is_steady tree.old → T.is_steady tree.new }
-{
-    for file in writes {
-        let len = file.bytes.as_slice().len().max(1);
-        if len > u32::MAX as usize {
-            return Err(Memory);
-        }
-        tree.room(alloc, file.name.as_str(), len as u32)?;
-    }
-    Ok(())
 }

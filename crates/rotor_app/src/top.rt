@@ -3,9 +3,10 @@ ghost use Rattle.std.specs.Prelude.{◌≡◌, ◌⊎◌, [], None, IsErr, OnOk,
 ghost use Rattle.std.specs.Option.{ForSome};
 ghost use Rattle.tree_io.specs.Outside.{HasFault, StaysSteady, Rose};
 ghost use Rattle.rotor_app.specs.Words.{command_in};
-ghost use Rattle.rotor_app.specs.Said.{HasRoom, AsksNothing, SomeReply};
+ghost use Rattle.rotor_app.specs.Said.{AsksNothing, SomeReply};
 ghost use Rattle.rotor_app.specs.Done.{IsDoneSo};
-ghost use Rattle.rotor_app.specs.Table.{Written, StoppedWriting, Ending, seen, IsComplete, Carried, Put, IsQuiet, IsAsSaid, IsFault, TreeStopped, SinkStopped, IsRefusal, AnsweredAlone, CutAlone};
+ghost use Rattle.rotor_app.specs.Table.{Ending, seen, IsComplete, Carried, Put, IsQuiet, IsAsSaid, IsFault, TreeStopped, SinkStopped, IsRefusal, AnsweredAlone, CutAlone};
+ghost use Rattle.tree_writes.specs.Writes.{HasRoom};
 
 use crate::reply::{Reply, decide};
 use crate::status::Status;
@@ -15,15 +16,15 @@ use rename_laws::{
     footprints_are_least, renamings_are_undone, renamings_are_valid, renamings_keep_facts,
     renamings_keep_runs, renamings_rewrite, undos_have_places,
 };
-use rotor_base::{Failed, SourceFile};
 use std::alloc::Global;
 use tree_io::{Sink, Tree, TreeError};
+use tree_writes::write_all;
 
 /// Does what the words ask for, over a folder and an output, and says how it ended.
 ///
-/// The words are `check`, `footprint TARGET`, or `rename TARGET NAME` with `--write`, `--json`, both or none. `rename
-/// --write` writes the changed sources and puts the report; or it leaves the folder as it is, and puts the refusal. The
-/// call takes all memory, the folder's room too, before the first write and the put.
+/// The words are `check`, `footprint TARGET`, `sample N`, or `rename TARGET NAME` with `--write`, `--json`, both or none.
+/// `rename --write` writes the changed sources and puts the report; or it leaves the folder as it is, and puts the
+/// refusal. The call takes all memory, the folder's room too, before the first write and the put.
 pub fn rotor<T: Tree, S: Sink>(alloc: Global, words: &[String], tree: &mut T, out: &mut S) -> Status
     // Where no count of faults rose and there was memory: there is a reply that is said, and status, files and text are its.
     ensures answer { ForSome (T.content tree.old) (λ files.
@@ -127,19 +128,4 @@ fn put_text<S: Sink>(text: &[u8], status: Status, out: &mut S) -> Status
         Ok(()) => status,
         Err(_) => Status::SinkFault,
     }
-}
-
-/// Writes the changed files, one after another, and stops at the first that fails.
-fn write_all<T: Tree>(writes: &[SourceFile], tree: &mut T) -> Result<(), Failed>
-    requires { HasRoom (T.room_for tree.old) writes.now }
-    ensures written { OnOk result (Written writes.now (T.content tree.old) (T.content tree.new)) }
-    ensures none { writes.now ≡ [] → tree.new ≡ tree.old }
-    ensures stopped { OnErr result (StoppedWriting writes.now (T.content tree.old) (T.content tree.new)) }
-    ensures cause { HasFault (T.faults tree.old) (T.faults tree.new) result }
-    ensures steady { StaysSteady (T.is_steady tree.old) (T.is_steady tree.new) (IsErr result) }
-{
-    for file in writes {
-        tree.write(file.name.as_str(), file.bytes.as_slice())?;
-    }
-    Ok(())
 }
