@@ -1,5 +1,8 @@
 -- The laws of accepted renamings.
-use Rattle.std.proofs.Common.{◌≡◌, inl, inr, Contains, map, sym, ap, subst, ◌∙◌}
+use Rattle.std.proofs.Common.{◌≡◌, ◌<◌, List, All, length, inl, inr, Contains, map, sym, ap, subst, ◌∙◌}
+use Rattle.std.specs.List.Sorted.{IsStrictlySortedBy}
+use Rattle.std.specs.Ordering.{nat_cmp}
+use Rattle.std.proofs.lemmas.List.{length-map}
 use Rattle.rotor_base.specs.declared.place.Place.{Place}
 use Rattle.rotor_base.specs.declared.place.Foot.{Foot}
 use Rattle.rotor_base.specs.declared.report.Renamed.{Renamed}
@@ -13,10 +16,12 @@ use Rattle.binding_model.specs.Renaming.{Renaming, IsValid, respell}
 use Rattle.binding_model.proofs.Leasts.{changes_whole_foot}
 use Rattle.project_reading.specs.Reads.{Reads}
 use Rattle.project_reading.proofs.Soundness.{read_is_sound}
+use Rattle.rename_model.specs.Foot.{hits}
 use Rattle.rename_model.specs.Renaming.{watch_of, renamed}
 use Rattle.rename_files.specs.Answer.{Accepted}
 use Rattle.renamed_sources.proofs.Unhit.{sources_without_hits_stay}
-use Rattle.rename_laws.specs.Laws.{new_names, RenamingsRewrite, RenamingsAreValid, RenamingsKeepFacts, RenamingsKeepRuns, FootprintsAreLeast}
+use Rattle.rename_laws.specs.Laws.{new_names, ChangesAreListed, RenamingsRewrite, RenamingsAreValid, RenamingsKeepFacts, RenamingsKeepRuns, FootprintsAreLeast}
+use Rattle.rename_laws.proofs.Ordered.{hits_rise}
 use Rattle.rename_laws.proofs.Kept.{IsRenamable, same_facts, same_runs, still, valid, names, taken}
 
 pub renamable : (files : FileSet) (target : Target) (new : Name) (done : Renamed) → IsProject files → (a : Accepted files target new done)
@@ -35,6 +40,17 @@ renamings_rewrite files target new done p a =
         | inl e ↦ inl e
         | inr c ↦ inr (subst (λ ks. Contains ks k) (sym a.renaming.changed) c)
       ];
+    }
+
+pub changes_are_listed : ChangesAreListed
+changes_are_listed files target new done p a =
+    let w = renamings_rewrite files target new done p a in
+    let count : length done.files.entries ≡ length files.entries =
+    sym (length-map done.files.entries (λ file. file.name)) ∙ ap (λ (ns : List Name). length ns) w.names ∙ length-map files.entries (λ file. file.name) in
+    let rise = hits_rise (hits (facts a.project).refs a.foot) files.entries in
+    record {
+      ordered = subst (IsStrictlySortedBy nat_cmp) (sym a.renaming.changed) rise.0;
+      known = subst (λ m. All (λ n. n < m) done.changed) (sym count) (subst (All (λ n. n < length files.entries)) (sym a.renaming.changed) rise.1);
     }
 
 pub renamings_are_valid : RenamingsAreValid

@@ -5,3 +5,4 @@ pub mod Kept
 pub mod Accepted
 pub mod Placed
 pub mod Undone
+pub mod Ordered

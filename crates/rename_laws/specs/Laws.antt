@@ -1,5 +1,7 @@
 -- What a renaming that is accepted keeps.
-use Rattle.std.specs.Prelude.{◌≡◌, ◌⊎◌, ℕ, ◌<◌, ◌≤◌, List, map, true, Some, None, Contains, Ok, slice_get}
+use Rattle.std.specs.Prelude.{◌≡◌, ◌⊎◌, ℕ, ◌<◌, ◌≤◌, List, map, length, true, Some, None, All, Contains, Ok, slice_get}
+use Rattle.std.specs.List.Sorted.{IsStrictlySortedBy}
+use Rattle.std.specs.Ordering.{nat_cmp}
 use Rattle.rotor_base.specs.declared.place.Place.{Place}
 use Rattle.rotor_base.specs.declared.report.Renamed.{Renamed}
 use Rattle.rotor_base.specs.declared.target.Target.{Target}
@@ -23,6 +25,11 @@ pub record Rewrites (files : FileSet) (done : Renamed) : Type 0 where
   pub manifest : done.files.manifest ≡ files.manifest
   pub taken : load_refusal done.files.entries done.files.manifest ≡ None
   pub covers : (k : ℕ) → (slice_get files.entries k ≡ slice_get done.files.entries k) ⊎ Contains done.changed k
+
+-- the numbers of the sources that changed rise, and each numbers a source
+pub record ListsChanges (done : Renamed) : Type 0 where
+  pub ordered : IsStrictlySortedBy nat_cmp done.changed
+  pub known : All (λ n. n < length done.files.entries) done.changed
 
 -- the new name for each declaration of the footprint, and for no other
 abbrev pub new_names : Renamed → Renaming
@@ -72,6 +79,10 @@ pub record IsUndoPlace (files : FileSet) (done : Renamed) : Type 0 where
 -- Law: a renaming that is accepted rewrites sources, and nothing else
 abbrev pub RenamingsRewrite : Type 0
 RenamingsRewrite = (files : FileSet) (target : Target) (new : Name) (done : Renamed) → IsProject files → Renames files target new (Ok done) → Rewrites files done
+
+-- Law: it lists the sources that it changed
+abbrev pub ChangesAreListed : Type 0
+ChangesAreListed = (files : FileSet) (target : Target) (new : Name) (done : Renamed) → IsProject files → Renames files target new (Ok done) → ListsChanges done
 
 -- Law: it is valid, and respells the declarations of the footprint and the references to them, and nothing else
 abbrev pub RenamingsAreValid : Type 0

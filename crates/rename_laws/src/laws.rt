@@ -1,10 +1,15 @@
 //! The laws of accepted renamings, each as the contract of a function.
 
-ghost use Rattle.rename_laws.specs.Laws.{FootprintsAreLeast, RenamingsAreUndone, RenamingsAreValid, RenamingsKeepFacts, RenamingsKeepRuns, RenamingsRewrite, UndosHavePlaces};
+ghost use Rattle.rename_laws.specs.Laws.{ChangesAreListed, FootprintsAreLeast, RenamingsAreUndone, RenamingsAreValid, RenamingsKeepFacts, RenamingsKeepRuns, RenamingsRewrite, UndosHavePlaces};
 
 /// A renaming that is accepted rewrites sources, and nothing else.
 pub fn renamings_rewrite()
     ensures { RenamingsRewrite }
+{}
+
+/// A renaming that is accepted lists the sources that it changed, in order.
+pub fn changes_are_listed()
+    ensures { ChangesAreListed }
 {}
 
 /// A renaming that is accepted is valid, and the new files are read as its respelling.

@@ -4,6 +4,6 @@
 mod laws;
 
 pub use laws::{
-    footprints_are_least, renamings_are_undone, renamings_are_valid, renamings_keep_facts,
-    renamings_keep_runs, renamings_rewrite, undos_have_places,
+    changes_are_listed, footprints_are_least, renamings_are_undone, renamings_are_valid,
+    renamings_keep_facts, renamings_keep_runs, renamings_rewrite, undos_have_places,
 };
