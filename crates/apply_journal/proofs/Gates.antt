@@ -1,4 +1,4 @@
--- What a listing and a reading tell of the gate.
+-- The gate that a listing and a reading find.
 use Rattle.std.proofs.Common.{◌≡◌, ℕ, ◌≤◌, List, [], ◌∷◌, Bool, true, false, ◌||◌, Option, Some, None, option_map, IfSome, IsSome, IsPermutation, Decides, String, string_bytes, map, length, take, refl, sym, ap, ◌∙◌, arith, length-take}
 use Rattle.std.specs.Option.{is_some, ForSome}
 use Rattle.std.specs.List.{list_any}
@@ -23,7 +23,7 @@ turned a b = by (bytes_eq a b) (bytes_eq b a) refl refl where
   by false false e f = e ∙ sym f
   by false true e f = let bad : false ≡ true = sym e ∙ (bytes_decides a b).1 (sym ((bytes_decides b a).0 f)) in cc
 
--- a name is listed where the folder has it
+-- a name is listed if the folder has it
 pub held_listed : (held : FileMap) (listed : List (String Global)) (name : List ℕ) → IsPermutation (keys held) (map string_bytes listed)
     → list_any (λ other. bytes_eq (string_bytes other) name) listed ≡ is_some (get held name)
 held_listed held listed name moved =

@@ -1,4 +1,4 @@
--- Which project stands in a folder depends on its sources and its manifest alone.
+-- The project in a folder depends on its sources and its manifest alone.
 use Rattle.std.proofs.Common.{◌≡◌, ℕ, List, [], ◌∷◌, ◌++◌, Bool, true, false, ◌&&◌, ◌||◌, cond, Option, Some, option_map, filter, codes, refl, sym, ap, subst, ◌∙◌}
 use Rattle.std.specs.Option.{is_some}
 use Rattle.std.specs.List.{list_any, cons_option}
@@ -132,7 +132,7 @@ get_after_other (f ∷ fs) m q e = by (bytes_eq q f.name) refl e (get_after_othe
   by true t h rest = cc
   by false t h rest = rest h ∙ get_other m f.name f.bytes q t
 
--- what the folder held counts only where it is not written over
+-- two folders that hold the same at a name that is not written over hold the same there afterwards
 pub get_after_same : (fs : List SourceFile) (m n : FileMap) (q : Words) → (named q fs ≡ false → get m q ≡ get n q) → get (after fs m) q ≡ get (after fs n) q
 get_after_same [] m n q h = h refl
 get_after_same (f ∷ fs) m n q h = get_after_same fs (insert m f.name f.bytes) (insert n f.name f.bytes) q (by (bytes_eq q f.name) refl) where

@@ -1,4 +1,4 @@
--- A plan tells its files.
+-- The bytes of a plan are the plan of one list of files at most.
 use Rattle.std.proofs.Common.{◌≡◌, ℕ, ◌+◌, ◌-◌, ◌%◌, ◌^◌, ◌<◌, ◌≤◌, ◌==◌, ◌&&◌, ◌||◌, List, [], ◌∷◌, ◌++◌, Bool, true, false, length, take, drop, flat_map, nat_lt, codes, refl, sym, ap, subst, ◌∙◌, append_assoc, arith, take-append-drop}
 use Rattle.std.specs.Fmt.{decimal}
 use Rattle.std.specs.List.{list_any, list_all}
@@ -102,7 +102,7 @@ source_free name h = by (is_body_name name) refl h where
 at_most : (m n : ℕ) → nat_lt m n ≡ false → n ≤ m
 at_most m n e = grind arith
 
--- sources that may stand in a plan
+-- sources that a plan can list
 abbrev pub Entries : List SourceFile → Type 0
 Entries [] = Unit {0}
 Entries (f ∷ fs) = (is_source_name f.name ≡ true) × (length f.bytes < 2 ^ 64) × Entries fs

@@ -229,7 +229,7 @@ pub entries_push : (bs : List ℕ) (fs : List SourceFile) (f : SourceFile) (mid 
 entries_push bs [] f mid rest h k = (rest, subst (λ (v : List ℕ). IsEntry v f rest) (sym h) k, refl)
 entries_push bs (g ∷ fs) f mid rest h k = (h.0, h.1, entries_push h.0 fs f mid rest h.2 k)
 
--- where fewer files are read than there are, one more is
+-- if fewer files are read than there are, one more is read
 pub entries_go_on : (bs : List ℕ) (fs gs : List SourceFile) (mid rest : List ℕ) → AreEntries bs fs mid → AreEntries bs gs rest → length fs < length gs → (f : SourceFile) × (r : List ℕ) × IsEntry mid f r
 entries_go_on bs [] [] mid rest h k l = absurd (omega arith)
 entries_go_on bs [] (g ∷ gs) mid rest h k l = (g, k.0, subst (λ (v : List ℕ). IsEntry v g k.0) h k.1)

@@ -143,7 +143,7 @@ module _ (m : FileMap) (files : List SourceFile) (opened : IsOpen m) (plan : Hol
         at_gate any found (subst (λ (f : SourceFile). Recovers (insert (after files m) f.name any) found) h.1 (subst (λ (fs : List SourceFile). Recovers (insert (after fs m) failed.name any) found) h.0 r))
     by (inr h) = at_file done failed h.0 any h.1 found r
 
-  -- wherever it stops, the plan stands
+  -- after each stop the folder holds the plan
   pub plan_stays : (done : List SourceFile) (failed : SourceFile) (rest : List SourceFile) (any : List ℕ) → plan_writes files ≡ done ++ failed ∷ rest
       → HoldsPlan (insert (after done m) failed.name any) files
   plan_stays done failed rest any split = by (split_last files (file_of gate_name []) done failed rest split) where
@@ -242,7 +242,7 @@ holds_by held files p shut (d ∷ c ∷ ds) failed rest any split o =
     (subst (λ (f : SourceFile). HoldsPlan (insert (after ds (insert (insert held plan_name (plan_text files)) f.name f.bytes)) failed.name any) files) second
     (plan_stays (ready held files) files (ready_open held files) (ready_plan held files p) ds failed rest any tails))
 
--- where an open gate has a plan, something is recovered
+-- if an open gate has a plan, some project is recovered
 something : (now : FileMap) (files : List SourceFile) → (IsOpen now → HoldsPlan now files) → (found : FileSet) × Recovers now found
 something now files h = by (get now gate_name) refl where
   at : (bytes : List ℕ) (b : Bool) → get now gate_name ≡ Some bytes → bytes_eq bytes open_bytes ≡ b → (found : FileSet) × Recovers now found

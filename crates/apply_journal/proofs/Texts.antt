@@ -38,12 +38,12 @@ entries_more fs i f start text more h e t m =
 
 -- ---- the files that are picked
 
--- the files whose numbers are among some, where the first file has the number `at`
+-- the files whose numbers are among some, if the first file has the number `at`
 abbrev pub picked : ℕ → List ℕ → List SourceFile → List SourceFile
 picked at numbers [] = []
 picked at numbers (file ∷ files) = cond (list_any (λ n. n == at) numbers) (file ∷ picked (at + 1) numbers files) (picked (at + 1) numbers files)
 
--- ---- they keep what the files of a project keep
+-- ---- picked files have the properties of the files of a project
 
 picked_all : (p : List ℕ → Bool) (at : ℕ) (ns : List ℕ) (fs : List SourceFile) → list_all p (names_of fs) ≡ true → list_all p (names_of (picked at ns fs)) ≡ true
 picked_all p at ns [] h = refl

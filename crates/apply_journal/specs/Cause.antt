@@ -4,7 +4,7 @@ use Rattle.tree_io.specs.Outside.{Rose}
 use Rattle.apply_journal.specs.declared.error.RecoverError.{RecoverError}
 use Rattle.apply_journal.specs.declared.error.RecoverError.TheVariants.{Read, Write, Memory}
 
--- the count of faults never falls, Read comes only where it rose, and always where it is greater afterwards
+-- the count of faults never falls; if the error is Read, it rose; if it is greater afterwards, the error is Read
 pub record HasReadCause {T : Type 0} (before now : ℕ) (result : Result T RecoverError) : Type 0 where
   pub later : before ≤ now
   pub read : IsErrOf result Read → Rose before now

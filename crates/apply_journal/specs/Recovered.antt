@@ -43,8 +43,8 @@ project_in held = record { entries = sources_of held; manifest = manifest_of hel
 abbrev pub HoldsPlan : FileMap → List SourceFile → Type 0
 HoldsPlan held files = (bytes : List ℕ) × (get held plan_name ≡ Some bytes) × IsPlan bytes files
 
--- The sources and the manifest that are recovered: with the plan's files put in where the gate is open and there is a
--- plan, and as they are where not (Recovered).
+-- The sources and the manifest that are recovered. If the gate is open and there is a plan, the plan's files replace
+-- those of the folder. If not, they are as they are (Recovered).
 pub data Recovers (held : FileMap) : FileSet → Type 0 where
   planned : (files : List SourceFile) → IsOpen held → HoldsPlan held files → Recovers held (project_in (after files held))
   closed : (IsOpen held → ⊥) → Recovers held (project_in held)
@@ -63,7 +63,7 @@ pub record IsLost (held : FileMap) : Type 0 where
 abbrev pub ArePlanWrites : List SourceFile → Type 0
 ArePlanWrites writes = (files : List SourceFile) × IsPlan (plan_text files) files × (writes ≡ plan_writes files)
 
--- the writes that a recovery owes to a folder: none where the gate is not open
+-- the writes that a recovery owes to a folder: none if the gate is not open
 pub data IsDue (held : FileMap) : Option (List SourceFile) → Type 0 where
   rests : (IsOpen held → ⊥) → IsDue held None
   due : (files : List SourceFile) → IsOpen held → HoldsPlan held files → IsDue held (Some (plan_writes files))

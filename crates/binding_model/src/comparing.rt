@@ -26,7 +26,8 @@ fn same_links(old: &[Link], new: &[Link]) -> bool
     old == new
 }
 
-fn same_groups(old: &[Row<Place>], new: &[Row<Place>]) -> bool
+/// Whether two lists of groups are one.
+pub fn same_groups(old: &[Row<Place>], new: &[Row<Place>]) -> bool
     ensures { Decides result (old.now ≡ new.now) }
 {
     let mut rest = new;

@@ -13,6 +13,7 @@ ghost use Rattle.dependency_kernel.specs.Foot.{IsFoot};
 use crate::folder::load_sources;
 use crate::pieces::{Object, goal, place};
 use crate::watched::watch_target;
+use binding_model::same_groups;
 use capture_check::{Fault, first_fault, local_fault};
 use ml_lexer::lex;
 use ml_syntax::Project;
@@ -21,7 +22,7 @@ use project_reading::read_project;
 use rename_project::resolve_facts;
 use rename_steps::{judge_foot, new_source};
 use rotor_base::{
-    Facts, Files, Goal, Link, MAX_FILE_BYTES, MAX_NAME_BYTES, Memory, Place, Ref, Refusal, Row,
+    Facts, Files, Goal, Link, MAX_FILE_BYTES, MAX_NAME_BYTES, Memory, Place, Ref, Refusal,
     SourceFile, Target, Watch,
 };
 use std::alloc::{AllocError, Global};
@@ -177,31 +178,6 @@ fn same_items(old: &[Link], new: &[Link]) -> bool
         }
     }
     rest.is_empty()
-}
-
-/// Whether two lists of groups are one.
-fn same_groups(old: &[Row<Place>], new: &[Row<Place>]) -> bool
-    ensures { Decides result (old.now ≡ new.now) }
-{
-    let mut rest = new;
-    for group in old {
-        match rest {
-            [] => return false,
-            [other, others @ ..] => {
-                if !same_places(group.as_slice(), other.as_slice()) {
-                    return false;
-                }
-                rest = others;
-            }
-        }
-    }
-    rest.is_empty()
-}
-
-fn same_places(old: &[Place], new: &[Place]) -> bool
-    ensures { Decides result (old.now ≡ new.now) }
-{
-    old == new
 }
 
 /// A fault as a list of its kind and its places and goals, or `null`.

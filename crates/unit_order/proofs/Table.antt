@@ -1,5 +1,5 @@
 -- The positions in the rows of the table of needs are those of the units that each unit needs.
-use Rattle.std.proofs.Common.{◌≡◌, ℕ, suc, zero, ◌+◌, ◌<◌, ◌≤◌, length, get_or, drop, List, [], ◌∷◌, ◌++◌, All, Bool, true, false, ◌&&◌, ◌||◌, not, cond, count_by, map, nat_eq, refl, sym, subst, ap, ◌∙◌, arith, append_assoc}
+use Rattle.std.proofs.Common.{◌≡◌, ℕ, suc, zero, ◌+◌, ◌<◌, ◌≤◌, length, get_or, drop, List, [], ◌∷◌, ◌++◌, All, Bool, true, false, ◌||◌, cond, count_by, map, nat_eq, refl, sym, subst, ap, ◌∙◌, arith, append_assoc}
 use Rattle.std.specs.List.{list_any}
 use Rattle.std.proofs.lemmas.Bool.{eq-eqb, ne_eqb, or_left}
 use Rattle.std.proofs.lemmas.List.{get_or-map, get_or_default, length-map, drop_more}
@@ -8,8 +8,6 @@ use Rattle.std.proofs.lemmas.List.Elements.{All-nil, All-cons, All-weaker}
 use Rattle.ml_syntax.specs.Tree.{UnitTree}
 use Rattle.ml_syntax.specs.declared.module.UnitTree as trees
 use Rattle.ml_syntax.specs.View.{view_unit}
-use Rattle.std.specs.Str.{bytes_eq}
-use Rattle.unit_order.specs.Heads.{is_among, unit_heads}
 use Rattle.unit_order.specs.Order.{needs_unit}
 use Rattle.unit_order.specs.Positions.{blank, views, unit_at}
 use Rattle.unit_order.specs.Needs.{need_table, positions_from, AreNeeds, times}
@@ -91,13 +89,6 @@ table_needs us = record {
   where
     from_zero : (j : ℕ) → j ≡ 0 + j
     from_zero j = omega arith
-
--- a unit with no heads needs none
-pub no_needs : (u : UnitTree) (units : List trees.UnitTree) (at : ℕ) → unit_heads u ≡ [] → positions_from at (map (λ v. needs_unit u v.name) units) ≡ []
-no_needs u [] at none = refl
-no_needs u (v ∷ units) at none =
-    let rest = positions_from (at + 1) (map (λ w. needs_unit u w.name) units) in
-    ap (λ heads. cond (is_among heads v.name && not (bytes_eq v.name u.name)) (at ∷ rest) rest) none ∙ no_needs u units (at + 1) none
 
 -- one more entry of the row is gone through
 pub positions_more : (row : List Bool) (list whole : List ℕ) (at : ℕ) → at < length row → list ++ positions_from at (drop at row) ≡ whole → cond (get_or row at false) (list ++ at ∷ []) list ++ positions_from (at + 1) (drop (at + 1) row) ≡ whole

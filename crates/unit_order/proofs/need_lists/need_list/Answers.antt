@@ -6,7 +6,7 @@ use Rattle.ml_syntax.specs.View.{view_unit}
 use Rattle.unit_order.specs.Heads.{is_among, unit_heads}
 use Rattle.unit_order.specs.Order.{needs_unit}
 use Rattle.unit_order.specs.Needs.{positions_from}
-use Rattle.unit_order.proofs.Table.{no_needs, positions_more}
+use Rattle.unit_order.proofs.Table.{positions_more}
 use Rattle.unit_order.proofs.need_lists.need_list.Goals.{then-is_needed+in_ok-push, else-is_needed}
 use Rattle.unit_order.proofs.need_lists.need_list.Goals as goal
 

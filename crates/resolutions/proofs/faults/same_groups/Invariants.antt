@@ -1,6 +1,0 @@
-use Rattle.std.proofs.Common.{◌≡◌, drop}
-use Rattle.resolutions.proofs.faults.same_groups.Given as goal
-
--- the lists are one exactly where what is left of them is
-abbrev pub invariant-loop-group : goal.invariant-loop-group
-invariant-loop-group l = (drop l.group-index l.old ≡ l.rest → l.fn.old ≡ l.fn.new) × (l.fn.old ≡ l.fn.new → drop l.group-index l.old ≡ l.rest)
