@@ -15,4 +15,4 @@ pub use laws::{plans_are_one, stops_are_recovered};
 pub use plan::{Plan, make_plan};
 pub use reading::read_plan;
 pub use recovery::{Recovery, read_recovery, recover};
-pub use safe::{safe_apply, take_room};
+pub use safe::{safe_apply, safe_writes, take_room};

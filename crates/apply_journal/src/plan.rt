@@ -46,6 +46,14 @@ impl Plan {
     {
         &self.text
     }
+
+    /// The text of the plan, and its files.
+    pub(crate) fn into_parts(self) -> (Vec<u8>, Vec<SourceFile>)
+        ensures text { result.0.items ≡ plan_text self }
+        ensures files { result.1.items ≡ self }
+    {
+        (self.text, self.files)
+    }
 }
 
 /// The plan of the files of a project that have these numbers, counted from 0. The numbers are in strict order.

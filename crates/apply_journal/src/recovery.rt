@@ -120,7 +120,10 @@ fn stored_plan<T: Tree>(
 }
 
 /// The files of a plan, and the empty gate behind them.
-fn with_closed_gate(alloc: Global, files: Vec<SourceFile>) -> Result<Vec<SourceFile>, Memory>
+pub(crate) fn with_closed_gate(
+    alloc: Global,
+    files: Vec<SourceFile>,
+) -> Result<Vec<SourceFile>, Memory>
     ensures { IfOk result (λ writes. writes.items ≡ plan_writes files.items) }
 {
     let mut writes = files;

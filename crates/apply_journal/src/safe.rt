@@ -1,12 +1,14 @@
 //! Safe writes.
-ghost use Rattle.std.specs.Prelude.{◌≡◌, ◌⊎◌, IsErr, OnOk, OnErr};
+ghost use Rattle.std.specs.Prelude.{◌≡◌, ◌⊎◌, IfOk, IsErr, OnOk, OnErr};
 ghost use Rattle.tree_io.specs.Outside.{HasFault, KeepsRoom, StaysSteady};
 ghost use Rattle.tree_writes.specs.Writes.{HasRoom, Written, StoppedWriting};
 ghost use Rattle.apply_journal.specs.Recovered.{plan_writes, safe_writes};
 
 use crate::Plan;
 use crate::gate::{GATE, OPEN};
-use rotor_base::{Failed, Memory, SourceFile};
+use crate::plan::make_file;
+use crate::recovery::with_closed_gate;
+use rotor_base::{Failed, Memory, Row, SourceFile, Text};
 use std::alloc::Global;
 use tree_io::Tree;
 use tree_writes::write_all;
@@ -29,6 +31,26 @@ pub fn take_room<T: Tree>(alloc: Global, tree: &mut T, plan: &Plan) -> Result<()
     tree_writes::take_room(alloc, plan.files(), tree)?;
     tree.room(alloc, PLAN, plan.text().len() as u32)?;
     tree.room(alloc, GATE, OPEN.len() as u32)
+}
+
+/// The writes of [`safe_apply`], in their order: the plan, the open gate, the plan's files, and the empty gate.
+///
+/// # Errors
+///
+/// `Memory` alone.
+pub fn safe_writes(alloc: Global, plan: Plan) -> Result<Vec<SourceFile>, Memory>
+    ensures { IfOk result (λ writes. writes.items ≡ safe_writes plan) }
+{
+    let (text, files) = plan.into_parts();
+    let mut writes = Vec::new(alloc);
+    writes.push(SourceFile {
+        name: Text::from_string(String::from_str(alloc, PLAN)?),
+        bytes: Row::from_vec(text),
+    })?;
+    writes.push(make_file(alloc, GATE, OPEN)?)?;
+    let mut rest = with_closed_gate(alloc, files)?;
+    writes.append(&mut rest)?;
+    Ok(writes)
 }
 
 /// Writes the plan, opens the gate, writes the plan's files in byte order of their names, and closes the gate. It
