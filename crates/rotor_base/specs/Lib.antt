@@ -1,4 +1,5 @@
 pub mod Files
+pub mod Lines
 pub mod Name
 pub mod Place
 pub mod Stem
