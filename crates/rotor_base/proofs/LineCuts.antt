@@ -1,5 +1,5 @@
 -- The lines of a text, one after another.
-use Rattle.std.proofs.Common.{◌≡◌, ◌≢◌, ℕ, suc, ◌+◌, ◌-◌, ◌<◌, ◌≤◌, nat_lt, ne_eqb, Some, None, List, [], ◌∷◌, Bool, eqb, true, false, not, cond, refl, ap, ◌∙◌, length, take, drop, arith}
+use Rattle.std.proofs.Common.{◌≡◌, ◌≢◌, ℕ, suc, ◌+◌, ◌<◌, ◌≤◌, nat_lt, ne_eqb, Some, None, List, [], ◌∷◌, Bool, eqb, true, false, not, cond, refl, ap, ◌∙◌, length, take, drop, arith}
 use Rattle.std.specs.List.{slice_split, onto_first, position, position_or_len, before_first, after_first}
 use Rattle.std.specs.Str.Lines.{lines, lines_of_parts, strip_carriage_return}
 use Rattle.std.proofs.lemmas.List.Splits.{slice_split_first, length-slice_split}
