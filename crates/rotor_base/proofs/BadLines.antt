@@ -5,7 +5,7 @@ use Rattle.std.specs.Str.{bytes_eq}
 use Rattle.std.proofs.lemmas.Bool.{or_cases, or_left, or_right}
 use Rattle.std.proofs.lemmas.Slice.Eq.{bytes_eq-Decides}
 use Rattle.rotor_base.specs.Files.{bad_line}
-use Rattle.rotor_base.specs.Manifest.{unit_names, IsGood, AreGood, HasLine, IsFirstBad, IsShort, IsBadLine, TellsBadLine, HangsOnNames}
+use Rattle.rotor_base.specs.Manifest.{unit_names, IsGood, AreGood, HasLine, IsFirstBad, IsShort, IsBadLine, AnswersBadLine, DependsOnNames}
 use Rattle.rotor_base.specs.declared.unit.SourceUnit.{SourceUnit}
 
 -- ---- names
@@ -101,8 +101,8 @@ in_named (u ∷ us) x h =
       | inr m ↦ or_right (is_named x u) (list_any (is_named x) us) (in_named us x m)
     ]
 
-pub hangs_on_names : HangsOnNames
-hangs_on_names ls us vs h =
+pub depends_on_names : DependsOnNames
+depends_on_names ls us vs h =
     names_alone ls us vs (λ x. both_true (list_any (is_named x) us) (list_any (is_named x) vs)
     (λ e. in_named vs x ((h x).0 (named_in us x e)))
     (λ e. in_named us x ((h x).1 (named_in vs x e))))
@@ -132,7 +132,8 @@ left_parts true true h = cc
 left_parts true false h = (refl, refl)
 left_parts false b h = cc
 
-leaves_others : (units : List SourceUnit) (y : List ℕ) → y ≢ [] → list_any (is_named y) units ≡ true → Leaves units (filter (λ u. not (bytes_eq u.name y)) units) y
+leaves_others : (units : List SourceUnit) (y : List ℕ) → y ≢ [] → list_any (is_named y) units ≡ true
+    → Leaves units (filter (λ u. not (bytes_eq u.name y)) units) y
 leaves_others units y filled is = record { here = inr (named_in units y is); down = λ x m. down x m (bytes_eq y x) refl; up = up }
   where
     left : List SourceUnit
@@ -183,7 +184,8 @@ module _ (units left : List SourceUnit) (y : List ℕ) (h : Leaves units left y)
   has_up : (ls : List (List ℕ)) (x : List ℕ) → HasLine ls x → HasLine (y ∷ ls) x
   has_up ls x k = (k.0, in_tail y x ls k.1)
 
-  lines_up : (ls : List (List ℕ)) → ((x : List ℕ) → Contains (unit_names left) x → HasLine ls x) → (x : List ℕ) → Contains (unit_names units) x → HasLine (y ∷ ls) x
+  lines_up : (ls : List (List ℕ)) → ((x : List ℕ) → Contains (unit_names left) x → HasLine ls x)
+      → (x : List ℕ) → Contains (unit_names units) x → HasLine (y ∷ ls) x
   lines_up ls all x m =
       elim (h.down x m) [
         | inl same ↦ subst (HasLine (y ∷ ls)) (sym same.1) (same.0, at_head y ls)
@@ -256,9 +258,13 @@ is_bad_line ((b ∷ bs) ∷ ls) units = by (list_any (is_named (b ∷ bs)) units
           bad = λ g. elim g [ inl z ↦ cc | inr m ↦ (let yes : list_any (is_named (b ∷ bs)) units ≡ true = in_named units (b ∷ bs) m.0 in cc) ];
         })
 
+-- b ends in front of x, and c goes on behind it
+abbrev Behind : List (List ℕ) → List ℕ → List (List ℕ) → Type 0
+Behind b x c = (r : List (List ℕ)) × (c ≡ b ++ x ∷ r)
+
 -- two places in one list: they are one, or one is behind the other
 splits : (b c : List (List ℕ)) (x y : List ℕ) (d e : List (List ℕ)) → b ++ x ∷ d ≡ c ++ y ∷ e
-    → (b ≡ c) ⊎ (((r : List (List ℕ)) × (c ≡ b ++ x ∷ r)) ⊎ ((r : List (List ℕ)) × (b ≡ c ++ y ∷ r)))
+    → (b ≡ c) ⊎ (Behind b x c ⊎ Behind c y b)
 splits [] [] x y d e h = inl refl
 splits [] (z ∷ c) x y d e h = let same : z ≡ x = cc in inr (inl (c, ap (λ w. w ∷ c) same))
 splits (z ∷ b) [] x y d e h = let same : z ≡ y = cc in inr (inr (b, ap (λ w. w ∷ b) same))
@@ -270,8 +276,8 @@ splits (z ∷ b) (w ∷ c) x y d e h = more (splits b c x y d e rest)
     rest : b ++ x ∷ d ≡ c ++ y ∷ e
     rest = cc
 
-    more : ((b ≡ c) ⊎ (((r : List (List ℕ)) × (c ≡ b ++ x ∷ r)) ⊎ ((r : List (List ℕ)) × (b ≡ c ++ y ∷ r))))
-        → (z ∷ b ≡ w ∷ c) ⊎ (((r : List (List ℕ)) × (w ∷ c ≡ (z ∷ b) ++ x ∷ r)) ⊎ ((r : List (List ℕ)) × (z ∷ b ≡ (w ∷ c) ++ y ∷ r)))
+    more : ((b ≡ c) ⊎ (Behind b x c ⊎ Behind c y b))
+        → (z ∷ b ≡ w ∷ c) ⊎ (Behind (z ∷ b) x (w ∷ c) ⊎ Behind (w ∷ c) y (z ∷ b))
     more (inl k) = inl (ap (λ v. v ∷ b) same ∙ ap (λ vs. w ∷ vs) k)
     more (inr (inl k)) = inr (inl (k.0, ap (λ v. v ∷ c) (sym same) ∙ ap (λ vs. z ∷ vs) k.1))
     more (inr (inr k)) = inr (inr (k.0, ap (λ v. v ∷ b) same ∙ ap (λ vs. w ∷ vs) k.1))
@@ -279,7 +285,7 @@ splits (z ∷ b) (w ∷ c) x y d e h = more (splits b c x y d e rest)
 one_first : (units : List SourceUnit) (ls : List (List ℕ)) (m n : ℕ) → IsFirstBad units ls m → IsFirstBad units ls n → m ≡ n
 one_first units ls m n f g = by (splits f.before g.before f.line g.line f.after g.after (sym f.split ∙ g.split))
   where
-    by : ((f.before ≡ g.before) ⊎ (((r : List (List ℕ)) × (g.before ≡ f.before ++ f.line ∷ r)) ⊎ ((r : List (List ℕ)) × (f.before ≡ g.before ++ g.line ∷ r)))) → m ≡ n
+    by : ((f.before ≡ g.before) ⊎ (Behind f.before f.line g.before ⊎ Behind g.before g.line f.before)) → m ≡ n
     by (inl e) = f.counted ∙ ap (λ before. length before + 1) e ∙ sym g.counted
     by (inr (inl k)) = absurd (f.bad (g.good f.before k.0 f.line k.1))
     by (inr (inr k)) = absurd (g.bad (f.good g.before k.0 g.line k.1))
@@ -297,8 +303,8 @@ one_bad_line units ls (Some m) (Some n) (inl f) (inr s) = absurd (f.bad (s.good 
 one_bad_line units ls (Some m) (Some n) (inr s) (inl f) = absurd (f.bad (s.good f.before f.after f.line f.split))
 one_bad_line units ls (Some m) (Some n) (inr s) (inr t) = ap Some (s.counted ∙ sym t.counted)
 
-pub tells_bad_line : TellsBadLine
-tells_bad_line ls units o = (
+pub answers_bad_line : AnswersBadLine
+answers_bad_line ls units o = (
   λ e. subst (IsBadLine units ls) e (is_bad_line ls units),
   λ h. one_bad_line units ls (bad_line ls units) o (is_bad_line ls units) h,
 )

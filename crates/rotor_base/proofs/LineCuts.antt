@@ -43,7 +43,8 @@ all_before bs line is whole =
     grind (arith, common_steps)
 
 -- where the bytes before the first LF are all bytes, they are the one line
-pub lines_whole : (bs line rest : List ℕ) → 0 < length bs → line ≡ take (position_or_len (λ b. eqb b 10) bs) bs → rest ≡ drop (position_or_len (λ b. eqb b 10) bs + 1) bs
+pub lines_whole : (bs line rest : List ℕ) → 0 < length bs
+    → line ≡ take (position_or_len (λ b. eqb b 10) bs) bs → rest ≡ drop (position_or_len (λ b. eqb b 10) bs + 1) bs
     → length line ≡ length bs → lines bs ≡ line ∷ lines rest
 lines_whole bs line rest some is behind whole =
     let all : position_or_len (λ b. eqb b 10) bs ≡ length bs = all_before bs line is whole in
@@ -52,7 +53,8 @@ lines_whole bs line rest some is behind whole =
     rw (same, none) (lines_open bs some all)
 
 -- where they are fewer, they are the first line, without the CR at its end
-pub lines_cut : (bs line rest : List ℕ) → line ≡ take (position_or_len (λ b. eqb b 10) bs) bs → rest ≡ drop (position_or_len (λ b. eqb b 10) bs + 1) bs
+pub lines_cut : (bs line rest : List ℕ)
+    → line ≡ take (position_or_len (λ b. eqb b 10) bs) bs → rest ≡ drop (position_or_len (λ b. eqb b 10) bs + 1) bs
     → length line ≢ length bs → lines bs ≡ strip_carriage_return line ∷ lines rest
 lines_cut bs line rest is behind fewer =
     let within = prefix_len-le-length (λ (b : ℕ). not (eqb b 10)) bs in
@@ -71,7 +73,8 @@ onto_by b at bs parts h =
 feeds_by : (b : ℕ) (bs : List ℕ) (t : Bool)
     → (0 < length bs → feed_lines bs ≡ take (position_or_len (λ b. eqb b 10) bs) bs ∷ feed_lines (drop (position_or_len (λ b. eqb b 10) bs + 1) bs))
     → cond t ([] ∷ feed_lines bs) (onto_first b (feed_lines bs)) ≡
-    take (cond (not t) (1 + position_or_len (λ b. eqb b 10) bs) 0) (b ∷ bs) ∷ feed_lines (drop (cond (not t) (1 + position_or_len (λ b. eqb b 10) bs) 0 + 1) (b ∷ bs))
+    take (cond (not t) (1 + position_or_len (λ b. eqb b 10) bs) 0) (b ∷ bs)
+    ∷ feed_lines (drop (cond (not t) (1 + position_or_len (λ b. eqb b 10) bs) 0 + 1) (b ∷ bs))
 feeds_by b bs true h = refl
 feeds_by b [] false h = refl
 feeds_by b (c ∷ bs) false h = onto_by b (position_or_len (λ b. eqb b 10) (c ∷ bs)) (c ∷ bs) (feed_lines (c ∷ bs)) (h (omega arith))

@@ -15,7 +15,7 @@ IsGood units before line = (line ≡ []) ⊎ (Contains (unit_names units) line �
 abbrev pub AreGood : List SourceUnit → List (List ℕ) → Type 0
 AreGood units lines = (before after : List (List ℕ)) (line : List ℕ) → lines ≡ before ++ line ∷ after → IsGood units before line
 
--- a line that is not empty is this name
+-- the name is not empty, and a line is this name
 abbrev pub HasLine : List (List ℕ) → List ℕ → Type 0
 HasLine lines name = (name ≢ []) × Contains lines name
 
@@ -37,17 +37,17 @@ pub record IsShort (units : List SourceUnit) (lines : List (List ℕ)) (number :
   pub named : Contains (unit_names units) name
   pub without : HasLine lines name → ⊥
 
--- no line is bad: all are good, and each unit has one; or the line of this number is
+-- no line is bad: all are good, and each unit has a line; or the bad line has this number
 abbrev pub IsBadLine : List SourceUnit → List (List ℕ) → Option ℕ → Type 0
 IsBadLine units lines None = AreGood units lines × ((name : List ℕ) → Contains (unit_names units) name → HasLine lines name)
 IsBadLine units lines (Some number) = IsFirstBad units lines number ⊎ IsShort units lines number
 
 -- `bad_line` is this answer exactly if the lines are so
-abbrev pub TellsBadLine : Type 0
-TellsBadLine = (lines : List (List ℕ)) (units : List SourceUnit) (answer : Option ℕ) → (bad_line lines units ≡ answer) ↔ IsBadLine units lines answer
+abbrev pub AnswersBadLine : Type 0
+AnswersBadLine = (lines : List (List ℕ)) (units : List SourceUnit) (answer : Option ℕ) → (bad_line lines units ≡ answer) ↔ IsBadLine units lines answer
 
 -- units that have the same names have the same bad line
-abbrev pub HangsOnNames : Type 0
-HangsOnNames =
+abbrev pub DependsOnNames : Type 0
+DependsOnNames =
     (lines : List (List ℕ)) (us vs : List SourceUnit)
     → ((name : List ℕ) → Contains (unit_names us) name ↔ Contains (unit_names vs) name) → bad_line lines us ≡ bad_line lines vs
