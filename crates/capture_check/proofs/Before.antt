@@ -1,7 +1,7 @@
 -- The order of places.
 use Rattle.std.proofs.Common.{◌≡◌, ◌<◌, ◌⊎◌, true, false, sym, ◌∙◌, subst, inl, inr, arith, nat_lt}
 use Rattle.rotor_base.specs.declared.place.Place.{Place}
-use Rattle.dependency_kernel.specs.Foot.{IsBefore}
+use Rattle.rotor_base.specs.Place.{IsBefore}
 use Rattle.binding_model.specs.Facts.{is_before}
 
 pub not_before : (p : Place) → IsBefore p p → ⊥

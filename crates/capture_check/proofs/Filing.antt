@@ -5,9 +5,8 @@ use Rattle.std.specs.Ordering.{is_eq}
 use Rattle.std.proofs.lemmas.Cmp.{tied_itself}
 use Rattle.std.specs.BTreeMap.{BTreeMap, get, is_at}
 use Rattle.rotor_base.specs.declared.place.Place.{Place}
-use Rattle.rotor_base.specs.Place.{same_place}
-use Rattle.dependency_kernel.specs.Neighbors.{place_cmp}
-use Rattle.dependency_kernel.proofs.Places.{place_found, place_total}
+use Rattle.rotor_base.specs.Place.{same_place, place_cmp}
+use Rattle.rotor_base.proofs.Places.{place_found, place_total}
 use Rattle.ml_syntax.specs.declared.place.Mark.{Mark}
 use Rattle.ml_syntax.specs.Places.{Site, mark, sites, binder_sites}
 use Rattle.ml_syntax.specs.Tree.{FileTree, Body, Face, UnitTree}

@@ -5,7 +5,7 @@ use Rattle.std.proofs.lemmas.Option.{slice_get_within}
 use Rattle.std.proofs.lemmas.Bool.{cases_order}
 use Rattle.rotor_base.specs.declared.place.Place.{Place}
 use Rattle.rotor_base.specs.declared.place.Goal.{Goal}
-use Rattle.dependency_kernel.specs.Foot.{IsBefore}
+use Rattle.rotor_base.specs.Place.{IsBefore}
 use Rattle.binding_model.specs.Facts.{is_before}
 use Rattle.capture_check.specs.declared.fault.Change.{Change}
 use Rattle.rotor_base.specs.declared.place.Goal.TheVariants.{Decl}

@@ -11,8 +11,7 @@ use Rattle.rotor_base.specs.declared.looks.Watch.{Watch}
 use Rattle.rotor_base.specs.declared.looks.RefLook.{RefLook}
 use Rattle.rotor_base.specs.declared.looks.LinkLook.{LinkLook}
 use Rattle.rotor_base.specs.declared.looks.Looks.{Looks}
-use Rattle.rotor_base.specs.Place.{same_place}
-use Rattle.dependency_kernel.specs.Neighbors.{place_cmp}
+use Rattle.rotor_base.specs.Place.{same_place, place_cmp}
 use Rattle.ml_syntax.specs.Sound.{IsSound}
 use Rattle.ml_syntax.specs.Tree.{UnitTree}
 use Rattle.binding_model.specs.Facts.{facts}

@@ -12,8 +12,7 @@ use Rattle.rotor_base.specs.declared.place.Ref.{Ref}
 use Rattle.rotor_base.specs.declared.looks.Watch.{Watch}
 use Rattle.rotor_base.specs.declared.looks.RefLook.{RefLook}
 use Rattle.rotor_base.specs.declared.looks.LinkLook.{LinkLook}
-use Rattle.rotor_base.specs.Place.{same_place}
-use Rattle.dependency_kernel.specs.Neighbors.{place_cmp}
+use Rattle.rotor_base.specs.Place.{same_place, place_cmp}
 use Rattle.shape_core.specs.Looks.{is_member}
 use Rattle.binding_model.specs.Steps.{a_ref}
 use Rattle.binding_model.specs.Local.{ref_look_at, link_look_at, would_goal, would_come, would_be, would_links}

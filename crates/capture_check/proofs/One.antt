@@ -6,7 +6,7 @@ use Rattle.rotor_base.specs.declared.place.Goal.{Goal}
 use Rattle.rotor_base.specs.declared.place.Goal.TheVariants.{Decl, Outside, Missing, Hidden, Blur}
 use Rattle.rotor_base.specs.declared.place.Ref.{Ref}
 use Rattle.rotor_base.specs.declared.place.Link.{Link}
-use Rattle.dependency_kernel.specs.Foot.{IsBefore}
+use Rattle.rotor_base.specs.Place.{IsBefore}
 use Rattle.capture_check.specs.declared.fault.Fault.{Fault}
 use Rattle.capture_check.specs.declared.fault.Fault.TheVariants.{Clash, Capture, Mislink}
 use Rattle.capture_check.specs.Fault.{Names, IsClash, of_ref, of_link, IsFirstDiffering, IsCapture, IsMislink, before, FaultsAreOne}

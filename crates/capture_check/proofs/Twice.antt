@@ -2,8 +2,7 @@
 use Rattle.std.proofs.Common.{◌≡◌, ℕ, ◌⊎◌, ◌||◌, ◌&&◌, Bool, true, false, refl, ap, sym, ◌∙◌, subst, inl, inr, arith, List, Option, Some, None, if◌then◌else◌, bytes_eq, true≢false}
 use Rattle.std.proofs.lemmas.Slice.Eq.{bytes_eq-Decides}
 use Rattle.rotor_base.specs.declared.place.Place.{Place}
-use Rattle.rotor_base.specs.Place.{same_place}
-use Rattle.dependency_kernel.specs.Foot.{IsBefore}
+use Rattle.rotor_base.specs.Place.{same_place, IsBefore}
 use Rattle.binding_model.specs.Facts.{is_before}
 use Rattle.binding_model.proofs.LastEntries.{same_is}
 use Rattle.capture_check.specs.declared.fault.Repeat.{Repeat}

@@ -2,8 +2,7 @@
 use Rattle.std.specs.Prelude.{ℕ, List, [], ◌∷◌, Option, Some, None, unwrap_or, ◌≡◌, ◌&&◌, if◌then◌else◌}
 use Rattle.std.specs.BTreeMap.{BTreeMap, get}
 use Rattle.rotor_base.specs.declared.place.Place.{Place}
-use Rattle.rotor_base.specs.Place.{same_place}
-use Rattle.dependency_kernel.specs.Neighbors.{place_cmp}
+use Rattle.rotor_base.specs.Place.{same_place, place_cmp}
 use Rattle.ml_syntax.specs.declared.place.Mark.{Mark}
 use Rattle.ml_syntax.specs.Places.{Site}
 use Rattle.ml_syntax.specs.Tree.{FileTree, Body, Face, UnitTree}

@@ -3,7 +3,7 @@
 ghost use Rattle.std.specs.Prelude.{◌≡◌, IfOk, OnOk};
 ghost use Rattle.std.specs.BTreeMap.{get};
 ghost use Rattle.rotor_base.specs.declared.place.Place.{Place};
-ghost use Rattle.dependency_kernel.specs.Neighbors.{place_cmp};
+ghost use Rattle.rotor_base.specs.Place.{place_cmp};
 ghost use Rattle.ml_syntax.specs.View.{view_project};
 ghost use Rattle.ml_syntax.specs.Sound.{IsSound};
 ghost use Rattle.binding_model.specs.Facts.{facts as project_facts};

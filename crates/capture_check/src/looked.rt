@@ -6,8 +6,7 @@ ghost use Rattle.std.specs.Ordering.{nat_cmp};
 ghost use Rattle.std.specs.BTreeMap.{get};
 ghost use Rattle.std.specs.BTreeSet.{contains};
 ghost use Rattle.rotor_base.specs.declared.place.Place.{Place};
-ghost use Rattle.rotor_base.specs.Place.{same_place};
-ghost use Rattle.dependency_kernel.specs.Neighbors.{place_cmp};
+ghost use Rattle.rotor_base.specs.Place.{same_place, place_cmp};
 ghost use Rattle.shape_core.specs.Shape.{or_else, some_if};
 ghost use Rattle.capture_check.specs.Would.{is_in, goal_by, source_by, ref_by, links_by, HasRefLooks, HasLinkLooks};
 

@@ -3,7 +3,7 @@
 ghost use Rattle.std.specs.Prelude.{◌≡◌, IfOk, OnOk, Some};
 ghost use Rattle.std.specs.BTreeMap.{get};
 ghost use Rattle.rotor_base.specs.declared.place.Place.{Place};
-ghost use Rattle.dependency_kernel.specs.Neighbors.{place_cmp};
+ghost use Rattle.rotor_base.specs.Place.{place_cmp};
 ghost use Rattle.ml_syntax.specs.View.{view_project, view_part_of, view_file};
 ghost use Rattle.binding_model.specs.Renaming.{file_places};
 ghost use Rattle.capture_check.specs.Tables.{filed, number_of, IsTableOf};

@@ -10,9 +10,9 @@ use Rattle.std.proofs.lemmas.Cmp.{tied_itself}
 use Rattle.rotor_base.specs.declared.place.Place.{Place}
 use Rattle.rotor_base.specs.declared.place.Link.{Link}
 use Rattle.rotor_base.specs.declared.place.Goal.TheVariants.{Decl, Outside}
-use Rattle.dependency_kernel.specs.Foot.{IsBefore, IsFixed, IsFixedBy, IsLeastFixed}
-use Rattle.dependency_kernel.specs.Neighbors.{place_cmp}
-use Rattle.dependency_kernel.proofs.Places.{place_found, place_total}
+use Rattle.rotor_base.specs.Place.{IsBefore, place_cmp}
+use Rattle.dependency_kernel.specs.Foot.{IsFixed, IsFixedBy, IsLeastFixed}
+use Rattle.rotor_base.proofs.Places.{place_found, place_total}
 use Rattle.dependency_kernel.proofs.Below.{FoundBelow, found_none, found_more, found_last, found_split, found_all, found_within}
 
 -- one of the first n links has the declaration at one end and the outside at the other

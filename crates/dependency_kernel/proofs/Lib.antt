@@ -1,4 +1,3 @@
-pub mod Places
 pub mod Below
 pub mod Table
 pub mod Paths

@@ -3,7 +3,8 @@ use Rattle.std.proofs.Common.{◌≡◌, ℕ, zero, suc, ◌<◌, ◌⊎◌, ref
 use Rattle.rotor_base.specs.declared.place.Place.{Place}
 use Rattle.rotor_base.specs.declared.place.Link.{Link}
 use Rattle.rotor_base.specs.declared.place.Foot.{Foot}
-use Rattle.dependency_kernel.specs.Foot.{IsBefore, IsLeastFixed}
+use Rattle.rotor_base.specs.Place.{IsBefore}
+use Rattle.dependency_kernel.specs.Foot.{IsLeastFixed}
 use Rattle.dependency_kernel.specs.Laws.{IsTheOnly}
 
 -- no place is before itself, and of two not both are before the other

@@ -4,8 +4,9 @@ use Rattle.std.specs.Prelude.{IsSomeAnd}
 use Rattle.std.specs.BTreeMap.{BTreeMap, get, is_at}
 use Rattle.std.specs.Global.{Vec}
 use Rattle.rotor_base.specs.declared.place.Place.{Place}
-use Rattle.dependency_kernel.specs.Neighbors.{place_cmp, HasNeighbor}
-use Rattle.dependency_kernel.proofs.Places.{place_found}
+use Rattle.rotor_base.specs.Place.{place_cmp}
+use Rattle.dependency_kernel.specs.Neighbors.{HasNeighbor}
+use Rattle.rotor_base.proofs.Places.{place_found}
 
 -- the place is in the list, where there is one
 abbrev pub InList : Place → Option (Vec Place) → Type 0

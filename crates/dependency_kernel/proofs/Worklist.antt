@@ -14,8 +14,9 @@ use Rattle.std.specs.Global.{Vec}
 use Rattle.rotor_base.specs.declared.place.Place.{Place}
 use Rattle.rotor_base.specs.declared.place.Link.{Link}
 use Rattle.dependency_kernel.specs.Foot.{Joined, Path, here, along}
-use Rattle.dependency_kernel.specs.Neighbors.{place_cmp, HasNeighbor}
-use Rattle.dependency_kernel.proofs.Places.{place_found, place_total}
+use Rattle.rotor_base.specs.Place.{place_cmp}
+use Rattle.dependency_kernel.specs.Neighbors.{HasNeighbor}
+use Rattle.rotor_base.proofs.Places.{place_found, place_total}
 use Rattle.dependency_kernel.proofs.Table.{InList, Puts, at_from, put_only, IsTaken}
 
 -- the set has the declaration

@@ -1,5 +1,6 @@
 -- The footprint of a declaration.
-use Rattle.std.specs.Prelude.{◌≡◌, ◌<◌, ◌⊎◌, List, Contains, AllPairs, Option, IfSome, IfNone}
+use Rattle.std.specs.Prelude.{◌≡◌, ◌⊎◌, List, Contains, AllPairs, Option, IfSome, IfNone}
+use Rattle.rotor_base.specs.Place.{IsBefore}
 use Rattle.rotor_base.specs.declared.place.Place.{Place}
 use Rattle.rotor_base.specs.declared.place.Link.{Link}
 use Rattle.rotor_base.specs.declared.place.Foot.{Foot}
@@ -29,10 +30,6 @@ IsFixed links p = (link : Link) × Contains links link × IsFixedBy link p
 -- something that is reached from the declaration d is in a link whose other end is the outside
 abbrev pub IsPinned : List Link → Place → Type 0
 IsPinned links d = (p : Place) × Path links d p × IsFixed links p
-
--- the order of places: by file, then token
-abbrev pub IsBefore : Place → Place → Type 0
-IsBefore p q = (p.file < q.file) ⊎ ((p.file ≡ q.file) × (p.token < q.token))
 
 -- the least of some declarations that is in a link with the outside, or none where there is none
 pub record IsLeastFixed (links : List Link) (decls : List Place) (answer : Option Place) : Type 0 where

@@ -1,8 +1,8 @@
 ghost use Rattle.std.specs.Prelude.{◌≡◌, IfOk, IfSome, IfNone, AllPairs, true};
 ghost use Rattle.std.specs.BTreeSet.{contains};
 ghost use Rattle.rotor_base.specs.declared.place.Place.{Place};
-ghost use Rattle.dependency_kernel.specs.Foot.{IsBefore, IsFixed, IsFixedBy, IsLeastFixed};
-ghost use Rattle.dependency_kernel.specs.Neighbors.{place_cmp};
+ghost use Rattle.rotor_base.specs.Place.{IsBefore, place_cmp};
+ghost use Rattle.dependency_kernel.specs.Foot.{IsFixed, IsFixedBy, IsLeastFixed};
 
 use rotor_base::{Goal, Link, Memory, Place};
 use std::alloc::Global;

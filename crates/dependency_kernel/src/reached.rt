@@ -1,6 +1,7 @@
 ghost use Rattle.std.specs.Prelude.{◌≡◌, IfOk, Contains, AllPairs};
 ghost use Rattle.rotor_base.specs.declared.place.Place.{Place};
-ghost use Rattle.dependency_kernel.specs.Foot.{Path, IsBefore};
+ghost use Rattle.rotor_base.specs.Place.{IsBefore};
+ghost use Rattle.dependency_kernel.specs.Foot.{Path};
 
 use crate::neighbors::neighbors_of;
 use rotor_base::{Link, Memory, Place};

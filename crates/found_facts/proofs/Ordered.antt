@@ -7,8 +7,8 @@ use Rattle.std.specs.Ordering.{is_lt, ordering_then}
 use Rattle.std.specs.declared.cmp.Ordering.TheVariants.{Less, Equal, Greater}
 use Rattle.std.proofs.lemmas.List.Sorted.{ranks_by, sorted_far}
 use Rattle.rotor_base.specs.declared.place.Place.{Place}
-use Rattle.dependency_kernel.specs.Neighbors.{place_cmp}
-use Rattle.dependency_kernel.proofs.Places.{place_total}
+use Rattle.rotor_base.specs.Place.{place_cmp}
+use Rattle.rotor_base.proofs.Places.{place_total}
 use Rattle.binding_model.specs.Facts.{is_before, put, in_order}
 
 -- lists without a later thing that is less than an earlier one

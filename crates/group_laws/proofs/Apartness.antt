@@ -5,8 +5,7 @@ use Rattle.rotor_base.specs.declared.place.Place.{Place}
 use Rattle.rotor_base.specs.declared.place.Goal.{Goal}
 use Rattle.rotor_base.specs.declared.place.Goal.TheVariants.{Decl, Outside, Missing, Hidden, Blur}
 use Rattle.rotor_base.specs.declared.place.Link.{Link}
-use Rattle.rotor_base.specs.Place.{same_place}
-use Rattle.dependency_kernel.specs.Foot.{IsBefore}
+use Rattle.rotor_base.specs.Place.{same_place, IsBefore}
 use Rattle.ml_syntax.specs.Places.{Site, sites}
 use Rattle.ml_syntax.specs.Sound.{IsSound}
 use Rattle.ml_syntax.specs.Tree.{FileTree, Body, Face, UnitTree}

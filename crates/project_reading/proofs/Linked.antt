@@ -12,6 +12,7 @@ use Rattle.std.proofs.lemmas.List.Elements.{All-head, All-tail}
 use Rattle.rotor_base.specs.Files as files
 use Rattle.rotor_base.specs.Files.{FileSet, IsProject, bad_manifest}
 use Rattle.rotor_base.specs.declared.source.SourceFile.{SourceFile}
+use Rattle.rotor_base.proofs.BadLines.{is_named}
 use Rattle.rotor_base.proofs.Kept.{neither}
 use Rattle.rotor_base.specs.Unit.{unit_of}
 use Rattle.ml_syntax.specs.declared.module.UnitTree as trees
@@ -24,7 +25,7 @@ use Rattle.unit_order.specs.Positions.{unit_at, names_at, views}
 use Rattle.unit_order.proofs.Taken.{AreApart, sorted_apart}
 use Rattle.project_reading.specs.Units.{unit_names, unit_from, units_of, unit_named, in_order}
 use Rattle.project_reading.proofs.Names.{sorted_names, among_names, few_names}
-use Rattle.project_reading.proofs.Ordered.{names, is_named, IsOrder, order_is, listed_alike}
+use Rattle.project_reading.proofs.Ordered.{names, IsOrder, order_is, listed_alike}
 use Rattle.project_reading.proofs.Parts.{itself}
 
 -- ---- names

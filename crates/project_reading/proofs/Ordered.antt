@@ -10,6 +10,7 @@ use Rattle.std.proofs.lemmas.List.Elements.{All-nil, All-cons, All-push}
 use Rattle.rotor_base.specs.Files.{bad_line, bad_manifest}
 use Rattle.rotor_base.specs.declared.unit.SourceUnit.{SourceUnit}
 use Rattle.rotor_base.specs.declared.refusal.LoadError.TheVariants.{BadManifest}
+use Rattle.rotor_base.proofs.BadLines.{is_named, and_false, left_named, both_true, names_alone}
 use Rattle.ml_syntax.specs.Sound.{AreDistinct}
 use Rattle.ml_syntax.specs.Tree.{UnitTree}
 use Rattle.unit_order.specs.Heads.{is_among}
@@ -43,11 +44,6 @@ distinct_push (y ∷ ys) x h new = (
   distinct_push ys x h.1
       (none_right (bytes_eq y x) (is_among ys x) new),
 )
-
-both_true : (a b : Bool) → (a ≡ true → b ≡ true) → (b ≡ true → a ≡ true) → a ≡ b
-both_true true b f g = sym (f refl)
-both_true false true f g = g refl
-both_true false false f g = refl
 
 -- ---- the units that are taken without a manifest
 
@@ -153,40 +149,6 @@ derived_is_order us apart all =
 
 -- ---- the lines of a manifest
 
-abbrev pub is_named : List ℕ → SourceUnit → Bool
-is_named x u = bytes_eq u.name x
-
-and_false : (b : Bool) → (b && false) ≡ false
-and_false true = refl
-and_false false = refl
-
-or_and : (a b c : Bool) → (c ≡ true → a ≡ false) → (a || (b && not c)) ≡ ((a || b) && not c)
-or_and true b true h = let bad : true ≡ false = h refl in cc
-or_and true b false h = refl
-or_and false b c h = refl
-
-and_none : (a b c : Bool) → (a ≡ true → c ≡ true) → (b && not c) ≡ ((a || b) && not c)
-and_none true b true h = and_false b
-and_none true b false h = let bad : false ≡ true = h refl in cc
-and_none false b c h = refl
-
--- what is left is named so where it was, and the name is another
-pub left_named : (us : List SourceUnit) (x y : List ℕ)
-    → list_any (is_named x) (filter (λ u. not (bytes_eq u.name y)) us) ≡ (list_any (is_named x) us && not (bytes_eq y x))
-left_named [] x y = refl
-left_named (u ∷ us) x y = by (bytes_eq u.name y) refl (left_named us x y)
-  where
-    by : (b : Bool) → bytes_eq u.name y ≡ b
-        → list_any (is_named x) (filter (λ v. not (bytes_eq v.name y)) us) ≡ (list_any (is_named x) us && not (bytes_eq y x))
-        → list_any (is_named x) (cond (not b) (u ∷ filter (λ v. not (bytes_eq v.name y)) us) (filter (λ v. not (bytes_eq v.name y)) us)) ≡
-        ((bytes_eq u.name x || list_any (is_named x) us) && not (bytes_eq y x))
-    by true p rest =
-        let same : u.name ≡ y = (bytes_eq-Decides u.name y).0 p in
-        rest ∙ and_none (bytes_eq u.name x) (list_any (is_named x) us) (bytes_eq y x) (λ e. ap (λ z. bytes_eq z x) (sym same) ∙ e)
-    by false p rest =
-        ap (λ b. bytes_eq u.name x || b) rest
-        ∙ or_and (bytes_eq u.name x) (list_any (is_named x) us) (bytes_eq y x) (λ e. ap (bytes_eq u.name) (sym ((bytes_eq-Decides y x).0 e)) ∙ p)
-
 some_is : {A B : Type 0} (f : A → B) (o : Option A) → option_map f o ≡ None → o ≡ None
 some_is f None h = refl
 some_is f (Some x) h = cc
@@ -245,21 +207,6 @@ pub order_is : (us : List UnitTree) (manifest : Option (List ℕ)) → AreApart 
     → IsOrder us (order_of us manifest)
 order_is us None apart listed all = derived_is_order us apart (all refl)
 order_is us (Some bytes) apart listed all = manifest_is_order us bytes listed
-
--- ---- whether a line is bad hangs on the names of the units alone
-
-pub names_alone : (ls : List (List ℕ)) (us vs : List SourceUnit) → ((x : List ℕ) → list_any (is_named x) us ≡ list_any (is_named x) vs)
-    → bad_line ls us ≡ bad_line ls vs
-names_alone [] [] [] h = refl
-names_alone [] [] (v ∷ vs) h = let bad : false ≡ true = h v.name ∙ ap (λ b. b || list_any (is_named v.name) vs) (itself v.name) in cc
-names_alone [] (u ∷ us) [] h = let bad : false ≡ true = sym (h u.name) ∙ ap (λ b. b || list_any (is_named u.name) us) (itself u.name) in cc
-names_alone [] (u ∷ us) (v ∷ vs) h = refl
-names_alone ([] ∷ ls) us vs h = ap (option_map suc) (names_alone ls us vs h)
-names_alone ((b ∷ bs) ∷ ls) us vs h =
-    ap (λ t. cond t (option_map suc (bad_line ls (filter (λ u. not (bytes_eq u.name (b ∷ bs))) us))) (Some 1)) (h (b ∷ bs))
-    ∙ ap (λ o. cond (list_any (is_named (b ∷ bs)) vs) (option_map suc o) (Some 1))
-    (names_alone ls (filter (λ u. not (bytes_eq u.name (b ∷ bs))) us) (filter (λ u. not (bytes_eq u.name (b ∷ bs))) vs)
-    (λ x. left_named us x (b ∷ bs) ∙ ap (λ t. t && not (bytes_eq (b ∷ bs) x)) (h x) ∙ sym (left_named vs x (b ∷ bs))))
 
 -- a manifest that lists the units of these sources lists units of the same names
 pub listed_alike : (sources : List SourceUnit) (us : List UnitTree) (manifest : Option (List ℕ))

@@ -4,9 +4,8 @@ use Rattle.std.specs.Ordering.{MatchOrdering}
 use Rattle.std.specs.declared.cmp.Ordering.{Ordering}
 use Rattle.std.specs.declared.cmp.Ordering.TheVariants.{Less, Equal, Greater}
 use Rattle.rotor_base.specs.declared.place.Place.{Place}
-use Rattle.dependency_kernel.specs.Foot.{IsBefore}
-use Rattle.dependency_kernel.specs.Neighbors.{place_cmp}
-use Rattle.dependency_kernel.proofs.Places.{place_ranked}
+use Rattle.rotor_base.specs.Place.{IsBefore, place_cmp}
+use Rattle.rotor_base.proofs.Places.{place_ranked}
 use Rattle.rename_model.specs.Ladder.{IsLeast}
 
 below_next : (n m : ℕ) → n < suc m → (n < m) ⊎ (n ≡ m)

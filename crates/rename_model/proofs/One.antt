@@ -14,7 +14,8 @@ use Rattle.rotor_base.specs.declared.source.SourceFile.{SourceFile}
 use Rattle.rotor_base.specs.declared.target.Target.{Target}
 use Rattle.rotor_base.specs.declared.target.Target.TheVariants.{At, Spot, Dotted}
 use Rattle.rotor_base.specs.Files.{FileSet, are_over}
-use Rattle.dependency_kernel.specs.Foot.{IsBefore, IsFoot}
+use Rattle.rotor_base.specs.Place.{IsBefore}
+use Rattle.dependency_kernel.specs.Foot.{IsFoot}
 use Rattle.dependency_kernel.proofs.Only.{is_the_only}
 use Rattle.ml_lexer.specs.Lexed.{Lexeme, Lexed}
 use Rattle.ml_lexer.specs.Respelled.{respelled}

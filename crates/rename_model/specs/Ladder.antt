@@ -1,7 +1,7 @@
 -- Ladders of refusals: conditions in their order (`before` of capture_check), their end, and least places.
 use Rattle.std.specs.Prelude.{◌≡◌, ◌⊎◌}
 use Rattle.rotor_base.specs.declared.place.Place.{Place}
-use Rattle.dependency_kernel.specs.Foot.{IsBefore}
+use Rattle.rotor_base.specs.Place.{IsBefore}
 
 -- a condition that nothing meets: the end of a ladder
 abbrev pub no_more : {R : Type 0} → R → Type 0

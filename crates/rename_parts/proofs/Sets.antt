@@ -6,10 +6,9 @@ use Rattle.std.specs.BTreeSet.{BTreeSet, contains}
 use Rattle.std.specs.List.{list_any}
 use Rattle.std.proofs.lemmas.Cmp.{tied_itself}
 use Rattle.std.proofs.lemmas.List.{drop_more}
-use Rattle.rotor_base.specs.Place.{same_place}
+use Rattle.rotor_base.specs.Place.{same_place, place_cmp}
 use Rattle.rotor_base.specs.declared.place.Place.{Place}
-use Rattle.dependency_kernel.specs.Neighbors.{place_cmp}
-use Rattle.dependency_kernel.proofs.Places.{place_found, place_total}
+use Rattle.rotor_base.proofs.Places.{place_found, place_total}
 use Rattle.binding_model.proofs.LastEntries.{same_is}
 use Rattle.binding_model.proofs.Standing.{same_swap}
 use Rattle.capture_check.proofs.Twice.{same_back}

@@ -5,7 +5,7 @@ use Rattle.std.proofs.lemmas.List.Elements.{All-push}
 use Rattle.std.specs.BTreeSet.{BTreeSet, contains}
 use Rattle.rotor_base.specs.declared.place.Place.{Place}
 use Rattle.rotor_base.specs.declared.token.Token.{Token}
-use Rattle.dependency_kernel.specs.Neighbors.{place_cmp}
+use Rattle.rotor_base.specs.Place.{place_cmp}
 use Rattle.ml_lexer.specs.Lexed.{Lexeme, view_tokens}
 use Rattle.edits.specs.declared.Edit.{Edit}
 use Rattle.edits.specs.Replaced.{HasShortText}

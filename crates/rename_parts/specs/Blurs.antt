@@ -7,7 +7,7 @@ use Rattle.rotor_base.specs.declared.place.Goal.TheVariants.{Decl, Blur}
 use Rattle.rotor_base.specs.declared.place.Ref.{Ref}
 use Rattle.rotor_base.specs.declared.place.Link.{Link}
 use Rattle.binding_model.specs.Facts.{earlier}
-use Rattle.dependency_kernel.specs.Neighbors.{place_cmp}
+use Rattle.rotor_base.specs.Place.{place_cmp}
 
 -- a place, where it is in a set
 abbrev pub in_set : BTreeSet Place → Place → Option Place

@@ -1,13 +1,12 @@
 -- Sets of places.
 use Rattle.std.specs.Prelude.{◌≡◌, List, Bool, false}
 use Rattle.std.specs.List.{list_any}
-use Rattle.rotor_base.specs.Place.{same_place}
+use Rattle.rotor_base.specs.Place.{same_place, place_cmp}
 use Rattle.std.specs.BTreeSet.{BTreeSet, contains}
 use Rattle.rotor_base.specs.declared.place.Foot.{Foot}
 use Rattle.rotor_base.specs.declared.place.Place.{Place}
 use Rattle.rotor_base.specs.declared.place.Goal.{Goal}
 use Rattle.rotor_base.specs.declared.place.Goal.TheVariants.{Decl}
-use Rattle.dependency_kernel.specs.Neighbors.{place_cmp}
 
 -- the set has these places, and no more
 abbrev pub HasPlaces : List Place → BTreeSet Place → Type 0

@@ -2,7 +2,7 @@
 
 ghost use Rattle.std.specs.Prelude.{◌≡◌, ◌≤◌, ◌∷◌, ◌++◌, ◌&&◌, [], IfOk, OnOk, All, length, if◌then◌else◌};
 ghost use Rattle.std.specs.BTreeSet.{contains};
-ghost use Rattle.dependency_kernel.specs.Neighbors.{place_cmp};
+ghost use Rattle.rotor_base.specs.Place.{place_cmp};
 ghost use Rattle.ml_lexer.specs.Lexed.{Lexed, view_tokens};
 ghost use Rattle.ml_lexer.specs.Respelled.{respelled};
 ghost use Rattle.edits.specs.Lexemes.{GiveWords};

@@ -4,7 +4,7 @@ ghost use Rattle.std.specs.Prelude.{◌≡◌, ◌++◌, Contains, IfOk, OnOk, S
 ghost use Rattle.binding_model.specs.Facts.{earlier};
 ghost use Rattle.std.specs.BTreeSet.{contains};
 ghost use Rattle.std.specs.List.{list_any};
-ghost use Rattle.dependency_kernel.specs.Neighbors.{place_cmp};
+ghost use Rattle.rotor_base.specs.Place.{place_cmp};
 ghost use Rattle.ml_syntax.specs.View.{view_project, view_part_of, view_file};
 ghost use Rattle.binding_model.specs.Renaming.{file_places};
 ghost use Rattle.binding_model.specs.Scopes.{here};

@@ -10,7 +10,7 @@ use Rattle.rotor_base.specs.declared.place.Ref.{Ref}
 use Rattle.rotor_base.specs.declared.source.SourceFile.{SourceFile}
 use Rattle.rotor_base.specs.declared.token.Class.{Class}
 use Rattle.rotor_base.specs.declared.token.Class.TheVariants as class
-use Rattle.dependency_kernel.specs.Neighbors.{place_cmp}
+use Rattle.rotor_base.specs.Place.{place_cmp}
 use Rattle.ml_lexer.specs.Lexed.{Lexeme}
 use Rattle.ml_lexer.specs.Respelled.{respelled}
 use Rattle.ml_syntax.specs.Each.{Each}

@@ -7,7 +7,7 @@ use Rattle.rotor_base.specs.declared.token.Class.TheVariants as class
 use Rattle.rotor_base.specs.declared.place.Place.{Place}
 use Rattle.rotor_base.specs.declared.place.Goal.{Goal}
 use Rattle.rotor_base.specs.declared.place.Goal.TheVariants.{Decl}
-use Rattle.dependency_kernel.specs.Neighbors.{place_cmp}
+use Rattle.rotor_base.specs.Place.{place_cmp}
 use Rattle.shape_core.specs.Shape.{Name, or_value}
 use Rattle.shape_core.specs.Respell.{Words}
 use Rattle.rename_respell.specs.Respelled.{label_with}

@@ -3,8 +3,7 @@
 ghost use Rattle.std.specs.Prelude.{◌≡◌, ◌&&◌, IfOk, OnOk, bytes_eq, not, option_copied};
 ghost use Rattle.std.specs.BTreeMap.{get};
 ghost use Rattle.rotor_base.specs.declared.place.Place.{Place};
-ghost use Rattle.rotor_base.specs.Place.{same_place};
-ghost use Rattle.dependency_kernel.specs.Neighbors.{place_cmp};
+ghost use Rattle.rotor_base.specs.Place.{same_place, place_cmp};
 ghost use Rattle.shape_core.specs.Shape.{or_else, some_if};
 ghost use Rattle.binding_model.specs.Renaming.{at_place, goal_at};
 ghost use Rattle.capture_check.specs.Tables.{named};

@@ -3,7 +3,7 @@ use Rattle.std.proofs.Common.{◌≡◌, ℕ, suc, ◌⊎◌, inl, inr, ◌||◌
 use Rattle.std.specs.BTreeSet.{BTreeSet, contains}
 use Rattle.std.proofs.lemmas.List.Folds.{list_any-append}
 use Rattle.std.specs.List.{list_any}
-use Rattle.rotor_base.specs.Place.{same_place}
+use Rattle.rotor_base.specs.Place.{same_place, place_cmp}
 use Rattle.rotor_base.specs.declared.place.Place.{Place}
 use Rattle.rotor_base.specs.declared.place.Goal.{Goal}
 use Rattle.rotor_base.specs.declared.place.Goal.TheVariants.{Decl, Outside, Missing, Hidden, Blur}
@@ -14,7 +14,6 @@ use Rattle.rotor_base.specs.declared.token.Class.{Class}
 use Rattle.rotor_base.specs.declared.token.Class.TheVariants as class
 use Rattle.rotor_base.specs.declared.source.SourceFile.{SourceFile}
 use Rattle.dependency_kernel.specs.Foot.{IsFoot, IsFixed, IsFixedBy}
-use Rattle.dependency_kernel.specs.Neighbors.{place_cmp}
 use Rattle.ml_lexer.specs.Lexed.{Lexeme}
 use Rattle.ml_lexer.specs.Respelled.{respelled}
 use Rattle.ml_syntax.specs.Places.{Site}

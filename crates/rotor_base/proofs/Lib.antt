@@ -1,3 +1,5 @@
+pub mod BadLines
 pub mod Kept
 pub mod LineCuts
 pub mod Loads
+pub mod Places

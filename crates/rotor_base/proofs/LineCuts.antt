@@ -1,10 +1,11 @@
 -- The lines of a text, one after another.
-use Rattle.std.proofs.Common.{◌≡◌, ◌≢◌, ℕ, ◌+◌, ◌-◌, ◌<◌, ◌≤◌, nat_lt, ne_eqb, Some, None, List, [], ◌∷◌, Bool, eqb, true, false, not, cond, refl, ap, ◌∙◌, length, take, drop, arith}
+use Rattle.std.proofs.Common.{◌≡◌, ◌≢◌, ℕ, suc, ◌+◌, ◌<◌, ◌≤◌, nat_lt, ne_eqb, Some, None, List, [], ◌∷◌, Bool, eqb, true, false, not, cond, refl, ap, ◌∙◌, length, take, drop, arith}
 use Rattle.std.specs.List.{slice_split, onto_first, position, position_or_len, before_first, after_first}
 use Rattle.std.specs.Str.Lines.{lines, lines_of_parts, strip_carriage_return}
 use Rattle.std.proofs.lemmas.List.Splits.{slice_split_first, length-slice_split}
 use Rattle.std.proofs.lemmas.List.Sums.{prefix_len-le-length}
 use Rattle.std.proofs.lemmas.Grind.{common_steps}
+use Rattle.rotor_base.specs.Lines.{feed_lines}
 
 parts-cons : (x : List ℕ) (parts : List (List ℕ)) → 0 < length parts → lines_of_parts (x ∷ parts) ≡ strip_carriage_return x ∷ lines_of_parts parts
 parts-cons x [] l = absurd (omega arith)
@@ -35,12 +36,54 @@ pub lines_open : (bs : List ℕ) → 0 < length bs → position_or_len (λ b. eq
 lines_open [] l e = absurd (omega arith)
 lines_open (b ∷ bs) l e = ap lines_of_parts (not_split (b ∷ bs) e) ∙ ap (λ t. cond t [] ((b ∷ bs) ∷ [])) (ne_eqb (length (b ∷ bs)) 0 (λ z. omega arith))
 
--- the first line, where there is an LF, in the words of the code
-pub lines_cut : (bs line : List ℕ) (end : ℕ) → end ≡ position_or_len (λ b. eqb b 10) bs → end ≢ length bs → line ≡ strip_carriage_return (take end bs)
-    → lines bs ≡ line ∷ lines (take (length bs - (end + 1)) (drop (end + 1) bs))
-lines_cut bs line end e n h =
-    let whole : take (length bs - (end + 1)) (drop (end + 1) bs) ≡ drop (end + 1) bs = grind (arith, common_steps) in
-    rw (whole, h, e) (lines_ended bs (omega (arith, e, n, prefix_len-le-length (λ (b : ℕ). not (eqb b 10)) bs)))
+-- a front as long as the whole ends behind it
+all_before : (bs line : List ℕ) → line ≡ take (position_or_len (λ b. eqb b 10) bs) bs → length line ≡ length bs → position_or_len (λ b. eqb b 10) bs ≡ length bs
+all_before bs line is whole =
+    let within = prefix_len-le-length (λ (b : ℕ). not (eqb b 10)) bs in
+    grind (arith, common_steps)
+
+-- where the bytes before the first LF are all bytes, they are the one line
+pub lines_whole : (bs line rest : List ℕ) → 0 < length bs
+    → line ≡ take (position_or_len (λ b. eqb b 10) bs) bs → rest ≡ drop (position_or_len (λ b. eqb b 10) bs + 1) bs
+    → length line ≡ length bs → lines bs ≡ line ∷ lines rest
+lines_whole bs line rest some is behind whole =
+    let all : position_or_len (λ b. eqb b 10) bs ≡ length bs = all_before bs line is whole in
+    let same : line ≡ bs = grind (arith, common_steps) in
+    let none : rest ≡ [] = grind (arith, common_steps) in
+    rw (same, none) (lines_open bs some all)
+
+-- where they are fewer, they are the first line, without the CR at its end
+pub lines_cut : (bs line rest : List ℕ)
+    → line ≡ take (position_or_len (λ b. eqb b 10) bs) bs → rest ≡ drop (position_or_len (λ b. eqb b 10) bs + 1) bs
+    → length line ≢ length bs → lines bs ≡ strip_carriage_return line ∷ lines rest
+lines_cut bs line rest is behind fewer =
+    let within = prefix_len-le-length (λ (b : ℕ). not (eqb b 10)) bs in
+    rw (is, behind) (lines_ended bs (grind (arith, common_steps)))
+
+-- one more byte in front of the first line
+onto_by : (b at : ℕ) (bs : List ℕ) (parts : List (List ℕ)) → parts ≡ take at bs ∷ feed_lines (drop (at + 1) bs)
+    → onto_first b parts ≡ take (1 + at) (b ∷ bs) ∷ feed_lines (drop (1 + at + 1) (b ∷ bs))
+onto_by b at bs parts h =
+    let one : suc at ≡ 1 + at = omega arith in
+    let two : suc (at + 1) ≡ 1 + at + 1 = omega arith in
+    ap (onto_first b) h
+    ∙ ap (λ k. take k (b ∷ bs) ∷ feed_lines (drop (at + 1) bs)) one
+    ∙ ap (λ k. take (1 + at) (b ∷ bs) ∷ feed_lines (drop k (b ∷ bs))) two
+
+feeds_by : (b : ℕ) (bs : List ℕ) (t : Bool)
+    → (0 < length bs → feed_lines bs ≡ take (position_or_len (λ b. eqb b 10) bs) bs ∷ feed_lines (drop (position_or_len (λ b. eqb b 10) bs + 1) bs))
+    → cond t ([] ∷ feed_lines bs) (onto_first b (feed_lines bs)) ≡
+    take (cond (not t) (1 + position_or_len (λ b. eqb b 10) bs) 0) (b ∷ bs)
+    ∷ feed_lines (drop (cond (not t) (1 + position_or_len (λ b. eqb b 10) bs) 0 + 1) (b ∷ bs))
+feeds_by b bs true h = refl
+feeds_by b [] false h = refl
+feeds_by b (c ∷ bs) false h = onto_by b (position_or_len (λ b. eqb b 10) (c ∷ bs)) (c ∷ bs) (feed_lines (c ∷ bs)) (h (omega arith))
+
+-- the first line that LF alone ends, and the others
+pub feeds_cut : (bs : List ℕ) → 0 < length bs
+    → feed_lines bs ≡ take (position_or_len (λ b. eqb b 10) bs) bs ∷ feed_lines (drop (position_or_len (λ b. eqb b 10) bs + 1) bs)
+feeds_cut [] some = absurd (omega arith)
+feeds_cut (b ∷ bs) some = feeds_by b bs (eqb b 10) (feeds_cut bs)
 
 -- no position is found, so all bytes stand before it
 pub no_feed : (bs : List ℕ) → position (λ b. eqb b 10) bs ≡ None → length bs ≡ position_or_len (λ b. eqb b 10) bs

@@ -1,4 +1,6 @@
 pub mod Files
+pub mod Lines
+pub mod Manifest
 pub mod Name
 pub mod Place
 pub mod Stem

@@ -1,5 +1,7 @@
 -- Places and goals compared.
-use Rattle.std.specs.Prelude.{Bool, true, false, ◌==◌, ◌&&◌, Option, Some, None}
+use Rattle.std.specs.Prelude.{◌≡◌, ◌<◌, ◌⊎◌, Bool, true, false, ◌==◌, ◌&&◌, Option, Some, None}
+use Rattle.std.specs.Ordering.{nat_cmp, ordering_then}
+use Rattle.std.specs.declared.cmp.Ordering.{Ordering}
 use Rattle.rotor_base.specs.declared.place.Place.{Place}
 use Rattle.rotor_base.specs.declared.place.Goal.{Goal}
 use Rattle.rotor_base.specs.declared.place.Goal.TheVariants.{Decl, Outside, Missing, Hidden, Blur}
@@ -7,6 +9,14 @@ use Rattle.rotor_base.specs.declared.place.Goal.TheVariants.{Decl, Outside, Miss
 -- two places are one
 abbrev pub same_place : Place → Place → Bool
 same_place p q = p.file == q.file && p.token == q.token
+
+-- the order of places: by file, then token
+abbrev pub IsBefore : Place → Place → Type 0
+IsBefore p q = (p.file < q.file) ⊎ ((p.file ≡ q.file) × (p.token < q.token))
+
+-- how two places compare: by file, then token
+abbrev pub place_cmp : Place → Place → Ordering
+place_cmp p q = ordering_then (nat_cmp p.file q.file) (nat_cmp p.token q.token)
 
 -- two optional places are one
 abbrev pub same_behind : Option Place → Option Place → Bool

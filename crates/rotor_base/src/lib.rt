@@ -10,6 +10,7 @@ mod limits;
 mod lines;
 mod load_checks;
 mod looks;
+mod manifest;
 mod name;
 mod place;
 mod refusal;
@@ -28,8 +29,9 @@ pub use limits::{
     MAX_PLAN_BYTES, MAX_SAMPLE, MAX_SOURCES, MAX_TOTAL_BYTES, MAX_WEIGHT, MAX_WEIGHT_SUM, MAX_WORK,
     MIN_SAMPLE,
 };
-pub use lines::next_line;
+pub use lines::{feed_line, next_line};
 pub use looks::{LinkLook, Looks, RefLook, Watch};
+pub use manifest::bad_lines_are_exact;
 pub use name::{Name, is_name};
 pub use place::{Facts, Foot, Goal, Link, Place, Ref};
 pub use refusal::{LoadError, Refusal};

@@ -1,5 +1,7 @@
 // The current folder and the standard output of the system. No clause says what they hold.
-ghost use Rattle.std.specs.Prelude.{◌≡◌, ◌≤◌, ◌<◌, ◌-◌, ◌^◌, ℕ, None, length, vec_len, drop, IfOk, OnOk};
+ghost use Rattle.std.specs.Prelude.{◌≡◌, ◌≤◌, ◌<◌, ◌-◌, ◌^◌, ◌↔◌, ℕ, None, length, vec_len, drop, IfOk, IsTrue, OnOk};
+ghost use Rattle.std.specs.Result.{IsOkAnd};
+ghost use Rattle.std.specs.Fs.{file_type, IsFile};
 ghost use Rattle.std.specs.Io.KnownBytes.{Consumes, Appends, IsAtEnd};
 ghost use Rattle.tree_io.specs.Outside.{HasCause, HasFault};
 ghost use Rattle.tree_io.specs.Host.{tree_faults, sink_faults};
@@ -7,7 +9,8 @@ ghost use Rattle.tree_io.specs.Host.{tree_faults, sink_faults};
 use crate::{Sink, Tree, TreeError};
 use rotor_base::{Failed, Memory};
 use std::alloc::Global;
-use std::fs::File;
+use std::fs::{File, Metadata};
+use std::io;
 use std::io::{Read, Write};
 use std::rt::Files;
 
@@ -17,7 +20,8 @@ const MAX_ENTRIES: usize = 1_048_576;
 const CHUNK_BYTES: usize = 65_536;
 
 /// The current folder of the system. It tells no content, and its `room` does nothing. It counts each Err of the
-/// system; one ends the call with `Failed`. Want of memory is not counted.
+/// system, and each read or write of a name that is no regular file; one ends the call with `Failed`. Want of memory
+/// is not counted.
 #[derive(Drop)]
 pub struct HostTree<'a, R> {
     rt: &'a R,
@@ -165,10 +169,13 @@ fn add_names(alloc: Global, piece: &[u8], names: &mut Vec<String>) -> Result<(),
     Ok(())
 }
 
-/// The first `limit` bytes of a file.
+/// The first `limit` bytes of a file. Any other kind of thing, a folder or a FIFO say, is a fault and is not opened.
 fn read_file<R: Files>(rt: &R, alloc: Global, name: &str, limit: u32) -> Result<Vec<u8>, TreeError>
     ensures { IfOk result (λ bytes. length bytes.items ≤ limit) }
 {
+    if is_no_file(&rt.metadata(name)) {
+        return Err(TreeError::Failed);
+    }
     let Ok(mut file) = File::open(rt, name) else {
         return Err(TreeError::Failed);
     };
@@ -197,8 +204,22 @@ fn read_front<F: Read>(alloc: Global, file: &mut F, limit: u32) -> Result<Vec<u8
     Ok(bytes)
 }
 
-/// Makes a file hold just these bytes. A write that takes nothing is a fault.
+/// Whether the system answers that a name is there and is no regular file. A symbolic link counts as what it leads to.
+fn is_no_file(answer: &io::Result<Metadata>) -> bool
+    ensures { IsTrue result ↔ IsOkAnd answer.now (λ found. ¬ IsFile (file_type found)) }
+{
+    match answer {
+        Ok(found) => !found.is_file(),
+        Err(_) => false,
+    }
+}
+
+/// Makes a file hold just these bytes. A write that takes nothing is a fault. Any other kind of thing is a fault too,
+/// and is not opened.
 fn write_file<R: Files>(rt: &R, name: &str, bytes: &[u8]) -> Result<(), Failed> {
+    if is_no_file(&rt.metadata(name)) {
+        return Err(Failed);
+    }
     let Ok(mut file) = File::create(rt, name) else {
         return Err(Failed);
     };

@@ -1,7 +1,8 @@
 use Rattle.std.proofs.Common.{◌≡◌, ◌∙◌, sym, subst, List, Contains, AllPairs}
 use Rattle.rotor_base.specs.declared.place.Place.{Place}
 use Rattle.rotor_base.specs.declared.place.Link.{Link}
-use Rattle.dependency_kernel.specs.Foot.{IsLeastFixed, IsBefore, Path}
+use Rattle.rotor_base.specs.Place.{IsBefore}
+use Rattle.dependency_kernel.specs.Foot.{IsLeastFixed, Path}
 use Rattle.dependency_kernel.proofs.footprint.Goals as goal
 
 pub returns : goal.returns

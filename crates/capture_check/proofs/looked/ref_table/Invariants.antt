@@ -1,7 +1,7 @@
 use Rattle.std.proofs.Common.{◌≡◌, drop}
 use Rattle.std.specs.BTreeMap.{get}
 use Rattle.rotor_base.specs.declared.place.Place.{Place}
-use Rattle.dependency_kernel.specs.Neighbors.{place_cmp}
+use Rattle.rotor_base.specs.Place.{place_cmp}
 use Rattle.shape_core.specs.Shape.{or_else}
 use Rattle.binding_model.specs.Local.{ref_look_at}
 use Rattle.capture_check.proofs.looked.ref_table.Given as goal

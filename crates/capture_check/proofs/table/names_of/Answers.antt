@@ -1,7 +1,7 @@
 use Rattle.std.proofs.Common.{◌+◌, sym, ap, ◌∙◌, List, ◌∷◌, drop, map}
 use Rattle.std.proofs.lemmas.List.{drop_more, drop_all}
 use Rattle.std.specs.BTreeMap.{get}
-use Rattle.dependency_kernel.specs.Neighbors.{place_cmp}
+use Rattle.rotor_base.specs.Place.{place_cmp}
 use Rattle.ml_syntax.specs.declared.module.UnitTree.{UnitTree}
 use Rattle.ml_syntax.specs.View.{view_unit}
 use Rattle.binding_model.specs.Renaming.{places}

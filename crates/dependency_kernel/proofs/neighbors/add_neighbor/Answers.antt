@@ -3,7 +3,8 @@ use Rattle.std.proofs.lemmas.List.Elements.{Contains-append_left, Contains-push_
 use Rattle.std.specs.BTreeMap.{BTreeMap, is_at, get}
 use Rattle.std.specs.Global.{Vec}
 use Rattle.rotor_base.specs.declared.place.Place.{Place}
-use Rattle.dependency_kernel.specs.Neighbors.{place_cmp, HasNeighbor}
+use Rattle.rotor_base.specs.Place.{place_cmp}
+use Rattle.dependency_kernel.specs.Neighbors.{HasNeighbor}
 use Rattle.dependency_kernel.proofs.Table.{Puts, put_keeps, put_only, cond_twice, IsTaken, taken_has, taken_only}
 use Rattle.dependency_kernel.proofs.neighbors.add_neighbor.Goals as goal
 use Rattle.dependency_kernel.proofs.neighbors.add_neighbor.Goals.{in-Some, in-None}

@@ -1,7 +1,7 @@
 use Rattle.std.proofs.Common.{rules, ◌≡◌, sym, subst, List, AllPairs}
 use Rattle.rotor_base.specs.declared.place.Place.{Place}
-use Rattle.dependency_kernel.specs.Foot.{IsBefore}
-use Rattle.dependency_kernel.proofs.Places.{all_before}
+use Rattle.rotor_base.specs.Place.{IsBefore}
+use Rattle.rotor_base.proofs.Places.{all_before}
 use Rattle.dependency_kernel.proofs.reached.in_order.Goals as goal
 
 pub returns-clause-ordered : goal.returns-clause-ordered

@@ -5,7 +5,7 @@ use Rattle.std.specs.Vec.{vec_len}
 use Rattle.std.specs.Global.{Vec}
 use Rattle.rotor_base.specs.declared.place.Place.{Place}
 use Rattle.dependency_kernel.specs.Foot.{Path}
-use Rattle.dependency_kernel.proofs.Places.{listed, found_listed}
+use Rattle.rotor_base.proofs.Places.{listed, found_listed}
 use Rattle.dependency_kernel.proofs.Table.{taken_has, taken_only}
 use Rattle.dependency_kernel.proofs.Worklist.{Works, works_begin, works_on, all_taken, falls}
 use Rattle.dependency_kernel.proofs.reached.reached.Goals as goal

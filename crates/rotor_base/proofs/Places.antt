@@ -11,8 +11,7 @@ use Rattle.std.proofs.lemmas.Map.Keys.{Less-from_sorted}
 use Rattle.std.specs.List.Sorted.{IsStrictlySortedBy}
 use Rattle.std.specs.BTreeMap.{is_at}
 use Rattle.rotor_base.specs.declared.place.Place.{Place}
-use Rattle.dependency_kernel.specs.Foot.{IsBefore}
-use Rattle.dependency_kernel.specs.Neighbors.{place_cmp}
+use Rattle.rotor_base.specs.Place.{IsBefore, place_cmp}
 
 pub place_total : IsTotalOrder place_cmp
 place_total = then_total (on_total (λ (p : Place). p.file) nat_cmp_total) (on_total (λ (p : Place). p.token) nat_cmp_total)
