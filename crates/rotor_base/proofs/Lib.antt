@@ -1,3 +1,4 @@
 pub mod Kept
 pub mod LineCuts
 pub mod Loads
+pub mod Rising
