@@ -18,11 +18,11 @@ use Rattle.binding_model.specs.Facts.{facts, decls, is_before, unmatched, unmatc
 use Rattle.binding_model.specs.Renaming.{placed_sites, file_places, places, at_place, site_name, name_of}
 use Rattle.binding_model.proofs.Sounds.{each_map, each_joined, found_all, same_self, Other, Apart}
 use Rattle.binding_model.proofs.Telltale.{apart_of, each_contained}
+use Rattle.binding_model.proofs.Uses.{Sub, Fits, items_uses, sig_items_uses}
 use Rattle.capture_check.specs.Fault.{Repeats}
 use Rattle.capture_check.proofs.Before.{tested, untested}
 use Rattle.capture_check.proofs.Equal.{items_decl}
 use Rattle.group_laws.specs.Laws.{HasNoRepeat, NoRepeatIsApart, UnrefusedIsGood}
-use Rattle.group_laws.proofs.Grouped.{Sub, Fits, items_uses, sig_items_uses}
 use Rattle.group_laws.proofs.Firsts.{no_least_is_none}
 
 -- ---- parts of lists

@@ -1,3 +1,2 @@
-pub mod Grouped
 pub mod Firsts
 pub mod Apartness

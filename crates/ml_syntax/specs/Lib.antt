@@ -12,3 +12,4 @@ pub mod Standing
 pub mod Each
 pub mod SpelledSites
 pub mod RespelledFile
+pub mod RespelledSource

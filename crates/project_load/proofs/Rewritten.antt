@@ -2,17 +2,16 @@
 use Rattle.std.proofs.Common.{◌≡◌, ℕ, zero, suc, ◌⊎◌, Bool, true, false, cond, ◌&&◌, ◌||◌, List, [], ◌∷◌, filter, Option, Some, None, IsSome, is_some, option_map, Ok, slice_get, Contains, codes, refl, sym, ap, subst, ◌∙◌, inl, inr, arith}
 use Rattle.std.specs.List.{AllByRecursion, cons_option, list_any, list_all}
 use Rattle.std.specs.List.Sorted.{IsStrictlySortedBy}
-use Rattle.std.specs.declared.cmp.Ordering.TheVariants.{Less}
-use Rattle.std.specs.Ordering.{nat_cmp, is_eq}
+use Rattle.std.specs.Ordering.{nat_cmp}
 use Rattle.std.specs.Cmp.Lexicographic.{slice_cmp, nat_list_cmp_total}
 use Rattle.std.specs.FinMap.{get, insert, keys, same_map, slice_cmp-IsAntisymmetric, nat_cmp-IsAntisymmetric}
 use Rattle.std.specs.Str.{bytes_eq}
-use Rattle.std.proofs.lemmas.Map.Text.{is_eq-slice_cmp}
 use Rattle.std.proofs.lemmas.Slice.Eq.{bytes_eq-Decides}
 use Rattle.rotor_base.specs.Stem.{is_source_name, ends_stem}
 use Rattle.rotor_base.specs.Files.{FileSet, IsProject, names_of, load_refusal}
 use Rattle.rotor_base.specs.declared.source.SourceFile.{SourceFile}
 use Rattle.rotor_base.specs.declared.refusal.LoadError.{LoadError}
+use Rattle.rotor_base.proofs.Rising.{some_is, not_named}
 use Rattle.tree_io.specs.Outside.{FileMap}
 use Rattle.project_load.specs.Load.{files_in, source_names, sources_of, manifest_of, unless_refused, loaded}
 use Rattle.project_load.specs.Rewritten.{after, files_at, Covers, AreOthers, LoadedFilesAreAProject, NewSourcesAreLoaded, OldSourcesComeBack}
@@ -22,33 +21,13 @@ use Rattle.project_load.proofs.Loaded.{names_read, loaded_is}
 
 -- ---- files of other names
 
-some_is : {A : Type 0} (x y : A) → Some x ≡ Some y → x ≡ y
-some_is x y e = cc
-
-not_below : (x : List ℕ) → slice_cmp nat_cmp x x ≡ Less → ⊥
-not_below x e =
-    let same : is_eq (slice_cmp nat_cmp x x) ≡ true = is_eq-slice_cmp x x ∙ (bytes_eq-Decides x x).1 refl in
-    let bad : false ≡ true = sym (ap is_eq e) ∙ same in
-    absurd cc
-
-below_at : (x : List ℕ) (fs : List SourceFile) (k : ℕ) (f : SourceFile) → AllByRecursion (λ y. slice_cmp nat_cmp x y ≡ Less) (names_of fs) → slice_get fs k ≡ Some f → slice_cmp nat_cmp x f.name ≡ Less
-below_at x [] k f h e = cc
-below_at x (g ∷ fs) zero f h e = subst (λ (y : SourceFile). slice_cmp nat_cmp x y.name ≡ Less) (some_is g f e) h.0
-below_at x (g ∷ fs) (suc k) f h e = below_at x fs k f h.1 e
-
 -- two sources of one name are one
 distinct : (fs : List SourceFile) → IsStrictlySortedBy (slice_cmp nat_cmp) (names_of fs) → (j k : ℕ) (g f : SourceFile) → slice_get fs j ≡ Some g → slice_get fs k ≡ Some f → g.name ≡ f.name → g ≡ f
 unfolding IsStrictlySortedBy
 distinct [] h j k g f a b e = cc
 distinct (x ∷ fs) h zero zero g f a b e = sym (some_is x g a) ∙ some_is x f b
-distinct (x ∷ fs) h zero (suc k) g f a b e =
-    let less : slice_cmp nat_cmp x.name f.name ≡ Less = below_at x.name fs k f h.0 b in
-    let here : x.name ≡ f.name = ap (λ (y : SourceFile). y.name) (some_is x g a) ∙ e in
-    absurd (not_below x.name (subst (λ (n : List ℕ). slice_cmp nat_cmp x.name n ≡ Less) (sym here) less))
-distinct (x ∷ fs) h (suc j) zero g f a b e =
-    let less : slice_cmp nat_cmp x.name g.name ≡ Less = below_at x.name fs j g h.0 a in
-    let here : x.name ≡ g.name = ap (λ (y : SourceFile). y.name) (some_is x f b) ∙ sym e in
-    absurd (not_below x.name (subst (λ (n : List ℕ). slice_cmp nat_cmp x.name n ≡ Less) (sym here) less))
+distinct (x ∷ fs) h zero (suc k) g f a b e = absurd (not_named x.name fs k f h.0 b (ap (λ (y : SourceFile). y.name) (some_is x g a) ∙ e))
+distinct (x ∷ fs) h (suc j) zero g f a b e = absurd (not_named x.name fs j g h.0 a (ap (λ (y : SourceFile). y.name) (some_is x f b) ∙ sym e))
 distinct (x ∷ fs) h (suc j) (suc k) g f a b e = distinct fs h.1 j k g f a b e
 
 -- ---- what a file holds after the writes

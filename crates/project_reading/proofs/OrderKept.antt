@@ -5,7 +5,8 @@ use Rattle.std.proofs.lemmas.List.{length-map}
 use Rattle.ml_syntax.specs.Tree.{FileTree, Body, Face, UnitTree}
 use Rattle.unit_order.specs.Heads.{is_among, file_heads, unit_heads}
 use Rattle.unit_order.specs.Order.{needs_unit, is_ready, first_ready, go_on, taking, derived_order, takes_all, order_of}
-use Rattle.project_reading.specs.Respelled.{Spellings, spell_part, spell_unit}
+use Rattle.ml_syntax.specs.RespelledSource.{Spellings}
+use Rattle.project_reading.specs.Respelled.{spell_part, spell_unit}
 use Rattle.project_reading.specs.Units.{unit_named, in_order}
 use Rattle.project_reading.proofs.HeadsKept.{file-kept}
 

@@ -14,7 +14,8 @@ use Rattle.parse_module.specs.declared.files.FileKind.{FileKind}
 use Rattle.parse_module.specs.declared.files.FileKind.TheVariants as kind
 use Rattle.parse_module.specs.Whole.{AreOfOneKind, IsOfFile, OneFileReading}
 use Rattle.unit_order.specs.Order.{order_of, takes_all}
-use Rattle.project_reading.specs.Respelled.{Spellings, spell_tree, spell_unit, ChangesNamesIn, IsRespelled, AreRespelled, RespellingKeepsTheReading}
+use Rattle.ml_syntax.specs.RespelledSource.{Spellings, IsRespelled, AreRespelled}
+use Rattle.project_reading.specs.Respelled.{spell_tree, spell_unit, ChangesNamesIn, RespellingKeepsTheReading}
 use Rattle.project_reading.specs.Source.{kind_of_source, tokens_of, ReadsAs}
 use Rattle.project_reading.specs.Sources.{ReadAll}
 use Rattle.project_reading.specs.Units.{units_of, in_order}
@@ -53,8 +54,8 @@ module _ (one : OneFileReading) where
       (subst (Lexed old.bytes) (sym back) r.plain.cut)
       (toks_same (tokens_of xs) ∙ ap (lexeme_toks 1) back ∙ r.parsed.reads) r.plain.no_form r.plain.shallow changes cut' in
       let written : respelled old.bytes xs (new_words w 1 xs) ≡ new.bytes = ap (λ zs. respelled old.bytes zs (new_words w 1 zs))
-      (one_lexed r.plain.cut i.cut) ∙ sym i.written in
-      let kind : kind_of_source old.name ≡ kind_of_source new.name = ap kind_of_source (sym i.named) in
+      (one_lexed r.plain.cut i.cut) ∙ sym i.bytes in
+      let kind : kind_of_source old.name ≡ kind_of_source new.name = ap kind_of_source (sym i.name) in
       let of_file : IsOfFile (kind_of_source new.name) n (spell_file w t) = subst (λ k. IsOfFile k n (spell_file w t)) kind
       (spelled_kind (kind_of_source old.name) n w t r.parsed.of_file) in
       record {

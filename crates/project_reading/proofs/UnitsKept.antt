@@ -23,7 +23,8 @@ use Rattle.parse_module.specs.declared.files.FileKind.{FileKind}
 use Rattle.parse_module.specs.declared.files.FileKind.TheVariants as kind
 use Rattle.parse_module.specs.Whole.{IsOfFile}
 use Rattle.project_reading.specs.Reads.{Reads}
-use Rattle.project_reading.specs.Respelled.{Spellings, spell_tree, spell_part, spell_unit, ChangesNamesIn, IsRespelled, AreRespelled, respelled_lists, RespellingKeepsTheLexemes}
+use Rattle.ml_syntax.specs.RespelledSource.{Spellings, IsRespelled, AreRespelled}
+use Rattle.project_reading.specs.Respelled.{spell_tree, spell_part, spell_unit, ChangesNamesIn, respelled_lists, RespellingKeepsTheLexemes}
 use Rattle.project_reading.specs.Source.{kind_of_source, ReadsAs}
 use Rattle.project_reading.specs.Sources.{ReadAll, AreCut}
 use Rattle.project_reading.specs.Units.{unit_names, is_part, part_of, unit_from, units_of}
@@ -52,7 +53,7 @@ names_kept w n [] (new ∷ news) a = absurd a
 names_kept w n (old ∷ olds) [] a = absurd a
 names_kept w n (old ∷ olds) (new ∷ news) a =
     ap (λ ns. insert_key (slice_cmp nat_cmp) ns (unit_of new.name)) (names_kept w (suc n) olds news a.1)
-    ∙ ap (λ name. insert_key (slice_cmp nat_cmp) (unit_names olds) (unit_of name)) a.0.named
+    ∙ ap (λ name. insert_key (slice_cmp nat_cmp) (unit_names olds) (unit_of name)) a.0.name
 
 tree_or_rest : (w : Spellings) (b : Bool) (t : FileTree) (o : Option FileTree)
     → cond b (Some (spell_tree w t)) (spell_part w o) ≡ spell_part w (cond b (Some t) o)
@@ -67,7 +68,7 @@ part_kept w n (old ∷ olds) [] ts body name a = absurd a
 part_kept w n (old ∷ olds) (new ∷ news) [] body name a = refl
 part_kept w n (old ∷ olds) (new ∷ news) (t ∷ ts) body name a =
     ap (λ x. cond (beq (is_body_name x) body && bytes_eq (unit_of x) name) (Some (spell_tree w t))
-    (part_of body name news (map (spell_tree w) ts))) a.0.named
+    (part_of body name news (map (spell_tree w) ts))) a.0.name
     ∙ ap (cond (is_part body name old) (Some (spell_tree w t))) (part_kept w (suc n) olds news ts body name a.1)
     ∙ tree_or_rest w (is_part body name old) t (part_of body name olds ts)
 
@@ -114,7 +115,7 @@ pub lexemes_kept : (w : Spelling) (n : ℕ) (old new : SourceFile) (t : FileTree
 lexemes_kept w n old new t xs r i changes cut =
     let reads = ap (lexeme_toks 1) (one_lexed cut r.plain.cut) ∙ r.parsed.reads in
     let written : respelled old.bytes xs (new_words w 1 xs) ≡ new.bytes =
-    ap (λ zs. respelled old.bytes zs (new_words w 1 zs)) (one_lexed cut i.cut) ∙ sym i.written
+    ap (λ zs. respelled old.bytes zs (new_words w 1 zs)) (one_lexed cut i.cut) ∙ sym i.bytes
     in
     subst (λ bytes. Lexed bytes (respelled_lexemes xs (new_words w 1 xs))) written
     (respelled_names_are_read w t old.bytes xs r.parsed.wf cut reads changes).0

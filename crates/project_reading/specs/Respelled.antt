@@ -1,19 +1,15 @@
 -- Respelled files, and the project that they are read as (the OCaml manual, "Names").
 use Rattle.std.specs.Prelude.{◌≡◌, ℕ, suc, List, [], ◌∷◌, Option, Some, None, All, map}
 use Rattle.rotor_base.specs.Files.{FileSet, IsProject}
-use Rattle.rotor_base.specs.declared.source.SourceFile.{SourceFile}
-use Rattle.ml_lexer.specs.Lexed.{Lexeme, Lexed}
-use Rattle.ml_lexer.specs.Respelled.{respelled, respelled_lexemes}
+use Rattle.ml_lexer.specs.Lexed.{Lexeme}
+use Rattle.ml_lexer.specs.Respelled.{respelled_lexemes}
 use Rattle.ml_syntax.specs.Places.{sites}
-use Rattle.ml_syntax.specs.Respelled.{Spelling, spell_file}
+use Rattle.ml_syntax.specs.Respelled.{spell_file}
 use Rattle.ml_syntax.specs.RespelledFile.{new_words, ChangesNames}
+use Rattle.ml_syntax.specs.RespelledSource.{Spellings, AreRespelled}
 use Rattle.ml_syntax.specs.Tree.{FileTree, Body, Face, UnitTree}
 use Rattle.project_reading.specs.Reads.{Reads}
 use Rattle.project_reading.specs.Sources.{AreCut}
-
--- for each file, the new word of a token and its word
-abbrev pub Spellings : Type 0
-Spellings = ℕ → Spelling
 
 -- a tree with the words of its file
 abbrev pub spell_tree : Spellings → FileTree → FileTree
@@ -34,20 +30,6 @@ abbrev pub ChangesNamesIn : Spellings → Option FileTree → Type 0
 ChangesNamesIn w None = Unit {0}
 ChangesNamesIn w (Some (Body file is)) = ChangesNames (w file) (sites (Body file is))
 ChangesNamesIn w (Some (Face file is)) = ChangesNames (w file) (sites (Face file is))
-
--- the new source is the old one with its lower-case words respelled
-pub record IsRespelled (w : Spelling) (old new : SourceFile) : Type 0 where
-  pub lexemes : List Lexeme
-  pub cut : Lexed old.bytes lexemes
-  pub named : new.name ≡ old.name
-  pub written : new.bytes ≡ respelled old.bytes lexemes (new_words w 1 lexemes)
-
--- so are these sources, which are numbered from here
-abbrev pub AreRespelled : Spellings → ℕ → List SourceFile → List SourceFile → Type 0
-AreRespelled w number [] [] = Unit {0}
-AreRespelled w number [] (new ∷ news) = ⊥
-AreRespelled w number (old ∷ olds) [] = ⊥
-AreRespelled w number (old ∷ olds) (new ∷ news) = IsRespelled (w number) old new × AreRespelled w (suc number) olds news
 
 -- the lexemes of these sources, numbered from here, respelled: as many, of the same classes
 abbrev pub respelled_lists : Spellings → ℕ → List (List Lexeme) → List (List Lexeme)

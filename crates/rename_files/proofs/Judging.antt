@@ -10,6 +10,7 @@ use Rattle.rotor_base.specs.declared.refusal.LoadError.TheVariants.{TooLarge}
 use Rattle.rotor_base.specs.declared.source.SourceFile.{SourceFile}
 use Rattle.rotor_base.specs.Files.{are_over, first_with, too_large, names_of}
 use Rattle.dependency_kernel.specs.Foot.{IsFoot}
+use Rattle.ml_syntax.specs.RespelledSource.{AreRespelled}
 use Rattle.ml_syntax.specs.Sound.{IsSound}
 use Rattle.ml_syntax.specs.Tree.{UnitTree}
 use Rattle.shape_core.specs.Shape.{Name}
@@ -17,9 +18,9 @@ use Rattle.shape_core.specs.Respell.{Words}
 use Rattle.binding_model.specs.Facts.{facts}
 use Rattle.binding_model.specs.Least.{IsBinder}
 use Rattle.binding_model.specs.Local.{IsWatched}
-use Rattle.binding_model.specs.Renaming.{name_of}
+use Rattle.binding_model.specs.Renaming.{name_of, in_file}
 use Rattle.capture_check.specs.Fault.{IsMet}
-use Rattle.rename_model.specs.Bytes.{AreRespelled, position_with}
+use Rattle.rename_model.specs.Bytes.{position_with}
 use Rattle.rename_model.specs.Foot.{hits}
 use Rattle.rename_model.specs.Renaming.{watch_of, renamed_words, IsGrown, refusals_of_binder}
 use Rattle.rename_model.proofs.One.{one_sources}
@@ -47,11 +48,11 @@ module _ (us : List UnitTree) (d : Place) (w : Watch) (sound : IsSound us) (is :
   is_watched = subst (IsWatched us) (sym same) (watched us d w.foot w.new sound is free b).0
 
   module _ (set : BTreeSet Place) (has : HasPlaces (hits (facts us).refs w.foot) set) (entries sources : List SourceFile) (made : AreMade set w.new 0 entries sources) where
-    respelled_here : AreRespelled (renamed_words us (watch_of us d w.foot w.new)) 0 entries sources
+    respelled_here : AreRespelled (in_file (renamed_words us (watch_of us d w.foot w.new))) 0 entries sources
     respelled_here = all_made us d w.foot w.new sound (watched us d w.foot w.new sound is free b).1 set has 0 entries sources made
 
-    pub are_respelled : AreRespelled (renamed_words us w) 0 entries sources
-    are_respelled = subst (λ v. AreRespelled (renamed_words us v) 0 entries sources) (sym same) respelled_here
+    pub are_respelled : AreRespelled (in_file (renamed_words us w)) 0 entries sources
+    are_respelled = subst (λ v. AreRespelled (in_file (renamed_words us v)) 0 entries sources) (sym same) respelled_here
 
     pub grown_refused : (file : ℕ) → Some file ≡ position_with are_over sources → IsRefusedFor (refusals_of_binder entries us d w.foot w.new) (refusal.Grown file)
     grown_refused file e = inl (past_six us d w.foot w.new entries (refusal.Grown file) free (inl (sources, respelled_here, sym e)))
@@ -75,7 +76,7 @@ module _ (us : List UnitTree) (d : Place) (w : Watch) (sound : IsSound us) (is :
 
 -- ---- sources that keep their names and the limits
 
-pub names_kept : (ws : Words) (n : ℕ) (olds news : List SourceFile) → AreRespelled ws n olds news → names_of news ≡ names_of olds
+pub names_kept : (ws : Words) (n : ℕ) (olds news : List SourceFile) → AreRespelled (in_file ws) n olds news → names_of news ≡ names_of olds
 names_kept ws n [] [] h = refl
 names_kept ws n [] (x ∷ news) h = absurd h
 names_kept ws n (o ∷ olds) [] h = absurd h

@@ -4,16 +4,17 @@ ghost use Rattle.std.specs.Prelude.{◌≡◌, ◌≤◌, None, Some, IfErr, IfO
 ghost use Rattle.rotor_base.specs.Files.{IsProject, are_over};
 ghost use Rattle.rotor_base.specs.declared.place.Place.{Place};
 ghost use Rattle.ml_lexer.specs.Lexed.{view_tokens};
+ghost use Rattle.ml_syntax.specs.RespelledSource.{AreRespelled};
 ghost use Rattle.ml_syntax.specs.Sound.{IsSound};
 ghost use Rattle.ml_syntax.specs.View.{view_project};
 ghost use Rattle.dependency_kernel.specs.Foot.{IsFoot};
 ghost use Rattle.binding_model.specs.Facts.{facts as facts_of};
 ghost use Rattle.binding_model.specs.Least.{IsBinder};
 ghost use Rattle.binding_model.specs.Local.{IsWatched};
-ghost use Rattle.binding_model.specs.Renaming.{name_of};
+ghost use Rattle.binding_model.specs.Renaming.{name_of, in_file};
 ghost use Rattle.binding_model.specs.Sums.{heavy};
 ghost use Rattle.project_reading.specs.Sources.{AreCut};
-ghost use Rattle.rename_model.specs.Bytes.{AreRespelled, position_with};
+ghost use Rattle.rename_model.specs.Bytes.{position_with};
 ghost use Rattle.rename_model.specs.Foot.{hits};
 ghost use Rattle.rename_model.specs.Renaming.{refusals_of_binder, renamed_words};
 ghost use Rattle.rename_steps.specs.Sources.{AreMade};
@@ -53,7 +54,7 @@ pub fn judge(
     requires foot { IsFoot (facts_of (view_project read.now.project)).links binder watch.now.foot }
     requires old { watch.now.old ≡ name_of (view_project read.now.project) binder }
     ensures places { IfOk result (λ done. done.places.items ≡ hits (facts_of (view_project read.now.project)).refs watch.now.foot) }
-    ensures sources { IfOk result (λ done. AreRespelled (renamed_words (view_project read.now.project) watch.now) 0 files.now.entries done.sources.items) }
+    ensures sources { IfOk result (λ done. AreRespelled (in_file (renamed_words (view_project read.now.project) watch.now)) 0 files.now.entries done.sources.items) }
     ensures small { IfOk result (λ done. position_with are_over done.sources.items ≡ None) }
     ensures passed { OnOk result (IsFreeOf (refusals_of_binder files.now.entries (view_project read.now.project) binder watch.now.foot watch.now.new)) }
     ensures refused { IfErr result (IsRefusedFor (refusals_of_binder files.now.entries (view_project read.now.project) binder watch.now.foot watch.now.new)) }

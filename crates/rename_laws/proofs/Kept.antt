@@ -11,6 +11,7 @@ use Rattle.rotor_base.specs.declared.looks.Watch.{Watch}
 use Rattle.rotor_base.specs.declared.refusal.Refusal.TheVariants as refusal
 use Rattle.rotor_base.specs.Stem.{is_source_name}
 use Rattle.rotor_base.specs.Files.{FileSet, IsProject, are_over, load_refusal, names_of}
+use Rattle.ml_syntax.specs.RespelledSource.{AreRespelled}
 use Rattle.ml_syntax.specs.Sound.{IsSound}
 use Rattle.ml_syntax.specs.Tree.{UnitTree}
 use Rattle.shape_core.specs.Shape.{Name}
@@ -19,7 +20,7 @@ use Rattle.binding_model.specs.Back.{CanGoBack, back}
 use Rattle.binding_model.specs.Facts.{facts, IsGood}
 use Rattle.binding_model.specs.Least.{IsBinder}
 use Rattle.binding_model.specs.Local.{renaming, IsWatched, IsAccepted}
-use Rattle.binding_model.specs.Renaming.{name_of, respell, IsValid}
+use Rattle.binding_model.specs.Renaming.{name_of, respell, IsValid, in_file}
 use Rattle.binding_model.proofs.Clashing.{groups_tell_clash, accepted_is_valid}
 use Rattle.binding_model.proofs.Telltale.{looks_tell_facts}
 use Rattle.binding_model.proofs.TreesBack.{undone_is_the_project}
@@ -38,14 +39,14 @@ use Rattle.project_reading.proofs.Soundness.{read_is_sound}
 use Rattle.project_reading.proofs.RespellingKept.{respelling_keeps_the_reading}
 use Rattle.respelled_reading.specs.Renamed.{GivesValueNames}
 use Rattle.respelled_reading.proofs.Renamed.{renamed_files_are_read, watches_give_value_names}
-use Rattle.rename_model.specs.Bytes.{AreRespelled, position_with}
+use Rattle.rename_model.specs.Bytes.{position_with}
 use Rattle.rename_model.specs.Foot.{IsIn}
 use Rattle.rename_model.specs.Project.{refusals_of_project}
 use Rattle.rename_model.specs.Renaming.{watch_of, renamed, renamed_words, refusals_of_binder}
 use Rattle.rename_steps.specs.Findings.{IsFree}
 use Rattle.rename_steps.proofs.Bridge.{watched}
 use Rattle.renamed_sources.proofs.Limits.{small_is_taken}
-use Rattle.renamed_sources.proofs.Respelling.{renamed_keep_names, as_read}
+use Rattle.renamed_sources.proofs.Respelling.{renamed_keep_names}
 use Rattle.rename_laws.proofs.Free.{IsLasting, none_repeats, none_unmatched, first_free, lasting}
 
 -- ---- a project, and a renaming of it
@@ -112,10 +113,10 @@ module _ (files : FileSet) (us : List UnitTree) (d : Place) (foot : Foot) (new :
   pub gives : GivesValueNames us (renaming W)
   gives = watches_give_value_names us W both.0 free.valid (λ a c. ((both.1 a c).0, (both.1 a c).1))
 
-  module _ (out : FileSet) (sources : AreRespelled (renamed_words us W) 0 files.entries out.entries) (manifest : out.manifest ≡ files.manifest) where
+  module _ (out : FileSet) (sources : AreRespelled (in_file (renamed_words us W)) 0 files.entries out.entries) (manifest : out.manifest ≡ files.manifest) where
     pub still : Reads out vs
     still = renamed_files_are_read respelling_keeps_the_reading us (renaming W) files out h.files_are h.reads gives
-        (record { sources = as_read (renamed_words us W) 0 files.entries out.entries sources; manifest = manifest })
+        (record { sources = sources; manifest = manifest })
 
     pub names : names_of out.entries ≡ names_of files.entries
     names = renamed_keep_names (renamed_words us W) 0 files.entries out.entries sources

@@ -1,17 +1,16 @@
 -- The place of a binder is the place of a token of a source, and the source's name gives its file.
 use Rattle.std.proofs.Common.{◌≡◌, ◌⊎◌, inl, inr, ℕ, zero, suc, ◌+◌, ◌<◌, ◌≤◌, ◌&&◌, List, [], ◌∷◌, ◌++◌, Bool, true, false, cond, length, get_or, Option, Some, None, option_map, Contains, refl, ap, sym, subst, ◌∙◌, slice_get, bytes_eq, arith}
-use Rattle.std.specs.List.{AllByRecursion, list_all}
-use Rattle.std.proofs.lemmas.Map.Text.{is_eq-slice_cmp}
+use Rattle.std.specs.List.{list_all}
 use Rattle.std.specs.Cmp.Lexicographic.{slice_cmp}
 use Rattle.std.specs.List.Sorted.{IsStrictlySortedBy}
-use Rattle.std.specs.Ordering.{nat_cmp, is_eq}
-use Rattle.std.specs.declared.cmp.Ordering.TheVariants.{Less}
+use Rattle.std.specs.Ordering.{nat_cmp}
 use Rattle.std.proofs.lemmas.Slice.Eq.{bytes_eq-Decides}
 use Rattle.rotor_base.specs.declared.place.Place.{Place}
 use Rattle.rotor_base.specs.declared.source.SourceFile.{SourceFile}
 use Rattle.rotor_base.specs.declared.token.Class.{Class}
 use Rattle.rotor_base.specs.declared.token.Class.TheVariants as class
 use Rattle.rotor_base.specs.Files.{names_of}
+use Rattle.rotor_base.proofs.Rising.{some_is, not_named}
 use Rattle.ml_lexer.specs.Lexed.{Lexeme}
 use Rattle.ml_syntax.specs.Places.{Site, sites}
 use Rattle.ml_syntax.specs.RespelledFile.{lexeme_toks}
@@ -41,21 +40,6 @@ use Rattle.rename_model.specs.Target.{first_at, number_of}
 
 -- ---- the number of a source by its name
 
-some_is : {A : Type 0} (x y : A) → Some x ≡ Some y → x ≡ y
-some_is x y e = cc
-
-below_at : (x : List ℕ) (fs : List SourceFile) (k : ℕ) (f : SourceFile) → AllByRecursion (λ y. slice_cmp nat_cmp x y ≡ Less) (names_of fs) → slice_get fs k ≡ Some f
-    → slice_cmp nat_cmp x f.name ≡ Less
-below_at x [] k f h e = cc
-below_at x (g ∷ fs) zero f h e = subst (λ (y : SourceFile). slice_cmp nat_cmp x y.name ≡ Less) (some_is g f e) h.0
-below_at x (g ∷ fs) (suc k) f h e = below_at x fs k f h.1 e
-
-not_below : (x : List ℕ) → slice_cmp nat_cmp x x ≡ Less → ⊥
-not_below x e =
-    let same : is_eq (slice_cmp nat_cmp x x) ≡ true = is_eq-slice_cmp x x ∙ (bytes_eq-Decides x x).1 refl in
-    let bad : false ≡ true = sym (ap is_eq e) ∙ same in
-    absurd cc
-
 pub number_at : (fs : List SourceFile) → IsStrictlySortedBy (slice_cmp nat_cmp) (names_of fs) → (k : ℕ) (s : SourceFile) → slice_get fs k ≡ Some s
     → number_of fs s.name ≡ Some k
 unfolding IsStrictlySortedBy
@@ -63,10 +47,7 @@ number_at [] h k s e = cc
 number_at (x ∷ fs) h zero s e = ap (λ b. cond b (Some 0) (option_map suc (number_of fs s.name))) ((bytes_eq-Decides x.name s.name).1 (ap (λ (y : SourceFile). y.name) (some_is x s e)))
 number_at (x ∷ fs) h (suc k) s e = by (bytes_eq x.name s.name) refl (number_at fs h.1 k s e) where
   by : (b : Bool) → bytes_eq x.name s.name ≡ b → number_of fs s.name ≡ Some k → cond b (Some 0) (option_map suc (number_of fs s.name)) ≡ Some (suc k)
-  by true t r =
-      let same : x.name ≡ s.name = (bytes_eq-Decides x.name s.name).0 t in
-      let less : slice_cmp nat_cmp x.name s.name ≡ Less = below_at x.name fs k s h.0 e in
-      absurd (not_below x.name (subst (λ (n : List ℕ). slice_cmp nat_cmp x.name n ≡ Less) (sym same) less))
+  by true t r = absurd (not_named x.name fs k s h.0 e ((bytes_eq-Decides x.name s.name).0 t))
   by false t r = ap (option_map suc) r
 
 -- ---- the number of a token

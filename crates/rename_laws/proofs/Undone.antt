@@ -18,6 +18,7 @@ use Rattle.rotor_base.specs.declared.target.Target.TheVariants.{At}
 use Rattle.rotor_base.specs.Files.{names_of, FileSet, are_over}
 use Rattle.ml_lexer.specs.Lexed.{Lexeme}
 use Rattle.ml_syntax.specs.Places.{Site}
+use Rattle.ml_syntax.specs.RespelledSource.{AreRespelled}
 use Rattle.ml_syntax.specs.Tree.{FileTree, UnitTree}
 use Rattle.shape_core.specs.Shape.{Name}
 use Rattle.dependency_kernel.specs.Foot.{IsFoot}
@@ -25,16 +26,16 @@ use Rattle.dependency_kernel.specs.Foot as links
 use Rattle.binding_model.specs.Back.{CanGoBack, back}
 use Rattle.binding_model.specs.Facts.{facts, unmatched, unmatched_items, least}
 use Rattle.binding_model.specs.Local.{renaming}
-use Rattle.binding_model.specs.Renaming.{places, at_place, site_name, name_of, IsFixedSite}
+use Rattle.binding_model.specs.Renaming.{places, at_place, site_name, name_of, IsFixedSite, in_file}
 use Rattle.binding_model.proofs.Standing.{member_in}
 use Rattle.capture_check.specs.Fault.{IsMet, IsLeastRepeat, IsFirstDiffering, of_ref, of_link, before}
 use Rattle.project_reading.specs.Reads.{Reads}
 use Rattle.project_reading.specs.Sources.{ReadAll, AreCut}
 use Rattle.respelled_reading.proofs.Back.{renamed_back_are_the_files}
 use Rattle.renamed_sources.proofs.Limits.{nothing_is_over}
-use Rattle.renamed_sources.proofs.Respelling.{as_read, sources_can_be_respelled}
+use Rattle.renamed_sources.proofs.Respelling.{sources_can_be_respelled}
 use Rattle.renamed_sources.proofs.ValueNames.{names_are_value_names}
-use Rattle.rename_model.specs.Bytes.{AreRespelled, position_with}
+use Rattle.rename_model.specs.Bytes.{position_with}
 use Rattle.rename_model.specs.Foot.{IsIn, IsHit, leads_in, refs_to, hits}
 use Rattle.rename_model.specs.Ladder.{no_more}
 use Rattle.rename_model.specs.Project.{IsDuplicate, IsHeavy, IsUnmatched, refusals_of_project}
@@ -94,7 +95,7 @@ ref_goal p g k e = ap (λ (r : Ref). r.goal) e
 link_goal : (p : Place) (g k : Goal) → of_link p g ≡ of_link p k → g ≡ k
 link_goal p g k e = ap (λ (l : Link). l.source) e
 
-module _ (files : FileSet) (us : List UnitTree) (d : Place) (foot : Foot) (new : Name) (h : IsRenamable files us d foot new) (out : FileSet) (sources : AreRespelled (renamed_words us (watch_of us d foot new)) 0 files.entries out.entries) (manifest : out.manifest ≡ files.manifest) where
+module _ (files : FileSet) (us : List UnitTree) (d : Place) (foot : Foot) (new : Name) (h : IsRenamable files us d foot new) (out : FileSet) (sources : AreRespelled (in_file (renamed_words us (watch_of us d foot new))) 0 files.entries out.entries) (manifest : out.manifest ≡ files.manifest) where
   abbrev W : Watch
   W = watch_of us d foot new
 
@@ -131,20 +132,20 @@ module _ (files : FileSet) (us : List UnitTree) (d : Place) (foot : Foot) (new :
 
   -- ---- the sources of the renaming back
 
-  undone_is : (news : List SourceFile) → AreRespelled (renamed_words vs B) 0 out.entries news → news ≡ files.entries
+  undone_is : (news : List SourceFile) → AreRespelled (in_file (renamed_words vs B)) 0 out.entries news → news ≡ files.entries
   undone_is news s =
       let undone : FileSet = record { entries = news; manifest = out.manifest } in
-      let words : AreRespelled (renamed_words vs (back W)) 0 out.entries news = subst (λ (w : Watch). AreRespelled (renamed_words vs w) 0 out.entries news) back_is s in
+      let words : AreRespelled (in_file (renamed_words vs (back W))) 0 out.entries news = subst (λ (w : Watch). AreRespelled (in_file (renamed_words vs w)) 0 out.entries news) back_is s in
       ap (λ (f : FileSet). f.entries) (renamed_back_are_the_files us (renaming W) (renaming (back W)) files out undone h.files_are h.reads (kept.gives files us d foot new h)
-      (record { sources = as_read (renamed_words us W) 0 files.entries out.entries sources; manifest = manifest })
-      (record { sources = as_read (renamed_words vs (back W)) 0 out.entries news words; manifest = refl })
+      (record { sources = sources; manifest = manifest })
+      (record { sources = words; manifest = refl })
       (kept.undone files us d foot new h out sources manifest))
 
-  sources_back : AreRespelled (renamed_words vs B) 0 out.entries files.entries
+  sources_back : AreRespelled (in_file (renamed_words vs B)) 0 out.entries files.entries
   sources_back =
       let cut = cuts 0 out.entries reads.trees reads.read in
       let made = sources_can_be_respelled (renamed_words vs B) 0 out.entries cut.0 cut.1 in
-      subst (AreRespelled (renamed_words vs B) 0 out.entries) (undone_is made.0 made.1) made.1
+      subst (AreRespelled (in_file (renamed_words vs B)) 0 out.entries) (undone_is made.0 made.1) made.1
 
   -- ---- nothing is refused
 

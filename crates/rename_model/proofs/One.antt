@@ -20,6 +20,7 @@ use Rattle.dependency_kernel.proofs.Only.{is_the_only}
 use Rattle.ml_lexer.specs.Lexed.{Lexeme, Lexed}
 use Rattle.ml_lexer.specs.Respelled.{respelled}
 use Rattle.ml_lexer.proofs.OneCutting.{one_lexed}
+use Rattle.ml_syntax.specs.RespelledSource.{IsRespelled, AreRespelled}
 use Rattle.ml_syntax.specs.Tree.{UnitTree}
 use Rattle.shape_core.specs.Shape.{Name, none}
 use Rattle.shape_core.specs.Respell.{Words}
@@ -34,7 +35,7 @@ use Rattle.rename_model.specs.Project.{IsDuplicate, IsHeavy, IsUnmatched}
 use Rattle.ml_syntax.specs.RespelledFile.{new_words}
 use Rattle.binding_model.specs.Renaming.{in_file, name_of}
 use Rattle.rename_model.specs.Foot.{IsHit}
-use Rattle.rename_model.specs.Bytes.{IsRespelled, AreRespelled, position_with}
+use Rattle.rename_model.specs.Bytes.{position_with}
 use Rattle.rename_model.specs.Renaming.{watch_of, renamed, renamed_words, IsPunAt, IsBlurredAt, IsOperator, IsBadName, IsSameName, IsOutside, IsPun, IsBlurred, IsGrown, IsClash, IsCapture, IsMislink, HasNoTarget, refusals_of_binder, ForTarget}
 use Rattle.rename_model.specs.Laws.{ProjectsAreRefusedOnce, TargetsHaveOneGoal, RenamingsAreRefusedOnce}
 
@@ -145,14 +146,14 @@ targets_have_one_goal files us target p q h k = one_name files us target p q h.0
 
 -- ---- the refusals of a renaming
 
-one_source : (w : Words) (file : ℕ) (old a b : SourceFile) → IsRespelled w file old a → IsRespelled w file old b → a ≡ b
+one_source : (w : Words) (file : ℕ) (old a b : SourceFile) → IsRespelled (in_file w file) old a → IsRespelled (in_file w file) old b → a ≡ b
 one_source w file old a b h k =
     let x : h.lexemes ≡ k.lexemes = one_lexed h.cut k.cut in
     let n : a.name ≡ b.name = h.name ∙ sym k.name in
     let c : a.bytes ≡ b.bytes = h.bytes ∙ (ap (λ (xs : List Lexeme). respelled old.bytes xs (new_words (in_file w file) 1 xs)) x ∙ sym k.bytes) in
     two (λ y z. record { name = y; bytes = z }) a.name b.name a.bytes b.bytes n c
 
-pub one_sources : (w : Words) (n : ℕ) (olds a b : List SourceFile) → AreRespelled w n olds a → AreRespelled w n olds b → a ≡ b
+pub one_sources : (w : Words) (n : ℕ) (olds a b : List SourceFile) → AreRespelled (in_file w) n olds a → AreRespelled (in_file w) n olds b → a ≡ b
 one_sources w n [] [] [] h k = refl
 one_sources w n [] [] (y ∷ b) h k = absurd k
 one_sources w n [] (x ∷ a) b h k = absurd h

@@ -14,18 +14,19 @@ use Rattle.rotor_base.specs.declared.target.Target.{Target}
 use Rattle.rotor_base.specs.Files.{FileSet, are_over}
 use Rattle.rotor_base.specs.Name.{is_value_name}
 use Rattle.ml_syntax.specs.Places.{Site}
+use Rattle.ml_syntax.specs.RespelledSource.{AreRespelled}
 use Rattle.ml_syntax.specs.Tree.{UnitTree}
 use Rattle.shape_core.specs.Shape.{Name}
 use Rattle.shape_core.specs.Respell.{Words}
 use Rattle.binding_model.specs.Steps.{a_ref}
 use Rattle.binding_model.specs.Facts.{facts}
-use Rattle.binding_model.specs.Renaming.{places, at_place, name_of, respell, words_of, HasBehind, IsBlur}
+use Rattle.binding_model.specs.Renaming.{places, at_place, name_of, respell, words_of, HasBehind, IsBlur, in_file}
 use Rattle.binding_model.specs.Local.{renaming}
 use Rattle.capture_check.specs.Fault.{before, IsLeastRepeat, IsFirstDiffering, of_ref, of_link}
 use Rattle.rename_model.specs.Ladder.{no_more, IsLeast}
 use Rattle.rename_model.specs.Foot.{IsTheFoot, IsIn, IsHit}
 use Rattle.rename_model.specs.Target.{Aims}
-use Rattle.rename_model.specs.Bytes.{AreRespelled, position_with}
+use Rattle.rename_model.specs.Bytes.{position_with}
 
 -- ---- what a renaming is about
 
@@ -90,7 +91,7 @@ IsBlurred us foot _ = ⊥
 
 -- 17: a new source is over the limit on bytes, or all new sources up to it are; the first one
 abbrev pub IsGrown : List SourceFile → List UnitTree → Watch → Refusal → Type 0
-IsGrown sources us w (refusal.Grown file) = (news : List SourceFile) × AreRespelled (renamed_words us w) 0 sources news × (position_with are_over news ≡ Some file)
+IsGrown sources us w (refusal.Grown file) = (news : List SourceFile) × AreRespelled (in_file (renamed_words us w)) 0 sources news × (position_with are_over news ≡ Some file)
 IsGrown sources us w _ = ⊥
 
 -- 18: a group of the new project has a name twice; the least place that repeats one, and the least place of that name

@@ -7,12 +7,12 @@ use Rattle.rotor_base.specs.declared.report.FootReport.{FootReport}
 use Rattle.rotor_base.specs.declared.report.Renamed.{Renamed}
 use Rattle.rotor_base.specs.declared.source.SourceFile.{SourceFile}
 use Rattle.rotor_base.specs.Files.{FileSet}
+use Rattle.ml_syntax.specs.RespelledSource.{AreRespelled}
 use Rattle.ml_syntax.specs.Tree.{UnitTree}
 use Rattle.shape_core.specs.Shape.{Name}
 use Rattle.binding_model.specs.Facts.{facts}
-use Rattle.binding_model.specs.Renaming.{name_of}
+use Rattle.binding_model.specs.Renaming.{name_of, in_file}
 use Rattle.rename_model.specs.Foot.{refs_to, hits}
-use Rattle.rename_model.specs.Bytes.{AreRespelled}
 use Rattle.rename_model.specs.Renaming.{watch_of, renamed_words}
 
 -- the name of a binder, its footprint, and the number of references to it
@@ -26,7 +26,7 @@ hit_files ps n (file ∷ files) = if list_any (λ p. p.file == n) ps then n ∷ 
 
 -- what `rename` has done, where it is accepted
 pub record IsRenaming (files : FileSet) (us : List UnitTree) (d : Place) (foot : Foot) (new : Name) (done : Renamed) : Type 0 where
-  pub sources : AreRespelled (renamed_words us (watch_of us d foot new)) 0 files.entries done.files.entries
+  pub sources : AreRespelled (in_file (renamed_words us (watch_of us d foot new))) 0 files.entries done.files.entries
   pub manifest : done.files.manifest ≡ files.manifest
   pub changed : done.changed ≡ hit_files (hits (facts us).refs foot) 0 files.entries
   pub old_name : done.old ≡ name_of us d

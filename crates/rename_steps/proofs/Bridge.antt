@@ -19,6 +19,7 @@ use Rattle.ml_lexer.specs.Respelled.{respelled}
 use Rattle.ml_syntax.specs.Places.{Site}
 use Rattle.ml_syntax.specs.Respelled.{Spelling, spelled}
 use Rattle.ml_syntax.specs.RespelledFile.{new_words}
+use Rattle.ml_syntax.specs.RespelledSource.{IsRespelled, AreRespelled}
 use Rattle.ml_syntax.specs.Sound.{IsSound}
 use Rattle.ml_syntax.specs.Tree.{UnitTree}
 use Rattle.shape_core.specs.Shape.{Name, or_else, some_if, or_value}
@@ -36,7 +37,6 @@ use Rattle.binding_model.proofs.Leasts.{foot_is_watched, place_in}
 use Rattle.binding_model.proofs.Sounds.{same_self}
 use Rattle.binding_model.proofs.Standing.{given, member_in}
 use Rattle.binding_model.proofs.Telltale.{apart_of, no_goal}
-use Rattle.rename_model.specs.Bytes.{IsRespelled, AreRespelled}
 use Rattle.rename_model.specs.Foot.{IsIn, is_in, leads_in, refs_to, hits, IsHit}
 use Rattle.rename_model.specs.Renaming.{at_reference, at_item, at_source, watch_of, renamed_words}
 use Rattle.rename_parts.specs.Hits.{is_lower, hit_words}
@@ -208,7 +208,7 @@ module _ (us : List UnitTree) (d : Place) (foot : Foot) (new : Name) (sound : Is
   texts_are file n [] = refl
   texts_are file n (x ∷ xs) = ap (λ t. t ∷ new_words (in_file (renamed_words us (watch_of us d foot new)) file) (suc n) xs) (one_word file n x.class x.bytes) ∙ ap (λ l. cond (is_lower x.class && contains place_cmp set (here file n)) new x.bytes ∷ l) (texts_are file (suc n) xs)
 
-  made : (file : ℕ) (old out : SourceFile) → IsMade set new file old out → IsRespelled (renamed_words us (watch_of us d foot new)) file old out
+  made : (file : ℕ) (old out : SourceFile) → IsMade set new file old out → IsRespelled (in_file (renamed_words us (watch_of us d foot new)) file) old out
   made file old out m = record {
     lexemes = m.lexemes;
     cut = m.cut;
@@ -216,7 +216,7 @@ module _ (us : List UnitTree) (d : Place) (foot : Foot) (new : Name) (sound : Is
     bytes = m.bytes ∙ ap (respelled old.bytes m.lexemes) (sym (texts_are file 1 m.lexemes));
   }
 
-  pub all_made : (n : ℕ) (olds outs : List SourceFile) → AreMade set new n olds outs → AreRespelled (renamed_words us (watch_of us d foot new)) n olds outs
+  pub all_made : (n : ℕ) (olds outs : List SourceFile) → AreMade set new n olds outs → AreRespelled (in_file (renamed_words us (watch_of us d foot new))) n olds outs
   all_made n [] [] h = tt
   all_made n [] (o ∷ outs) h = absurd h
   all_made n (o ∷ olds) [] h = absurd h

@@ -1,15 +1,14 @@
--- Respelled sources keep their names, are respelled for the reading too, and are there where the sources are cut.
+-- Respelled sources keep their names, and are there if the sources are cut.
 use Rattle.std.proofs.Common.{ℕ, suc, List, [], ◌∷◌, refl, ap, ◌∙◌}
 use Rattle.rotor_base.specs.declared.source.SourceFile.{SourceFile}
 use Rattle.rotor_base.specs.Files.{names_of}
 use Rattle.ml_lexer.specs.Lexed.{Lexeme, Lexed}
 use Rattle.ml_lexer.specs.Respelled.{respelled}
 use Rattle.ml_syntax.specs.RespelledFile.{new_words}
+use Rattle.ml_syntax.specs.RespelledSource.{IsRespelled}
 use Rattle.shape_core.specs.Respell.{Words}
 use Rattle.binding_model.specs.Renaming.{in_file}
-use Rattle.project_reading.specs.Respelled as reading
-use Rattle.rename_model.specs.Bytes.{IsRespelled}
-use Rattle.renamed_sources.specs.Laws.{RenamedKeepNames, AsRead, AsRenamed, SourcesCanBeRespelled}
+use Rattle.renamed_sources.specs.Laws.{RenamedKeepNames, SourcesCanBeRespelled}
 
 pub renamed_keep_names : RenamedKeepNames
 renamed_keep_names w n [] [] h = refl
@@ -18,33 +17,13 @@ renamed_keep_names w n (old ∷ olds) [] h = absurd h
 renamed_keep_names w n (old ∷ olds) (new ∷ news) h =
     ap (λ x. x ∷ names_of news) h.0.name ∙ ap (λ xs. old.name ∷ xs) (renamed_keep_names w (suc n) olds news h.1)
 
--- ---- one source, for the reading and for a renaming
-
-read_one : (w : Words) (n : ℕ) (old new : SourceFile) → IsRespelled w n old new → reading.IsRespelled (in_file w n) old new
-read_one w n old new h = record { lexemes = h.lexemes; cut = h.cut; named = h.name; written = h.bytes }
-
-renamed_one : (w : Words) (n : ℕ) (old new : SourceFile) → reading.IsRespelled (in_file w n) old new → IsRespelled w n old new
-renamed_one w n old new h = record { lexemes = h.lexemes; cut = h.cut; name = h.named; bytes = h.written }
-
-pub as_read : AsRead
-as_read w n [] [] h = tt
-as_read w n [] (new ∷ news) h = absurd h
-as_read w n (old ∷ olds) [] h = absurd h
-as_read w n (old ∷ olds) (new ∷ news) h = (read_one w n old new h.0, as_read w (suc n) olds news h.1)
-
-pub as_renamed : AsRenamed
-as_renamed w n [] [] h = tt
-as_renamed w n [] (new ∷ news) h = absurd h
-as_renamed w n (old ∷ olds) [] h = absurd h
-as_renamed w n (old ∷ olds) (new ∷ news) h = (renamed_one w n old new h.0, as_renamed w (suc n) olds news h.1)
-
 -- ---- respelled sources
 
 -- a source, respelled along these lexemes
 abbrev respelled_source : Words → ℕ → SourceFile → List Lexeme → SourceFile
 respelled_source w n old xs = record { name = old.name; bytes = respelled old.bytes xs (new_words (in_file w n) 1 xs) }
 
-is_so : (w : Words) (n : ℕ) (old : SourceFile) (xs : List Lexeme) → Lexed old.bytes xs → IsRespelled w n old (respelled_source w n old xs)
+is_so : (w : Words) (n : ℕ) (old : SourceFile) (xs : List Lexeme) → Lexed old.bytes xs → IsRespelled (in_file w n) old (respelled_source w n old xs)
 is_so w n old xs cut = record { lexemes = xs; cut = cut; name = refl; bytes = refl }
 
 pub sources_can_be_respelled : SourcesCanBeRespelled

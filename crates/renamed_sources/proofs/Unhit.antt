@@ -18,6 +18,7 @@ use Rattle.ml_lexer.specs.Respelled.{respelled, respelled_from}
 use Rattle.ml_lexer.proofs.Order.{lexemes_are_in_order}
 use Rattle.ml_syntax.specs.Respelled.{spelled}
 use Rattle.ml_syntax.specs.RespelledFile.{new_words}
+use Rattle.ml_syntax.specs.RespelledSource.{IsRespelled, AreRespelled}
 use Rattle.ml_syntax.specs.Tree.{UnitTree}
 use Rattle.shape_core.specs.Shape.{Name, or_else, or_value, some_if}
 use Rattle.binding_model.specs.Facts.{facts}
@@ -26,7 +27,6 @@ use Rattle.binding_model.specs.Renaming.{goal_at, new_word, in_file}
 use Rattle.binding_model.specs.Scopes.{here}
 use Rattle.binding_model.proofs.LastEntries.{same_is}
 use Rattle.binding_model.proofs.Standing.{given}
-use Rattle.rename_model.specs.Bytes.{IsRespelled, AreRespelled}
 use Rattle.rename_model.specs.Foot.{is_in, leads_in, refs_to, hits}
 use Rattle.rename_model.specs.Renaming.{renamed_words}
 use Rattle.rename_model.specs.Report.{hit_files}
@@ -128,7 +128,7 @@ module _ (us : List UnitTree) (w : Watch) where
         ap (λ t. t ∷ new_words (in_file (renamed_words us w) n) (suc at) xs) (one_kept x.class at x.bytes)
         ∙ ap (λ l. x.bytes ∷ l) (words_kept (suc at) xs)
 
-    source_stays : (old new : SourceFile) → IsRespelled (renamed_words us w) n old new → old ≡ new
+    source_stays : (old new : SourceFile) → IsRespelled (in_file (renamed_words us w) n) old new → old ≡ new
     source_stays old new h =
         sym (source_same new old h.name
         (h.bytes ∙ (ap (respelled old.bytes h.lexemes) (words_kept 1 h.lexemes)
@@ -149,7 +149,7 @@ module _ (us : List UnitTree) (w : Watch) where
   more_in true n m ms c = (suc c.0, omega (arith, c.1), c.2)
   more_in false n m ms c = c
 
-  stays_from : (n : ℕ) (olds news : List SourceFile) → AreRespelled (renamed_words us w) n olds news → (k : ℕ)
+  stays_from : (n : ℕ) (olds news : List SourceFile) → AreRespelled (in_file (renamed_words us w)) n olds news → (k : ℕ)
       → (slice_get olds k ≡ slice_get news k) ⊎ Contains (hit_files H n olds) (n + k)
   stays_from n [] [] h k = inl refl
   stays_from n [] (new ∷ news) h k = absurd h

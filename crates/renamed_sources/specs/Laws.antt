@@ -7,35 +7,27 @@ use Rattle.rotor_base.specs.Files.{FileSet, IsProject, are_over, load_refusal, n
 use Rattle.rotor_base.specs.Name.{is_value_name}
 use Rattle.ml_lexer.specs.Lexed.{Lexeme}
 use Rattle.ml_syntax.specs.Places.{Site}
+use Rattle.ml_syntax.specs.RespelledSource.{AreRespelled}
 use Rattle.ml_syntax.specs.Tree.{UnitTree}
 use Rattle.shape_core.specs.Respell.{Words}
 use Rattle.binding_model.specs.Facts.{facts}
 use Rattle.binding_model.specs.Renaming.{at_place, in_file, places}
 use Rattle.project_reading.specs.Reads.{Reads}
-use Rattle.project_reading.specs.Respelled as reading
 use Rattle.project_reading.specs.Sources.{AreCut}
-use Rattle.rename_model.specs.Bytes.{AreRespelled, position_with}
+use Rattle.rename_model.specs.Bytes.{position_with}
 use Rattle.rename_model.specs.Foot.{hits}
 use Rattle.rename_model.specs.Renaming.{renamed_words}
 use Rattle.rename_model.specs.Report.{hit_files}
 
 -- Law: respelled sources keep their names
 abbrev pub RenamedKeepNames : Type 0
-RenamedKeepNames = (w : Words) (n : ℕ) (olds news : List SourceFile) → AreRespelled w n olds news → names_of news ≡ names_of olds
-
--- Law: sources that are respelled for a renaming are respelled for the reading
-abbrev pub AsRead : Type 0
-AsRead = (w : Words) (n : ℕ) (olds news : List SourceFile) → AreRespelled w n olds news → reading.AreRespelled (in_file w) n olds news
-
--- Law: and the other way round
-abbrev pub AsRenamed : Type 0
-AsRenamed = (w : Words) (n : ℕ) (olds news : List SourceFile) → reading.AreRespelled (in_file w) n olds news → AreRespelled w n olds news
+RenamedKeepNames = (w : Words) (n : ℕ) (olds news : List SourceFile) → AreRespelled (in_file w) n olds news → names_of news ≡ names_of olds
 
 -- Law: sources that are cut can be respelled
 abbrev pub SourcesCanBeRespelled : Type 0
 SourcesCanBeRespelled =
     (w : Words) (n : ℕ) (olds : List SourceFile) (lists : List (List Lexeme)) → AreCut olds lists
-    → (news : List SourceFile) × AreRespelled w n olds news
+    → (news : List SourceFile) × AreRespelled (in_file w) n olds news
 
 -- Law: sources that are taken are at no position over the limits on bytes
 abbrev pub NothingIsOver : Type 0
@@ -50,7 +42,7 @@ SmallIsTaken =
 -- Law: a renamed source is the old one, or it has a place that takes the new word
 abbrev pub SourcesWithoutHitsStay : Type 0
 SourcesWithoutHitsStay =
-    (us : List UnitTree) (w : Watch) (olds news : List SourceFile) → AreRespelled (renamed_words us w) 0 olds news
+    (us : List UnitTree) (w : Watch) (olds news : List SourceFile) → AreRespelled (in_file (renamed_words us w)) 0 olds news
     → (k : ℕ) → (slice_get olds k ≡ slice_get news k) ⊎ Contains (hit_files (hits (facts us).refs w.foot) 0 olds) k
 
 -- Law: a place that is no operator, and no label or field too, has a value name

@@ -1,15 +1,9 @@
 //! The laws of renamed sources, each as the contract of a function.
-ghost use Rattle.renamed_sources.specs.Laws.{AsRead, AsRenamed, NamesAreValueNames, NothingIsOver, RenamedKeepNames, SmallIsTaken, SourcesCanBeRespelled, SourcesWithoutHitsStay};
+ghost use Rattle.renamed_sources.specs.Laws.{NamesAreValueNames, NothingIsOver, RenamedKeepNames, SmallIsTaken, SourcesCanBeRespelled, SourcesWithoutHitsStay};
 
 /// Respelled sources keep their names.
 pub fn renamed_keep_names()
     ensures { RenamedKeepNames }
-{}
-
-/// Sources that are respelled for a renaming are respelled for the reading, and the other way round.
-pub fn both_are_respelled()
-    ensures read { AsRead }
-    ensures renamed { AsRenamed }
 {}
 
 /// Sources that are cut can be respelled.

@@ -4,6 +4,6 @@
 mod laws;
 
 pub use laws::{
-    both_are_respelled, names_are_value_names, nothing_is_over, renamed_keep_names,
-    sources_can_be_respelled, sources_without_hits_stay,
+    names_are_value_names, nothing_is_over, renamed_keep_names, sources_can_be_respelled,
+    sources_without_hits_stay,
 };

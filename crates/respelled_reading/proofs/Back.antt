@@ -24,7 +24,8 @@ use Rattle.parse_module.specs.declared.files.FileKind.TheVariants as kind
 use Rattle.parse_module.specs.Whole.{IsOfFile}
 use Rattle.shape_core.specs.Respell.{Words, over}
 use Rattle.binding_model.specs.Renaming.{in_file, respell, spell_tree, spell_unit}
-use Rattle.project_reading.specs.Respelled.{Spellings, ChangesNamesIn, IsRespelled, AreRespelled}
+use Rattle.ml_syntax.specs.RespelledSource.{Spellings, IsRespelled, AreRespelled}
+use Rattle.project_reading.specs.Respelled.{ChangesNamesIn}
 use Rattle.project_reading.specs.Source.{kind_of_source, ReadsAs}
 use Rattle.project_reading.specs.Sources.{ReadAll}
 use Rattle.project_reading.specs.Units.{part_of, unit_from}
@@ -101,10 +102,10 @@ source_back v w n old new undone t r i j changes same =
     in
     let cut : Lexed new.bytes ys = lexemes_kept w n old new t xs r i changes r.plain.cut in
     let back : new_words v 1 ys ≡ map (λ x. x.bytes) xs = respelled_twice v w 1 0 0 xs ∙ words_back v w 1 xs toks in
-    let written : new.bytes ≡ respelled old.bytes xs ws = i.written
+    let written : new.bytes ≡ respelled old.bytes xs ws = i.bytes
     ∙ ap (λ zs. respelled old.bytes zs (new_words w 1 zs)) (one_lexed i.cut r.plain.cut) in
-    source_same undone old (j.named ∙ i.named)
-    (j.written
+    source_same undone old (j.name ∙ i.name)
+    (j.bytes
     ∙ ap (λ zs. respelled new.bytes zs (new_words v 1 zs)) (one_lexed j.cut cut)
     ∙ ap (respelled new.bytes ys) back
     ∙ ap (λ bytes. respelled bytes ys (map (λ x. x.bytes) xs)) written

@@ -15,7 +15,8 @@ use Rattle.binding_model.specs.Facts.{facts}
 use Rattle.binding_model.specs.Local.{renaming, IsWatched}
 use Rattle.binding_model.specs.Renaming.{Renaming, places, at_place, in_file, words_of, respell, IsFixedSite}
 use Rattle.project_reading.specs.Reads.{Reads}
-use Rattle.project_reading.specs.Respelled.{AreRespelled, respelled_lists}
+use Rattle.ml_syntax.specs.RespelledSource.{AreRespelled}
+use Rattle.project_reading.specs.Respelled.{respelled_lists}
 use Rattle.project_reading.specs.Sources.{AreCut}
 
 -- the new words of a project's places

@@ -3,3 +3,4 @@ pub mod Kept
 pub mod LineCuts
 pub mod Loads
 pub mod Places
+pub mod Rising

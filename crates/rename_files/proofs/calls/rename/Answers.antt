@@ -7,10 +7,11 @@ use Rattle.rotor_base.specs.declared.looks.Watch.{Watch}
 use Rattle.rotor_base.specs.declared.refusal.Refusal.TheVariants as refusal
 use Rattle.rotor_base.specs.declared.source.SourceFile.{SourceFile}
 use Rattle.rotor_base.specs.Files.{FileSet}
+use Rattle.ml_syntax.specs.RespelledSource.{AreRespelled}
 use Rattle.ml_syntax.specs.View.{view_project}
 use Rattle.dependency_kernel.specs.Foot.{IsFoot}
 use Rattle.binding_model.specs.Facts.{facts}
-use Rattle.rename_model.specs.Bytes.{AreRespelled}
+use Rattle.binding_model.specs.Renaming.{in_file}
 use Rattle.rename_model.specs.Foot.{refs_to, hits}
 use Rattle.rename_model.specs.Report.{hit_files}
 use Rattle.rename_model.specs.Renaming.{watch_of, renamed_words, refusals_of_binder}
@@ -95,8 +96,8 @@ returns-clause-done c =
     let watch = same_watch c.in_ok-aim.aim.mark.name _ c.in_ok-new.new new foot old c.in_ok-new.ensures in
     let members : IsSetOf foot c.in_ok-members.members = subst (λ (ps : List Place). HasPlaces ps c.in_ok-members.members) c.as_slice.ensures c.in_ok-members.ensures in
     let refs : c.as_slice-2.result.now ≡ (facts us).refs = c.as_slice-2.ensures ∙ ap (λ (f : Facts). f.refs) fs in
-    let sources : AreRespelled (renamed_words us (watch_of us d foot new)) 0 files.entries c.in_ok-judged.judged.sources.items =
-    subst (λ (w : Watch). AreRespelled (renamed_words us w) 0 files.entries c.in_ok-judged.judged.sources.items) watch c.in_ok-judged.ensures.sources in
+    let sources : AreRespelled (in_file (renamed_words us (watch_of us d foot new))) 0 files.entries c.in_ok-judged.judged.sources.items =
+    subst (λ (w : Watch). AreRespelled (in_file (renamed_words us w)) 0 files.entries c.in_ok-judged.judged.sources.items) watch c.in_ok-judged.ensures.sources in
     record {
       project = us;
       binder = d;
@@ -106,7 +107,7 @@ returns-clause-done c =
       is_foot = is;
       none = subst (λ (n : List ℕ). IsFreeOf (refusals_of_binder files.entries us d foot n)) c.in_ok-new.ensures c.in_ok-judged.ensures.passed;
       renaming = record {
-        sources = subst (AreRespelled (renamed_words us (watch_of us d foot new)) 0 files.entries) (sym (ap (λ (f : FileSet). f.entries) c.in_ok-files.ensures)) sources;
+        sources = subst (AreRespelled (in_file (renamed_words us (watch_of us d foot new))) 0 files.entries) (sym (ap (λ (f : FileSet). f.entries) c.in_ok-files.ensures)) sources;
         manifest = ap (λ (f : FileSet). f.manifest) c.in_ok-files.ensures;
         changed =
             c.from_vec.ensures
