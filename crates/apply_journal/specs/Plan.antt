@@ -1,6 +1,7 @@
 -- Plans: the new bytes of the files that a renaming changes, as one text.
 use Rattle.std.specs.Prelude.{◌≡◌, ℕ, ◌≤◌, List, [], ◌∷◌, ◌++◌, flat_map, length, None, codes}
 use Rattle.std.specs.Fmt.{decimal}
+use Rattle.rotor_base.specs.Limits.{max_plan_bytes}
 use Rattle.rotor_base.specs.Files.{AreSources, too_many, too_large}
 use Rattle.rotor_base.specs.declared.source.SourceFile.{SourceFile}
 
@@ -26,4 +27,4 @@ pub record IsPlan (bytes : List ℕ) (files : List SourceFile) : Type 0 where
   pub sources : AreSources files
   pub few : too_many files ≡ None
   pub small : too_large files ≡ None
-  pub short : length bytes ≤ 16777216
+  pub short : length bytes ≤ max_plan_bytes

@@ -2,6 +2,7 @@
 use Rattle.std.specs.Prelude.{◌≡◌, ℕ, ◌≤◌, ◌==◌, List, [], ◌∷◌, ◌++◌, true, false, length, codes}
 use Rattle.std.specs.Fmt.{decimal}
 use Rattle.std.specs.List.{list_any}
+use Rattle.rotor_base.specs.Limits.{max_file_bytes, max_sources}
 use Rattle.rotor_base.specs.Stem.{is_source_name}
 use Rattle.rotor_base.specs.declared.source.SourceFile.{SourceFile}
 use Rattle.apply_journal.specs.Plan.{line, plan_entry}
@@ -23,13 +24,13 @@ pub record IsNumber (limit : ℕ) (bytes : List ℕ) (number : ℕ) (rest : List
 -- the bytes are the lines above the files of a plan, with the number of the files, and the rest
 pub record IsHead (bytes : List ℕ) (count : ℕ) (rest : List ℕ) : Type 0 where
   pub split : bytes ≡ line (codes "rotor-plan 1") ++ ((codes "files " ++ line (decimal count)) ++ rest)
-  pub few : count ≤ 2000
+  pub few : count ≤ max_sources
 
 -- the bytes are a source in a plan, within the limit on its bytes, and the rest
 pub record IsEntry (bytes : List ℕ) (file : SourceFile) (rest : List ℕ) : Type 0 where
   pub split : bytes ≡ plan_entry file ++ rest
   pub named : is_source_name file.name ≡ true
-  pub small : length file.bytes ≤ 1048576
+  pub small : length file.bytes ≤ max_file_bytes
 
 -- the bytes are these sources in a plan, one after another, and the rest
 abbrev pub AreEntries : List ℕ → List SourceFile → List ℕ → Type 0

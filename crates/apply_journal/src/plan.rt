@@ -3,6 +3,7 @@ ghost use Rattle.std.specs.Prelude.{◌≡◌, ◌++◌, ◌≤◌, ◌<◌, IfO
 ghost use Rattle.std.specs.List.Sorted.{IsStrictlySortedBy};
 ghost use Rattle.std.specs.Ordering.{nat_cmp};
 ghost use Rattle.std.specs.Fmt.{decimal};
+ghost use Rattle.rotor_base.specs.Limits.{max_plan_bytes};
 ghost use Rattle.project_load.specs.Rewritten.{files_at};
 ghost use Rattle.apply_journal.specs.Plan.{file_of, plan_entry, plan_text, IsPlan};
 
@@ -42,7 +43,7 @@ impl Plan {
     pub fn text(&self) -> &[u8]
         ensures text { result.now ≡ plan_text self.now }
         ensures some { 1 ≤ length result.now }
-        ensures short { length result.now ≤ 16777216 }
+        ensures short { length result.now ≤ max_plan_bytes }
     {
         &self.text
     }

@@ -5,6 +5,7 @@ ghost use Rattle.std.specs.List.{position};
 ghost use Rattle.std.specs.List.Sorted.{IsStrictlySortedBy};
 ghost use Rattle.std.specs.Ordering.{nat_cmp, is_lt};
 ghost use Rattle.std.specs.Cmp.Lexicographic.{slice_cmp};
+ghost use Rattle.rotor_base.specs.Limits.{max_file_bytes, max_sources, max_total_bytes};
 ghost use Rattle.rotor_base.specs.Files.{names_of};
 ghost use Rattle.rotor_base.specs.declared.source.SourceFile.{SourceFile};
 ghost use Rattle.apply_journal.specs.Plan.{IsPlan, line};
@@ -212,9 +213,9 @@ fn is_before(file: &SourceFile, next: &SourceFile) -> bool
 
 /// Whether all files together keep the limit on bytes, where each of them does.
 fn is_within(files: &[SourceFile]) -> bool
-    requires few { length files.now ≤ 2000 }
-    requires small { All (λ file. length file.bytes ≤ 1048576) files.now }
-    ensures { IsTrue result ↔ (sum_by (λ file. length file.bytes) files.now ≤ 8388608) }
+    requires few { length files.now ≤ max_sources }
+    requires small { All (λ file. length file.bytes ≤ max_file_bytes) files.now }
+    ensures { IsTrue result ↔ (sum_by (λ file. length file.bytes) files.now ≤ max_total_bytes) }
 {
     let mut total: u64 = 0;
     for file in files {

@@ -1,5 +1,6 @@
 -- A source with spans replaced.
 use Rattle.std.specs.Prelude.{◌≡◌, ℕ, ◌<◌, ◌≤◌, List, [], ◌∷◌, ◌++◌, length, take, drop, slice_range}
+use Rattle.rotor_base.specs.Limits.{max_name_bytes}
 use Rattle.edits.specs.declared.Edit.{Edit}
 
 -- the spans begin at `from` or later, one after the other, none empty, and end within `len` bytes; they may touch
@@ -9,7 +10,7 @@ AreInOrder from len (edit ∷ edits) = (from ≤ edit.start) × (edit.start < ed
 
 -- the text has at most 255 bytes
 abbrev pub HasShortText : Edit → Type 0
-HasShortText edit = length edit.text ≤ 255
+HasShortText edit = length edit.text ≤ max_name_bytes
 
 -- the text in place of the span
 abbrev pub with_span : List ℕ → Edit → List ℕ

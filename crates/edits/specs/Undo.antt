@@ -1,5 +1,6 @@
 -- Replacing spans, undone.
 use Rattle.std.specs.Prelude.{◌≡◌, ℕ, ◌+◌, ◌-◌, ◌<◌, ◌≤◌, List, [], ◌∷◌, length, slice_range, All}
+use Rattle.rotor_base.specs.Limits.{max_name_bytes}
 use Rattle.edits.specs.declared.Edit.{Edit}
 use Rattle.edits.specs.Replaced.{AreInOrder, HasShortText, replaced}
 
@@ -20,7 +21,7 @@ GivesBack = (src : List ℕ) (edits : List Edit) → AreInOrder 0 (length src) e
 
 -- neither the span nor its text is empty or longer than 255 bytes
 abbrev pub IsSmall : Edit → Type 0
-IsSmall edit = (0 < length edit.text) × (edit.end ≤ edit.start + 255)
+IsSmall edit = (0 < length edit.text) × (edit.end ≤ edit.start + max_name_bytes)
 
 -- inverse edits of small ones can be applied to the new source
 abbrev pub CanGoBack : Type 0

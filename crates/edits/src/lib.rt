@@ -2,6 +2,7 @@
 #![tactic(auto)]
 
 ghost use Rattle.std.specs.Prelude.{◌≡◌, ℕ, ◌*◌, ◌≤◌, List, All, IfOk, length};
+ghost use Rattle.rotor_base.specs.Limits.{max_file_bytes};
 ghost use Rattle.edits.specs.Lexemes.{ReplacedIsRespelled};
 ghost use Rattle.edits.specs.Undo.{GivesBack, CanGoBack};
 ghost use Rattle.edits.specs.Replaced.{AreInOrder, HasShortText, replaced, KeepsTheRest};
@@ -22,7 +23,7 @@ pub struct Edit {
 pub fn apply(alloc: Global, src: &[u8], list: &[Edit]) -> Result<Vec<u8>, Memory>
     requires spans { AreInOrder 0 (length src.now) list.now }
     requires texts { All HasShortText list.now }
-    requires source { length src.now ≤ 1048576 }
+    requires source { length src.now ≤ max_file_bytes }
     ensures replaced { IfOk result (λ bytes. bytes.items ≡ replaced src.now list.now) }
 {
     let mut bytes = Vec::new(alloc);
@@ -40,7 +41,7 @@ pub fn apply(alloc: Global, src: &[u8], list: &[Edit]) -> Result<Vec<u8>, Memory
 pub fn new_len(src_len: u32, list: &[Edit]) -> u64
     requires spans { AreInOrder 0 src_len list.now }
     requires texts { All HasShortText list.now }
-    requires source { src_len ≤ 1048576 }
+    requires source { src_len ≤ max_file_bytes }
     ensures len { (src : List ℕ) → length src ≡ src_len → result ≡ length (replaced src list.now) }
     ensures bounded { result ≤ 256 * src_len }
 {

@@ -1,6 +1,7 @@
 //! Bindings.
 
 ghost use Rattle.std.specs.Prelude.{◌≤◌, length, Some};
+ghost use Rattle.rotor_base.specs.Limits.{max_file_bytes};
 ghost use Rattle.ml_syntax.specs.Tree as pure;
 ghost use Rattle.ml_syntax.specs.View.{view, view_name, view_type, view_pat, view_binding, bindings, params};
 ghost use Rattle.parse_base.specs.Steps.{many, always};
@@ -37,7 +38,7 @@ impl<
         at: usize,
     ) -> Result<((Option<Run>, u32, Box<Expr>), usize), ReadError>
         requires nests { Nests self.now.depth (F.pre self.now.sub) (F.post self.now.sub) }
-        requires few { length tokens.now ≤ 1048576 }
+        requires few { length tokens.now ≤ max_file_bytes }
         ensures { Gives (λ x. ((view_type x.0.0, x.0.1, view x.0.2.value), from tokens.now x.1)) result (r.bound (read_expr self.now.depth) self.now.depth (from tokens.now at)) }
     {
         let (run, at) = optional_type(self.alloc, tokens, at)?;
@@ -55,7 +56,7 @@ impl<
         at: usize,
     ) -> Result<(Box<Binding>, usize), ReadError>
         requires nests { Nests self.now.depth (F.pre self.now.sub) (F.post self.now.sub) }
-        requires few { length tokens.now ≤ 1048576 }
+        requires few { length tokens.now ≤ max_file_bytes }
         ensures { Gives (λ x. (view_binding x.0.value, from tokens.now x.1)) result (r.plain_binding (read_expr self.now.depth) self.now.depth (from tokens.now at)) }
     {
         let (pat, at) = self.boxed_pattern(tokens, at)?;
@@ -76,7 +77,7 @@ impl<
         at: usize,
     ) -> Result<(Box<Binding>, usize), ReadError>
         requires nests { Nests self.now.depth (F.pre self.now.sub) (F.post self.now.sub) }
-        requires few { length tokens.now ≤ 1048576 }
+        requires few { length tokens.now ≤ max_file_bytes }
         ensures { Gives (λ x. (view_binding x.0.value, from tokens.now x.1)) result (r.named_binding (read_expr self.now.depth) self.now.depth (from tokens.now start) (view_name name) (params given.items) (from tokens.now at)) }
     {
         if given.len() == 0 {
@@ -95,7 +96,7 @@ impl<
         at: usize,
     ) -> Result<(Box<Binding>, usize), ReadError>
         requires nests { Nests self.now.depth (F.pre self.now.sub) (F.post self.now.sub) }
-        requires few { length tokens.now ≤ 1048576 }
+        requires few { length tokens.now ≤ max_file_bytes }
         ensures { Gives (λ x. (view_binding x.0.value, from tokens.now x.1)) result (r.binding (read_expr self.now.depth) self.now.depth (from tokens.now at)) }
     {
         match value_name(self.alloc, tokens, at) {
@@ -116,7 +117,7 @@ impl<
         at: usize,
     ) -> Result<(Box<Binding>, usize), ReadError>
         requires nests { Nests self.now.depth (F.pre self.now.sub) (F.post self.now.sub) }
-        requires few { length tokens.now ≤ 1048576 }
+        requires few { length tokens.now ≤ max_file_bytes }
         ensures { Gives (λ x. (view_binding x.0.value, from tokens.now x.1)) result (r.next_binding (read_expr self.now.depth) self.now.depth (from tokens.now at)) }
     {
         let at = expect(tokens, Fixed::And, at)?;
@@ -131,7 +132,7 @@ impl<
         at: usize,
     ) -> Result<(Vec<Binding>, usize), ReadError>
         requires nests { Nests self.now.depth (F.pre self.now.sub) (F.post self.now.sub) }
-        requires few { length tokens.now ≤ 1048576 }
+        requires few { length tokens.now ≤ max_file_bytes }
         ensures { Gives (λ x. (bindings x.0.items, from tokens.now x.1)) result (Some (many pure.no_binding pure.more_binding always (r.next_binding (read_expr self.now.depth) self.now.depth) self.now.depth (from tokens.now at))) }
     {
         let mut found = Vec::new(self.alloc);
@@ -158,7 +159,7 @@ impl<
         at: usize,
     ) -> Result<((Box<Binding>, Vec<Binding>), usize), ReadError>
         requires nests { Nests self.now.depth (F.pre self.now.sub) (F.post self.now.sub) }
-        requires few { length tokens.now ≤ 1048576 }
+        requires few { length tokens.now ≤ max_file_bytes }
         ensures { Gives (λ x. ((view_binding x.0.0.value, bindings x.0.1.items), from tokens.now x.1)) result (r.bindings (read_expr self.now.depth) self.now.depth (from tokens.now at)) }
     {
         let (first, at) = self.binding(tokens, at)?;

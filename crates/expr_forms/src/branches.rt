@@ -1,6 +1,7 @@
 //! `if`.
 
 ghost use Rattle.std.specs.Prelude.{◌≤◌, ◌<◌, ◌+◌, length, Some};
+ghost use Rattle.rotor_base.specs.Limits.{max_file_bytes};
 ghost use Rattle.ml_syntax.specs.Tree as pure;
 ghost use Rattle.ml_syntax.specs.View.{view, tail};
 ghost use Rattle.parse_base.specs.Steps.{many};
@@ -45,7 +46,7 @@ impl<
         at: usize,
     ) -> Result<((Box<Expr>, Box<Expr>), usize), ReadError>
         requires nests { Nests self.now.depth (F.pre self.now.sub) (F.post self.now.sub) }
-        requires few { length tokens.now ≤ 1048576 }
+        requires few { length tokens.now ≤ max_file_bytes }
         ensures { Gives (λ x. ((view x.0.0.value, view x.0.1.value), from tokens.now x.1)) result (r.then_branch (read_expr self.now.depth) self.now.depth (from tokens.now at)) }
     {
         let (test, at) = self.sub(tokens, Wanted::Sequence, at)?;
@@ -63,7 +64,7 @@ impl<
         at: usize,
     ) -> Result<(Otherwise, usize), ReadError>
         requires nests { Nests self.now.depth (F.pre self.now.sub) (F.post self.now.sub) }
-        requires few { length tokens.now ≤ 1048576 }
+        requires few { length tokens.now ≤ max_file_bytes }
         ensures { Gives (λ x. (otherwise_of x.0, from tokens.now x.1)) result (r.else_branch (read_expr self.now.depth) self.now.depth (from tokens.now at)) }
     {
         let at = expect(tokens, Fixed::Else, at)?;
@@ -88,7 +89,7 @@ impl<
         at: usize,
     ) -> Result<((Vec<Branch>, Option<Box<Expr>>), usize), ReadError>
         requires nests { Nests self.now.depth (F.pre self.now.sub) (F.post self.now.sub) }
-        requires few { length tokens.now ≤ 1048576 }
+        requires few { length tokens.now ≤ max_file_bytes }
         ensures { Gives (λ x. (tail x.0.0.items x.0.1, from tokens.now x.1)) result (Some (many pure.no_else r.cons_branch r.branch_ends (r.else_branch (read_expr self.now.depth) self.now.depth) self.now.depth (from tokens.now at))) }
     {
         let mut found = Vec::new(self.alloc);
@@ -124,7 +125,7 @@ impl<
         at: usize,
     ) -> Result<((Vec<Branch>, Option<Box<Expr>>), usize), ReadError>
         requires nests { Nests self.now.depth (F.pre self.now.sub) (F.post self.now.sub) }
-        requires few { length tokens.now ≤ 1048576 }
+        requires few { length tokens.now ≤ max_file_bytes }
         ensures { Gives (λ x. (tail x.0.0.items x.0.1, from tokens.now x.1)) result (Some (r.if_tail (read_expr self.now.depth) self.now.depth (view taken.now) (from tokens.now at))) }
     {
         if on_edge(Edge::OpenIf, taken) {
@@ -138,7 +139,7 @@ impl<
     #[inline(never)]
     pub fn if_expr(&self, tokens: &[Token<'_>], at: usize) -> Result<(Box<Expr>, usize), ReadError>
         requires nests { Nests self.now.depth (F.pre self.now.sub) (F.post self.now.sub) }
-        requires few { length tokens.now ≤ 1048576 }
+        requires few { length tokens.now ≤ max_file_bytes }
         requires within { at < length tokens.now }
         ensures { Gives (λ x. (view x.0.value, from tokens.now x.1)) result (r.if_expr (read_expr self.now.depth) self.now.depth (at + 1) (from tokens.now (at + 1))) }
     {

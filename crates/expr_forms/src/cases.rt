@@ -1,6 +1,7 @@
 //! `function`, `match` and `try`.
 
 ghost use Rattle.std.specs.Prelude.{◌≡◌, ◌≤◌, ◌<◌, ◌+◌, Bool, length, Some};
+ghost use Rattle.rotor_base.specs.Limits.{max_file_bytes};
 ghost use Rattle.ml_syntax.specs.Tree as pure;
 ghost use Rattle.ml_syntax.specs.View.{view, view_pat, view_case, maybe, cases};
 ghost use Rattle.parse_base.specs.Steps.{many};
@@ -36,7 +37,7 @@ impl<
         at: usize,
     ) -> Result<(Option<Box<Expr>>, usize), ReadError>
         requires nests { Nests self.now.depth (F.pre self.now.sub) (F.post self.now.sub) }
-        requires few { length tokens.now ≤ 1048576 }
+        requires few { length tokens.now ≤ max_file_bytes }
         ensures { Gives (λ x. (maybe x.0, from tokens.now x.1)) result (r.case_guard (read_expr self.now.depth) self.now.depth (from tokens.now at)) }
     {
         match kind_at(tokens, at) {
@@ -53,7 +54,7 @@ impl<
     #[inline(never)]
     pub fn case(&self, tokens: &[Token<'_>], at: usize) -> Result<(Box<Case>, usize), ReadError>
         requires nests { Nests self.now.depth (F.pre self.now.sub) (F.post self.now.sub) }
-        requires few { length tokens.now ≤ 1048576 }
+        requires few { length tokens.now ≤ max_file_bytes }
         ensures { Gives (λ x. (view_case x.0.value, from tokens.now x.1)) result (r.one_case (read_expr self.now.depth) self.now.depth (from tokens.now at)) }
     {
         let (pat, at) = self.boxed_pattern(tokens, at)?;
@@ -71,7 +72,7 @@ impl<
         at: usize,
     ) -> Result<(Box<Case>, usize), ReadError>
         requires nests { Nests self.now.depth (F.pre self.now.sub) (F.post self.now.sub) }
-        requires few { length tokens.now ≤ 1048576 }
+        requires few { length tokens.now ≤ max_file_bytes }
         ensures { Gives (λ x. (view_case x.0.value, from tokens.now x.1)) result (r.next_case (read_expr self.now.depth) self.now.depth (from tokens.now at)) }
     {
         let at = expect(tokens, Fixed::Bar, at)?;
@@ -86,7 +87,7 @@ impl<
         at: usize,
     ) -> Result<(Vec<Case>, usize), ReadError>
         requires nests { Nests self.now.depth (F.pre self.now.sub) (F.post self.now.sub) }
-        requires few { length tokens.now ≤ 1048576 }
+        requires few { length tokens.now ≤ max_file_bytes }
         ensures { Gives (λ x. (cases x.0.items, from tokens.now x.1)) result (Some (many pure.no_case pure.more_case r.no_cases (r.next_case (read_expr self.now.depth) self.now.depth) self.now.depth (from tokens.now at))) }
     {
         let mut found = Vec::new(self.alloc);
@@ -117,7 +118,7 @@ impl<
         at: usize,
     ) -> Result<(Vec<Case>, usize), ReadError>
         requires nests { Nests self.now.depth (F.pre self.now.sub) (F.post self.now.sub) }
-        requires few { length tokens.now ≤ 1048576 }
+        requires few { length tokens.now ≤ max_file_bytes }
         ensures { Gives (λ x. (cases x.0.items, from tokens.now x.1)) result (Some (r.more_cases (read_expr self.now.depth) self.now.depth (view_case first.now) (from tokens.now at))) }
     {
         if on_edge(Edge::Cases, &first.body) {
@@ -135,7 +136,7 @@ impl<
         at: usize,
     ) -> Result<((bool, Box<Case>, Vec<Case>), usize), ReadError>
         requires nests { Nests self.now.depth (F.pre self.now.sub) (F.post self.now.sub) }
-        requires few { length tokens.now ≤ 1048576 }
+        requires few { length tokens.now ≤ max_file_bytes }
         ensures { (grown : Bool → pure.Case → pure.Cases → pure.Expr) → Gives (λ x. (grown x.0.0 (view_case x.0.1.value) (cases x.0.2.items), from tokens.now x.1)) result (r.all_cases (read_expr self.now.depth) self.now.depth grown (from tokens.now at)) }
     {
         let (bar, at) = first_bar(tokens, at);
@@ -153,7 +154,7 @@ impl<
         at: usize,
     ) -> Result<(Box<Expr>, usize), ReadError>
         requires nests { Nests self.now.depth (F.pre self.now.sub) (F.post self.now.sub) }
-        requires few { length tokens.now ≤ 1048576 }
+        requires few { length tokens.now ≤ max_file_bytes }
         requires within { at < length tokens.now }
         ensures { Gives (λ x. (view x.0.value, from tokens.now x.1)) result (r.all_cases (read_expr self.now.depth) self.now.depth (pure.Function (at + 1)) (from tokens.now (at + 1))) }
     {
@@ -181,7 +182,7 @@ impl<
         at: usize,
     ) -> Result<(Box<Expr>, usize), ReadError>
         requires nests { Nests self.now.depth (F.pre self.now.sub) (F.post self.now.sub) }
-        requires few { length tokens.now ≤ 1048576 }
+        requires few { length tokens.now ≤ max_file_bytes }
         requires within { at < length tokens.now }
         ensures { Gives (λ x. (view x.0.value, from tokens.now x.1)) result (r.match_expr (read_expr self.now.depth) self.now.depth (pure.Match (at + 1)) (from tokens.now (at + 1))) }
     {
@@ -208,7 +209,7 @@ impl<
     #[inline(never)]
     pub fn try_expr(&self, tokens: &[Token<'_>], at: usize) -> Result<(Box<Expr>, usize), ReadError>
         requires nests { Nests self.now.depth (F.pre self.now.sub) (F.post self.now.sub) }
-        requires few { length tokens.now ≤ 1048576 }
+        requires few { length tokens.now ≤ max_file_bytes }
         requires within { at < length tokens.now }
         ensures { Gives (λ x. (view x.0.value, from tokens.now x.1)) result (r.match_expr (read_expr self.now.depth) self.now.depth (pure.Try (at + 1)) (from tokens.now (at + 1))) }
     {

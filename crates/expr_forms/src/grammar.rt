@@ -1,6 +1,7 @@
 //! What the readers of expressions are lent.
 
 ghost use Rattle.std.specs.Prelude.{IfOk, IfErr, ◌≡◌, ◌≤◌, length};
+ghost use Rattle.rotor_base.specs.Limits.{max_file_bytes};
 ghost use Rattle.ml_syntax.specs.View.{view};
 ghost use Rattle.parse_base.specs.Gives.{from, Gives};
 ghost use Rattle.expr_reading.specs.ExprReading.{read_expr};
@@ -45,7 +46,7 @@ impl<
         at: usize,
     ) -> Result<(Box<Expr>, usize), ReadError>
         requires nests { Nests self.now.depth (F.pre self.now.sub) (F.post self.now.sub) }
-        requires few { length tokens.now ≤ 1048576 }
+        requires few { length tokens.now ≤ max_file_bytes }
         ensures { Gives (λ x. (view x.0.value, from tokens.now x.1)) result (read_expr self.now.depth wanted (from tokens.now at)) }
     {
         (self.sub)(self.alloc, tokens, self.depth, self.levels, wanted, at)
@@ -60,7 +61,7 @@ impl<
         at: usize,
     ) -> Result<(Expr, usize), ReadError>
         requires nests { Nests self.now.depth (F.pre self.now.sub) (F.post self.now.sub) }
-        requires few { length tokens.now ≤ 1048576 }
+        requires few { length tokens.now ≤ max_file_bytes }
         ensures { Gives (λ x. (view x.0, from tokens.now x.1)) result (read_expr self.now.depth wanted (from tokens.now at)) }
     {
         let (value, at) = self.sub(tokens, wanted, at)?;

@@ -1,6 +1,7 @@
 //! Parameters.
 
 ghost use Rattle.std.specs.Prelude.{◌≤◌, ◌<◌, ◌+◌, ◌∷◌, [], length, Some};
+ghost use Rattle.rotor_base.specs.Limits.{max_file_bytes};
 ghost use Rattle.ml_syntax.specs.Tree as pure;
 ghost use Rattle.ml_syntax.specs.View.{view, view_word, view_words, view_type, view_pat, view_param, params};
 ghost use Rattle.parse_base.specs.Steps.{many, always};
@@ -37,7 +38,7 @@ impl<
     /// A pattern.
     #[inline(never)]
     pub fn pattern(&self, tokens: &[Token<'_>], at: usize) -> Result<(Pat, usize), ReadError>
-        requires few { length tokens.now ≤ 1048576 }
+        requires few { length tokens.now ≤ max_file_bytes }
         ensures { Gives (λ x. (view_pat x.0, from tokens.now x.1)) result (read_pat self.now.depth (from tokens.now at)) }
     {
         pattern(self.alloc, tokens, self.depth, self.levels / 2, at)
@@ -50,7 +51,7 @@ impl<
         tokens: &[Token<'_>],
         at: usize,
     ) -> Result<(Box<Pat>, usize), ReadError>
-        requires few { length tokens.now ≤ 1048576 }
+        requires few { length tokens.now ≤ max_file_bytes }
         ensures { Gives (λ x. (view_pat x.0.value, from tokens.now x.1)) result (read_pat self.now.depth (from tokens.now at)) }
     {
         let (pat, at) = self.pattern(tokens, at)?;
@@ -60,7 +61,7 @@ impl<
     /// A Simple pattern.
     #[inline(never)]
     pub fn simple(&self, tokens: &[Token<'_>], at: usize) -> Result<(Box<Pat>, usize), ReadError>
-        requires few { length tokens.now ≤ 1048576 }
+        requires few { length tokens.now ≤ max_file_bytes }
         ensures { Gives (λ x. (view_pat x.0.value, from tokens.now x.1)) result (r.simple_at self.now.depth (from tokens.now at)) }
     {
         let (pat, at) = simple_pattern(self.alloc, tokens, self.depth, self.levels / 2, at)?;
@@ -75,7 +76,7 @@ impl<
         at: usize,
     ) -> Result<((u32, Box<Expr>), usize), ReadError>
         requires nests { Nests self.now.depth (F.pre self.now.sub) (F.post self.now.sub) }
-        requires few { length tokens.now ≤ 1048576 }
+        requires few { length tokens.now ≤ max_file_bytes }
         ensures { Gives (λ x. (x.0.0, view x.0.1.value, from tokens.now x.1)) result (r.equals_expr (read_expr self.now.depth) self.now.depth (from tokens.now at)) }
     {
         let (equals, at) = expect_at(tokens, Fixed::Equals, at)?;
@@ -96,7 +97,7 @@ impl<
         at: usize,
     ) -> Result<(Box<Param>, usize), ReadError>
         requires nests { Nests self.now.depth (F.pre self.now.sub) (F.post self.now.sub) }
-        requires few { length tokens.now ≤ 1048576 }
+        requires few { length tokens.now ≤ max_file_bytes }
         ensures { Gives (λ x. (view_param x.0.value, from tokens.now x.1)) result (default_end self.now.depth (view_word label) paren (view_pat pat.value) (view_type run) (from tokens.now at)) }
     {
         let (equals, at) = expect_at(tokens, Fixed::Equals, at)?;
@@ -116,7 +117,7 @@ impl<
         at: usize,
     ) -> Result<(Box<Param>, usize), ReadError>
         requires nests { Nests self.now.depth (F.pre self.now.sub) (F.post self.now.sub) }
-        requires few { length tokens.now ≤ 1048576 }
+        requires few { length tokens.now ≤ max_file_bytes }
         ensures { Gives (λ x. (view_param x.0.value, from tokens.now x.1)) result (r.default_param (read_expr self.now.depth) self.now.depth (view_word label) (from tokens.now at)) }
     {
         if !is(tokens, Fixed::LeftParen, at) {
@@ -137,7 +138,7 @@ impl<
         at: usize,
     ) -> Result<(Box<Param>, usize), ReadError>
         requires nests { Nests self.now.depth (F.pre self.now.sub) (F.post self.now.sub) }
-        requires few { length tokens.now ≤ 1048576 }
+        requires few { length tokens.now ≤ max_file_bytes }
         requires within { at < length tokens.now }
         ensures { Gives (λ x. (view_param x.0.value, from tokens.now x.1)) result (r.label_param (read_expr self.now.depth) self.now.depth (name_at tokens.now at) (from tokens.now (at + 1))) }
     {
@@ -172,7 +173,7 @@ impl<
         at: usize,
     ) -> Result<(Box<Param>, usize), ReadError>
         requires nests { Nests self.now.depth (F.pre self.now.sub) (F.post self.now.sub) }
-        requires few { length tokens.now ≤ 1048576 }
+        requires few { length tokens.now ≤ max_file_bytes }
         requires inside { first < length tokens.now }
         ensures { Gives (λ x. (view_param x.0.value, from tokens.now x.1)) result (r.wrapped_end (read_expr self.now.depth) self.now.depth (first + 1) optional paren (view_word name) (view_type run) (from tokens.now at)) }
     {
@@ -202,7 +203,7 @@ impl<
         at: usize,
     ) -> Result<(Box<Param>, usize), ReadError>
         requires nests { Nests self.now.depth (F.pre self.now.sub) (F.post self.now.sub) }
-        requires few { length tokens.now ≤ 1048576 }
+        requires few { length tokens.now ≤ max_file_bytes }
         requires inside { first < length tokens.now }
         ensures { Gives (λ x. (view_param x.0.value, from tokens.now x.1)) result (wrapped_label self.now.depth (first + 1) optional paren (from tokens.now at)) }
     {
@@ -221,7 +222,7 @@ impl<
         at: usize,
     ) -> Result<(Box<Param>, usize), ReadError>
         requires nests { Nests self.now.depth (F.pre self.now.sub) (F.post self.now.sub) }
-        requires few { length tokens.now ≤ 1048576 }
+        requires few { length tokens.now ≤ max_file_bytes }
         requires within { at < length tokens.now }
         ensures { Gives (λ x. (view_param x.0.value, from tokens.now x.1)) result (r.wrapped_param (read_expr self.now.depth) self.now.depth (at + 1) optional (from tokens.now (at + 1))) }
     {
@@ -237,7 +238,7 @@ impl<
         at: usize,
     ) -> Result<(Vec<Word>, usize), ReadError>
         requires nests { Nests self.now.depth (F.pre self.now.sub) (F.post self.now.sub) }
-        requires few { length tokens.now ≤ 1048576 }
+        requires few { length tokens.now ≤ max_file_bytes }
         ensures { Gives (λ x. (view_words x.0.items, from tokens.now x.1)) result (Some (many [] ◌∷◌ always lower_word self.now.depth (from tokens.now at))) }
     {
         let mut found = Vec::new(self.alloc);
@@ -266,7 +267,7 @@ impl<
         at: usize,
     ) -> Result<(Param, usize), ReadError>
         requires nests { Nests self.now.depth (F.pre self.now.sub) (F.post self.now.sub) }
-        requires few { length tokens.now ≤ 1048576 }
+        requires few { length tokens.now ≤ max_file_bytes }
         requires within { start < length tokens.now }
         ensures { Gives (λ x. (view_param x.0, from tokens.now x.1)) result (r.types_end (read_expr self.now.depth) self.now.depth (start + 1) (view_words names.items, from tokens.now at)) }
     {
@@ -286,7 +287,7 @@ impl<
         at: usize,
     ) -> Result<(Box<Param>, usize), ReadError>
         requires nests { Nests self.now.depth (F.pre self.now.sub) (F.post self.now.sub) }
-        requires few { length tokens.now ≤ 1048576 }
+        requires few { length tokens.now ≤ max_file_bytes }
         requires within { at < length tokens.now }
         ensures { Gives (λ x. (view_param x.0.value, from tokens.now x.1)) result (r.types_end (read_expr self.now.depth) self.now.depth (at + 1) (many [] ◌∷◌ always lower_word self.now.depth (from tokens.now (at + 2)))) }
     {
@@ -300,7 +301,7 @@ impl<
     #[inline(never)]
     pub fn param(&self, tokens: &[Token<'_>], at: usize) -> Result<(Box<Param>, usize), ReadError>
         requires nests { Nests self.now.depth (F.pre self.now.sub) (F.post self.now.sub) }
-        requires few { length tokens.now ≤ 1048576 }
+        requires few { length tokens.now ≤ max_file_bytes }
         ensures { Gives (λ x. (view_param x.0.value, from tokens.now x.1)) result (r.param (read_expr self.now.depth) self.now.depth (from tokens.now at)) }
     {
         match kind_at(tokens, at) {
@@ -329,7 +330,7 @@ impl<
         at: usize,
     ) -> Result<(Vec<Param>, usize), ReadError>
         requires nests { Nests self.now.depth (F.pre self.now.sub) (F.post self.now.sub) }
-        requires few { length tokens.now ≤ 1048576 }
+        requires few { length tokens.now ≤ max_file_bytes }
         ensures { Gives (λ x. (params x.0.items, from tokens.now x.1)) result (Some (many pure.no_param pure.more_param always (r.param (read_expr self.now.depth) self.now.depth) self.now.depth (from tokens.now at))) }
     {
         let mut found = Vec::new(self.alloc);

@@ -1,6 +1,7 @@
 //! The module of a `let module`: a path, and the arguments after it.
 
 ghost use Rattle.std.specs.Prelude.{◌≤◌, length, Some};
+ghost use Rattle.rotor_base.specs.Limits.{max_file_bytes};
 ghost use Rattle.ml_syntax.specs.View.{locals, view_local};
 ghost use Rattle.parse_base.specs.Gives.{from, Gives};
 ghost use Rattle.expr_reading.specs.ExprReading as r;
@@ -24,7 +25,7 @@ fn local_argument(
     levels: usize,
     at: usize,
 ) -> Result<(LocalArgument, usize), ReadError>
-    requires few { length tokens.now ≤ 1048576 }
+    requires few { length tokens.now ≤ max_file_bytes }
     ensures { Gives (λ x. (local_of x.0, from tokens.now x.1)) result (r.local_part (read_local depth) (from tokens.now at)) }
 {
     if !is(tokens, Fixed::LeftParen, at) {
@@ -54,7 +55,7 @@ fn local_arguments(
     levels: usize,
     at: usize,
 ) -> Result<(Vec<LocalArgument>, usize), ReadError>
-    requires few { length tokens.now ≤ 1048576 }
+    requires few { length tokens.now ≤ max_file_bytes }
     ensures { Gives (λ x. (locals x.0.items, from tokens.now x.1)) result (Some (r.local_parts (read_local depth) depth (from tokens.now at))) }
 {
     let mut found = Vec::new(alloc);
@@ -83,7 +84,7 @@ pub fn local_module(
     levels: usize,
     at: usize,
 ) -> Result<(LocalModule, usize), ReadError>
-    requires few { length tokens.now ≤ 1048576 }
+    requires few { length tokens.now ≤ max_file_bytes }
     ensures { Gives (λ x. (view_local x.0, from tokens.now x.1)) result (read_local depth (from tokens.now at)) }
 {
     if depth == 0 {

@@ -1,6 +1,7 @@
 //! Small parts of expressions.
 
 ghost use Rattle.std.specs.Prelude.{◌≡◌, ◌≤◌, ◌<◌, ◌+◌, false, length, Some};
+ghost use Rattle.rotor_base.specs.Limits.{max_file_bytes};
 ghost use Rattle.ml_syntax.specs.View.{view, view_word, view_path, view_run, view_bang, view_variable};
 ghost use Rattle.parse_base.specs.Rows.{path_from};
 ghost use Rattle.parse_base.specs.Gives.{from, name_at, Gives};
@@ -19,7 +20,7 @@ use std::alloc::Global;
 /// A last `;`, where it may follow, and the place after it.
 #[inline(never)]
 pub fn semicolon_if(tokens: &[Token<'_>], may: bool, at: usize) -> (bool, usize)
-    requires few { length tokens.now ≤ 1048576 }
+    requires few { length tokens.now ≤ max_file_bytes }
     ensures { (result.0, from tokens.now result.1) ≡ r.semicolon_if may (from tokens.now at) }
 {
     if !may {
@@ -34,7 +35,7 @@ pub fn semicolon_if(tokens: &[Token<'_>], may: bool, at: usize) -> (bool, usize)
 /// A `|` that may stand before the first case, and the place after it.
 #[inline(never)]
 pub fn first_bar(tokens: &[Token<'_>], at: usize) -> (bool, usize)
-    requires few { length tokens.now ≤ 1048576 }
+    requires few { length tokens.now ≤ max_file_bytes }
     ensures { (result.0, from tokens.now result.1) ≡ r.first_bar (from tokens.now at) }
 {
     match kind_at(tokens, at) {
@@ -50,7 +51,7 @@ pub fn bang(
     tokens: &[Token<'_>],
     at: usize,
 ) -> Result<(Option<Word>, usize), ReadError>
-    requires few { length tokens.now ≤ 1048576 }
+    requires few { length tokens.now ≤ max_file_bytes }
     ensures { Gives (λ x. (view_bang x.0, from tokens.now x.1)) result (Some (r.optional_bang (from tokens.now at))) }
 {
     match kind_at(tokens, at) {
@@ -71,7 +72,7 @@ pub fn upper_word(
     tokens: &[Token<'_>],
     at: usize,
 ) -> Result<(Word, usize), ReadError>
-    requires few { length tokens.now ≤ 1048576 }
+    requires few { length tokens.now ≤ max_file_bytes }
     ensures { Gives (λ x. (view_word x.0, from tokens.now x.1)) result (upper_word (from tokens.now at)) }
 {
     match kind_at(tokens, at) {
@@ -88,7 +89,7 @@ pub fn path(
     depth: usize,
     at: usize,
 ) -> Result<(Path, usize), ReadError>
-    requires few { length tokens.now ≤ 1048576 }
+    requires few { length tokens.now ≤ max_file_bytes }
     ensures { Gives (λ x. (view_path x.0, from tokens.now x.1)) result (r.upper_path depth (from tokens.now at)) }
 {
     match kind_at(tokens, at) {
@@ -105,7 +106,7 @@ pub fn path_from(
     depth: usize,
     at: usize,
 ) -> Result<(Path, usize), ReadError>
-    requires few { length tokens.now ≤ 1048576 }
+    requires few { length tokens.now ≤ max_file_bytes }
     requires within { at < length tokens.now }
     ensures { Gives (λ x. (view_path x.0, from tokens.now x.1)) result (Some (path_from (name_at tokens.now at) depth (from tokens.now (at + 1)))) }
 {
@@ -122,7 +123,7 @@ pub fn variable(
     tokens: &[Token<'_>],
     at: usize,
 ) -> Result<(Variable, usize), ReadError>
-    requires few { length tokens.now ≤ 1048576 }
+    requires few { length tokens.now ≤ max_file_bytes }
     ensures { Gives (λ x. (view_variable x.0, from tokens.now x.1)) result (r.for_variable (from tokens.now at)) }
 {
     match kind_at(tokens, at) {
@@ -138,7 +139,7 @@ pub fn variable(
 /// Whether a `for` counts down.
 #[inline(never)]
 pub fn direction(tokens: &[Token<'_>], at: usize) -> Result<(bool, usize), ReadError>
-    requires few { length tokens.now ≤ 1048576 }
+    requires few { length tokens.now ≤ max_file_bytes }
     ensures { Gives (λ x. (x.0, from tokens.now x.1)) result (r.for_direction (from tokens.now at)) }
 {
     match kind_at(tokens, at) {
@@ -160,7 +161,7 @@ pub fn typed(
     at: usize,
 ) -> Result<(Box<Expr>, usize), ReadError>
     requires within { paren < length tokens.now }
-    requires few { length tokens.now ≤ 1048576 }
+    requires few { length tokens.now ≤ max_file_bytes }
     ensures { Gives (λ x. (view x.0.value, from tokens.now x.1)) result (r.typed_by (paren + 1) (view inner.value) (view_run run) (from tokens.now at)) }
 {
     match kind_at(tokens, at) {
@@ -206,7 +207,7 @@ pub fn closed(
     at: usize,
 ) -> Result<(Box<Expr>, usize), ReadError>
     requires within { paren < length tokens.now }
-    requires few { length tokens.now ≤ 1048576 }
+    requires few { length tokens.now ≤ max_file_bytes }
     ensures { Gives (λ x. (view x.0.value, from tokens.now x.1)) result (r.closed_by (paren + 1) (view inner.value) (from tokens.now at)) }
 {
     match kind_at(tokens, at) {

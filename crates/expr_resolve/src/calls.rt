@@ -1,6 +1,7 @@
 //! The facts and the looks of an expression.
 
 ghost use Rattle.std.specs.Prelude.{◌≡◌, ◌≤◌, IfOk, IsOk, Err, Some, None};
+ghost use Rattle.rotor_base.specs.Limits.{max_work};
 ghost use Rattle.rotor_base.specs.declared.place.Place.{Place};
 ghost use Rattle.ml_syntax.specs.Sound.{IsWithinFile};
 ghost use Rattle.ml_syntax.specs.View.{view};
@@ -31,12 +32,12 @@ pub fn expr_refs(
     e: &Expr,
     sums: Sums,
 ) -> Result<(Facts, Sums), FactError>
-    requires weight { sums.weight ≤ 4194304 }
+    requires weight { sums.weight ≤ max_work }
     requires work { sums.work ≤ 4194305 }
-    requires opened { sums.opened ≤ 4194304 }
+    requires opened { sums.opened ≤ max_work }
     requires numbered { IsWithinFile (view e.now) }
     ensures refs { IfOk result (λ done. done.0.refs ≡ (facts_of (expr_steps file (entries_of scope.old) (view e.now))).refs) }
-    ensures links { IfOk result (λ done. done.1.work ≤ 4194304 → done.0.links ≡ (facts_of (expr_steps file (entries_of scope.old) (view e.now))).links) }
+    ensures links { IfOk result (λ done. done.1.work ≤ max_work → done.0.links ≡ (facts_of (expr_steps file (entries_of scope.old) (view e.now))).links) }
     ensures groups { IfOk result (λ done. done.0.groups ≡ (facts_of (expr_steps file (entries_of scope.old) (view e.now))).groups) }
     ensures sums { IfOk result (λ done. Tracks (sums_after sums (expr_steps file (entries_of scope.old) (view e.now))) done.1) }
     ensures light { IsOk result → heavy_from sums (expr_steps file (entries_of scope.old) (view e.now)) ≡ None }

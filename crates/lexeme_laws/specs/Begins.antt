@@ -1,6 +1,7 @@
 -- What begins at the front of some bytes by the table of lexemes, and the rules on what follows.
 use Rattle.std.specs.Prelude.{ℕ, ◌-◌, ◌<◌, ◌≤◌, ◌⊎◌, Bool, ◌&&◌, IsTrue, IsFalse}
 use Rattle.std.specs.Prelude.{List, ◌∷◌, ◌++◌, codes, length, take, drop, slice_index}
+use Rattle.rotor_base.specs.Limits.{max_name_bytes}
 use Rattle.rotor_base.specs.Name.{is_identifier_byte, is_reserved_word}
 use Rattle.rotor_base.specs.declared.token.Class.{Class}
 use Rattle.rotor_base.specs.declared.token.Class.TheVariants as class
@@ -43,7 +44,7 @@ IsBadAt _ n bytes = ⊥
 
 -- a word of more than 255 bytes begins here
 abbrev pub LongWordBegins : List ℕ → Type 0
-LongWordBegins bytes = (n : ℕ) × (n ≤ length bytes) × IsTrue (is_word (take n bytes)) × (255 < n)
+LongWordBegins bytes = (n : ℕ) × (n ≤ length bytes) × IsTrue (is_word (take n bytes)) × (max_name_bytes < n)
 
 -- such a word begins here, or behind one of `~`, `?`, `'` and a backquote
 abbrev pub LongNameBegins : List ℕ → Type 0

@@ -3,6 +3,7 @@
 use Rattle.std.specs.Prelude.{ℕ, ◌+◌, List, Bool, true, false, ◌||◌, ◌&&◌, nat_lt, ◌<◌, ◌≤◌, length, codes, take, drop, slice_index, Option, Some, None, if◌then◌else◌}
 use Rattle.std.specs.Char.{is_ascii_digit, is_ascii_uppercase}
 use Rattle.std.specs.Str.{bytes_eq}
+use Rattle.rotor_base.specs.Limits.{max_name_bytes}
 use Prim.Native.String.{String}
 use Rattle.rotor_base.specs.Name.{is_value_name}
 use Rattle.rotor_base.specs.declared.token.Class.{Class}
@@ -33,7 +34,7 @@ word_class word =
 
 -- a word has at most 255 bytes
 abbrev pub is_long : ℕ → Bool
-is_long n = nat_lt 255 n
+is_long n = nat_lt max_name_bytes n
 
 unfoldable pub word_at : List ℕ → Piece
 word_at bytes =

@@ -1,6 +1,7 @@
 //! The lexemes of a file.
 
 ghost use Rattle.std.specs.Prelude.{◌≡◌, ◌≤◌, ◌^◌, length, IfOk, IfErr};
+ghost use Rattle.rotor_base.specs.Limits.{max_file_bytes};
 ghost use Rattle.ml_lexer.specs.Lexed.{Lexed, view_tokens};
 ghost use Rattle.ml_lexer.specs.Answers.{FaultIs};
 
@@ -12,7 +13,7 @@ use std::alloc::Global;
 
 /// The lexemes of a file of at most 1,048,576 bytes, each with its class and where it stands, in order.
 pub fn lex<'a>(alloc: Global, src: &'a [u8]) -> Result<Vec<Token<'a>>, LexError>
-    requires { length src.now ≤ 1048576 }
+    requires { length src.now ≤ max_file_bytes }
     ensures found { IfOk result (λ tokens. Lexed src.now (view_tokens tokens.items)) }
     ensures few { IfOk result (λ tokens. length tokens.items ≤ length src.now) }
     ensures fault { IfErr result (λ error. FaultIs src.now error) }

@@ -1,5 +1,6 @@
 -- A file whose lexemes are respelled, and its tree.
 use Rattle.std.specs.Prelude.{◌≡◌, ℕ, suc, List, [], ◌∷◌, map, IsTrue, ◌⊎◌, Contains, None, false, ◌+◌, ◌≤◌, ◌++◌, length}
+use Rattle.rotor_base.specs.Limits.{max_file_bytes}
 use Rattle.rotor_base.specs.Name.{is_value_name}
 use Rattle.ml_lexer.specs.Lexed.{Lexeme, Lexed}
 use Rattle.ml_lexer.specs.Respelled.{AllMayBecome, AllMayBecomeBehind, respelled, respelled_lexemes}
@@ -59,7 +60,7 @@ RespelledNamesAreRead =
 
 -- a file that was read is sound
 abbrev pub ReadFilesAreSound : Type 0
-ReadFilesAreSound = (t : FileTree) (bytes : List ℕ) (xs : List Lexeme) → length bytes ≤ 1048576 → WfFile t → Lexed bytes xs → lexeme_toks 1 xs ≡ words t → IsSoundFile t
+ReadFilesAreSound = (t : FileTree) (bytes : List ℕ) (xs : List Lexeme) → length bytes ≤ max_file_bytes → WfFile t → Lexed bytes xs → lexeme_toks 1 xs ≡ words t → IsSoundFile t
 
 -- a part of numbered words is numbered
 abbrev pub PartsAreNumbered : Type 0

@@ -1,6 +1,7 @@
 -- Sound projects: what the trees that were read have in common (own; the lexemes are those of the OCaml manual,
 -- "Lexical conventions").
 use Rattle.std.specs.Prelude.{◌≡◌, ◌≢◌, ℕ, ◌+◌, ◌≤◌, List, [], ◌∷◌, ◌++◌, All, length, map, Option, Some, None}
+use Rattle.rotor_base.specs.Limits.{max_file_bytes}
 use Rattle.rotor_base.specs.declared.token.Class.{Class}
 use Rattle.ml_lexer.specs.declared.piece.Piece.TheVariants as piece
 use Rattle.ml_lexer.specs.Pieces.{piece_at}
@@ -22,7 +23,7 @@ abbrev pub IsWithinFile : Expr → Type 0
 IsWithinFile e = (at : ℕ) × (1 ≤ at) × AreNumbered at (expr_words e) × (at + length (expr_words e) ≤ 1048577)
 
 abbrev pub IsSoundFile : FileTree → Type 0
-IsSoundFile t = WfFile t × AreNumbered 1 (words t) × (length (words t) ≤ 1048576)
+IsSoundFile t = WfFile t × AreNumbered 1 (words t) × (length (words t) ≤ max_file_bytes)
 
 -- none, or a sound body
 abbrev pub IsBodyPart : Option FileTree → Type 0

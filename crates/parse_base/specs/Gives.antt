@@ -12,6 +12,7 @@ use Rattle.parse_base.specs.declared.error.ReadError.TheVariants as unread
 use Rattle.parse_base.specs.declared.error.ParseError.{ParseError}
 use Rattle.parse_base.specs.declared.error.ParseError.TheVariants as refused
 use Rattle.std.specs.declared.alloc.Global.{Global}
+use Rattle.rotor_base.specs.Limits.{max_file_bytes}
 use denote.Ref.{Bor}
 use Rattle.ml_syntax.specs.declared.pattern.Pat.{Pat as Source}
 use Rattle.ml_syntax.specs.View.{view_pat}
@@ -83,6 +84,6 @@ IsPlain _ = ⊥
 
 -- What a function value that reads patterns does, to a depth.
 pub record Nests (depth : ℕ) (pre : Global → Bor (List Token) → ℕ → ℕ → ℕ → Type 0) (post : Global → Bor (List Token) → ℕ → ℕ → ℕ → Result (Source × ℕ) ReadError → Type 0) : Type 0 where
-  pub callable : (alloc : Global) (ts : Bor (List Token)) (levels at : ℕ) → length ts.now ≤ 1048576 → pre alloc ts depth levels at
+  pub callable : (alloc : Global) (ts : Bor (List Token)) (levels at : ℕ) → length ts.now ≤ max_file_bytes → pre alloc ts depth levels at
   pub reads : (alloc : Global) (ts : Bor (List Token)) (levels at : ℕ) (r : Result (Source × ℕ) ReadError) → post alloc ts depth levels at r
       → Gives (λ x. (view_pat x.0, from ts.now x.1)) r (read_pat depth (from ts.now at))

@@ -1,5 +1,6 @@
 -- The nesting: a stack of marks over the tokens of a file, after the numbered rules (own).
 use Rattle.std.specs.Prelude.{ℕ, zero, suc, ◌+◌, ◌<◌, ◌≤◌, ◌||◌, ◌&&◌, not, Bool, true, false, if◌then◌else◌, length, List, [], ◌∷◌, Option, Some, None}
+use Rattle.rotor_base.specs.Limits.{max_nesting}
 use Rattle.rotor_base.specs.declared.token.Class.TheVariants as class
 use Rattle.rotor_base.specs.declared.token.Token.{Token}
 use Rattle.ml_syntax.specs.declared.fixed.Fixed.TheVariants as key
@@ -201,10 +202,10 @@ nesting ts n = length (marks ts n)
 -- the nth token, from 1, is the first after which the nesting is over 256
 pub record IsFirstDeep (ts : List Token) (n : ℕ) : Type 0 where
   pub there : n ≤ length ts
-  pub over : 256 < nesting ts n
-  pub first : (k : ℕ) → k < n → nesting ts k ≤ 256
+  pub over : max_nesting < nesting ts n
+  pub first : (k : ℕ) → k < n → nesting ts k ≤ max_nesting
 
 -- the first token after which the nesting is over 256, or there is no such token
 abbrev pub DeepIs : List Token → Option ℕ → Type 0
-DeepIs ts None = (k : ℕ) → k ≤ length ts → nesting ts k ≤ 256
+DeepIs ts None = (k : ℕ) → k ≤ length ts → nesting ts k ≤ max_nesting
 DeepIs ts (Some n) = IsFirstDeep ts n

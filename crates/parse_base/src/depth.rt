@@ -1,6 +1,7 @@
 //! The nesting of a file.
 
 ghost use Rattle.std.specs.Prelude.{◌≡◌, ◌≤◌, ◌∷◌, ℕ, length, take, reverse, IfOk, if◌then◌else◌};
+ghost use Rattle.rotor_base.specs.Limits.{max_file_bytes};
 ghost use Rattle.ml_syntax.specs.Tok.{fixed_at};
 ghost use Rattle.parse_base.specs.declared.depth.Role.TheVariants as variant;
 ghost use Rattle.parse_base.specs.declared.depth.Mark.TheVariants as mark;
@@ -321,7 +322,7 @@ fn step(marks: &mut Vec<Mark>, before: Role, here: Role, next: Role) -> Result<(
 /// The first token, from 1, after which the nesting is over 256, or none. The Err is want of memory alone. There are at
 /// most 1,048,576 tokens.
 pub fn scan_depth(alloc: Global, tokens: &[Token<'_>]) -> Result<Option<u32>, Memory>
-    requires { length tokens.now ≤ 1048576 }
+    requires { length tokens.now ≤ max_file_bytes }
     ensures { IfOk result (DeepIs tokens.now) }
 {
     let mut marks = Vec::new(alloc);

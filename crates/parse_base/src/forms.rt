@@ -3,6 +3,7 @@
 ghost use Rattle.std.specs.Prelude.{◌≡◌, ◌≤◌, ◌||◌, length, codes};
 ghost use Rattle.std.specs.List.{list_any};
 ghost use Rattle.std.specs.Str.{bytes_eq};
+ghost use Rattle.rotor_base.specs.Limits.{max_file_bytes};
 ghost use Rattle.parse_base.specs.Forms.{keyword_is, keyword_by, mark_is, mark_by, infix_is, infix_on, bang, alone, is_struct, is_package, is_rec_module, is_abstract_type, is_with_module, opens_module, is_named, is_named_module, is_local_module, is_open_struct, is_extension, is_binder, is_binding_operator, form_here, sign_form_here, first_form};
 
 use rotor_base::{Class, FormKind, Token};
@@ -337,7 +338,7 @@ fn sign_form_at(tokens: &[Token]) -> Option<FormKind>
 /// there; none where there is no such token (the manual's chapters of these forms, and this project's own profile).
 /// There are at most 1,048,576 tokens. It takes no memory.
 pub fn scan_forms(tokens: &[Token]) -> Option<(u32, FormKind)>
-    requires { length tokens.now ≤ 1048576 }
+    requires { length tokens.now ≤ max_file_bytes }
     ensures { result ≡ first_form 1 tokens.now }
 {
     for (at, _) in tokens.iter().enumerate() {

@@ -2,6 +2,7 @@
 
 ghost use Rattle.std.specs.Prelude.{◌≡◌, ◌≤◌, ◌<◌, ◌+◌, ◌∷◌, [], true, length, map, Some, not};
 ghost use Rattle.std.specs.Str.{bytes_eq};
+ghost use Rattle.rotor_base.specs.Limits.{max_file_bytes};
 ghost use Rattle.ml_syntax.specs.View.{view_word, view_words, view_name};
 ghost use Rattle.ml_syntax.specs.WellFormed.{is_minus, is_operator as is_operator_token};
 ghost use Rattle.parse_base.specs.Pieces.{dot_upper, more_uppers, upper_dot, qualifiers, lower_word, operator_at, value_name};
@@ -16,7 +17,7 @@ use std::alloc::Global;
 
 /// A `.` and the name of a module.
 fn dot_upper(alloc: Global, tokens: &[Token<'_>], at: usize) -> Result<(Word, usize), ReadError>
-    requires { length tokens.now ≤ 1048576 }
+    requires { length tokens.now ≤ max_file_bytes }
     ensures { Gives (λ x. (view_word x.0, from tokens.now x.1)) result (dot_upper (from tokens.now at)) }
 {
     if !is(tokens, Fixed::Dot, at) {
@@ -35,7 +36,7 @@ pub fn more_uppers(
     depth: usize,
     at: usize,
 ) -> Result<(Vec<Word>, usize), ReadError>
-    requires { length tokens.now ≤ 1048576 }
+    requires { length tokens.now ≤ max_file_bytes }
     ensures { Gives (λ x. (view_words x.0.items, from tokens.now x.1)) result (Some (more_uppers depth (from tokens.now at))) }
 {
     let mut found = Vec::new(alloc);
@@ -55,7 +56,7 @@ pub fn more_uppers(
 
 /// The name of a module and a `.`.
 fn upper_dot(alloc: Global, tokens: &[Token<'_>], at: usize) -> Result<(Word, usize), ReadError>
-    requires { length tokens.now ≤ 1048576 }
+    requires { length tokens.now ≤ max_file_bytes }
     ensures { Gives (λ x. (view_word x.0, from tokens.now x.1)) result (upper_dot (from tokens.now at)) }
 {
     match kind_at(tokens, at) {
@@ -76,7 +77,7 @@ pub fn qualifiers(
     depth: usize,
     at: usize,
 ) -> Result<(Vec<Word>, usize), ReadError>
-    requires { length tokens.now ≤ 1048576 }
+    requires { length tokens.now ≤ max_file_bytes }
     ensures { Gives (λ x. (view_words x.0.items, from tokens.now x.1)) result (Some (qualifiers depth (from tokens.now at))) }
 {
     let mut found = Vec::new(alloc);
@@ -100,7 +101,7 @@ pub fn lower_word(
     tokens: &[Token<'_>],
     at: usize,
 ) -> Result<(Word, usize), ReadError>
-    requires { length tokens.now ≤ 1048576 }
+    requires { length tokens.now ≤ max_file_bytes }
     ensures { Gives (λ x. (view_word x.0, from tokens.now x.1)) result (lower_word (from tokens.now at)) }
 {
     match kind_at(tokens, at) {
@@ -153,7 +154,7 @@ pub fn operator(
     at: usize,
 ) -> Result<(ValueName, usize), ReadError>
     requires within { at < length tokens.now }
-    requires few { length tokens.now ≤ 1048576 }
+    requires few { length tokens.now ≤ max_file_bytes }
     ensures { Gives (λ x. (view_name x.0, from tokens.now x.1)) result (operator_at (at + 1) (from tokens.now (at + 1))) }
 {
     if !is_operator(tokens, at + 1) {
@@ -179,7 +180,7 @@ pub fn value_name(
     tokens: &[Token<'_>],
     at: usize,
 ) -> Result<(ValueName, usize), ReadError>
-    requires { length tokens.now ≤ 1048576 }
+    requires { length tokens.now ≤ max_file_bytes }
     ensures { Gives (λ x. (view_name x.0, from tokens.now x.1)) result (value_name (from tokens.now at)) }
 {
     match kind_at(tokens, at) {

@@ -1,6 +1,7 @@
 //! The longest pattern from a token.
 
 ghost use Rattle.std.specs.Prelude.{◌≡◌, ◌≤◌, length, Err, IfOk, IfErr};
+ghost use Rattle.rotor_base.specs.Limits.{max_file_bytes};
 ghost use Rattle.ml_syntax.specs.View.{view_pat};
 ghost use Rattle.parse_base.specs.Longest.{IsLongestPat, BeginsNoPat};
 ghost use Rattle.parse_base.specs.Gives.{from, IsPlain};
@@ -24,7 +25,7 @@ pub fn parse_pat(
     start: usize,
 ) -> Result<(Pat, usize), ParseError>
     requires within { start ≤ length tokens.now }
-    requires few { length tokens.now ≤ 1048576 }
+    requires few { length tokens.now ≤ max_file_bytes }
     // It has these words, no longer one begins there, and no other of its length does.
     ensures found { IfOk result (λ x. IsLongestPat (from tokens.now start) (view_pat x.0) (from tokens.now x.1)) }
     ensures end { IfOk result (λ x. x.1 ≤ length tokens.now) }

@@ -8,6 +8,7 @@
 //! What a level of nesting does not go through is kept out of line, so that the stack of a level stays small.
 
 ghost use Rattle.std.specs.Prelude.{◌≡◌, ◌≤◌, ◌<◌, ◌+◌, ◌∷◌, [], true, false, length, map, Some, None, if◌then◌else◌};
+ghost use Rattle.rotor_base.specs.Limits.{max_file_bytes};
 ghost use Rattle.ml_syntax.specs.Tree as pure;
 ghost use Rattle.ml_syntax.specs.declared.fixed.Fixed.TheVariants as key;
 ghost use Rattle.ml_syntax.specs.View.{view_word, view_words, view_path, view_name, view_names, view_run, view_type, view_pat, view_pat_field, pats, pat_fields};
@@ -46,7 +47,7 @@ impl<F: Fn(Global, &[Token<'_>], usize, usize, usize) -> Result<(Pat, usize), Re
 > {
     fn sub(&self, tokens: &[Token<'_>], at: usize) -> Result<(Pat, usize), ReadError>
         requires nests { Nests self.now.depth (F.pre self.now.sub) (F.post self.now.sub) }
-        requires few { length tokens.now ≤ 1048576 }
+        requires few { length tokens.now ≤ max_file_bytes }
         ensures { Gives (λ x. (view_pat x.0, from tokens.now x.1)) result (read_pat self.now.depth (from tokens.now at)) }
     {
         (self.sub)(self.alloc, tokens, self.depth, self.levels, at)
@@ -63,7 +64,7 @@ impl<F: Fn(Global, &[Token<'_>], usize, usize, usize) -> Result<(Pat, usize), Re
         at: usize,
     ) -> Result<(Pat, usize), ReadError>
         requires within { paren < length tokens.now }
-        requires few { length tokens.now ≤ 1048576 }
+        requires few { length tokens.now ≤ max_file_bytes }
         ensures { Gives (λ x. (view_pat x.0, from tokens.now x.1)) result (r.closed_by (paren + 1) (view_pat inner) (from tokens.now at)) }
     {
         match kind_at(tokens, at) {
@@ -94,7 +95,7 @@ impl<F: Fn(Global, &[Token<'_>], usize, usize, usize) -> Result<(Pat, usize), Re
     fn inner(&self, tokens: &[Token<'_>], at: usize) -> Result<(Pat, usize), ReadError>
         requires within { at < length tokens.now }
         requires nests { Nests self.now.depth (F.pre self.now.sub) (F.post self.now.sub) }
-        requires few { length tokens.now ≤ 1048576 }
+        requires few { length tokens.now ≤ max_file_bytes }
         ensures { Gives (λ x. (view_pat x.0, from tokens.now x.1)) result (inner_pat (read_pat self.now.depth) (at + 1) (from tokens.now (at + 1))) }
     {
         let (inner, after) = self.sub(tokens, at + 1)?;
@@ -106,7 +107,7 @@ impl<F: Fn(Global, &[Token<'_>], usize, usize, usize) -> Result<(Pat, usize), Re
     fn parenthesized(&self, tokens: &[Token<'_>], at: usize) -> Result<(Pat, usize), ReadError>
         requires within { at < length tokens.now }
         requires nests { Nests self.now.depth (F.pre self.now.sub) (F.post self.now.sub) }
-        requires few { length tokens.now ≤ 1048576 }
+        requires few { length tokens.now ≤ max_file_bytes }
         ensures { Gives (λ x. (view_pat x.0, from tokens.now x.1)) result (r.paren_pat (read_pat self.now.depth) self.now.depth (at + 1) (from tokens.now (at + 1))) }
     {
         if is(tokens, Fixed::RightParen, at + 1) {
@@ -123,7 +124,7 @@ impl<F: Fn(Global, &[Token<'_>], usize, usize, usize) -> Result<(Pat, usize), Re
     #[inline(never)]
     fn opened(&self, tokens: &[Token<'_>], at: usize) -> Result<((u32, Pat), usize), ReadError>
         requires nests { Nests self.now.depth (F.pre self.now.sub) (F.post self.now.sub) }
-        requires few { length tokens.now ≤ 1048576 }
+        requires few { length tokens.now ≤ max_file_bytes }
         ensures { Gives (λ x. (x.0.0, view_pat x.0.1, from tokens.now x.1)) result (r.opened_part (read_pat self.now.depth) self.now.depth (from tokens.now at)) }
     {
         if !is(tokens, Fixed::Dot, at) {
@@ -143,7 +144,7 @@ impl<F: Fn(Global, &[Token<'_>], usize, usize, usize) -> Result<(Pat, usize), Re
     fn upper(&self, tokens: &[Token<'_>], at: usize) -> Result<(Pat, usize), ReadError>
         requires within { at < length tokens.now }
         requires nests { Nests self.now.depth (F.pre self.now.sub) (F.post self.now.sub) }
-        requires few { length tokens.now ≤ 1048576 }
+        requires few { length tokens.now ≤ max_file_bytes }
         ensures { Gives (λ x. (view_pat x.0, from tokens.now x.1)) result (r.upper_pat (read_pat self.now.depth) self.now.depth (name_at tokens.now at) (from tokens.now (at + 1))) }
     {
         let (path, at) = self.path(tokens, at)?;
@@ -165,7 +166,7 @@ impl<F: Fn(Global, &[Token<'_>], usize, usize, usize) -> Result<(Pat, usize), Re
     #[inline(never)]
     fn path(&self, tokens: &[Token<'_>], at: usize) -> Result<(Path, usize), ReadError>
         requires within { at < length tokens.now }
-        requires few { length tokens.now ≤ 1048576 }
+        requires few { length tokens.now ≤ max_file_bytes }
         ensures { Gives (λ x. (view_path x.0, from tokens.now x.1)) result (Some (path_from (name_at tokens.now at) self.now.depth (from tokens.now (at + 1)))) }
     {
         let first = word(self.alloc, tokens, Class::Upper, at)?;
@@ -177,7 +178,7 @@ impl<F: Fn(Global, &[Token<'_>], usize, usize, usize) -> Result<(Pat, usize), Re
     /// The next item of a list, behind its `;`.
     fn next_item(&self, tokens: &[Token<'_>], at: usize) -> Result<(Pat, usize), ReadError>
         requires nests { Nests self.now.depth (F.pre self.now.sub) (F.post self.now.sub) }
-        requires few { length tokens.now ≤ 1048576 }
+        requires few { length tokens.now ≤ max_file_bytes }
         ensures { Gives (λ x. (view_pat x.0, from tokens.now x.1)) result (r.next_pat (read_pat self.now.depth) self.now.depth key.Semicolon (read_pat self.now.depth) (from tokens.now at)) }
     {
         let at = expect(tokens, Fixed::Semicolon, at)?;
@@ -188,7 +189,7 @@ impl<F: Fn(Global, &[Token<'_>], usize, usize, usize) -> Result<(Pat, usize), Re
     #[inline(never)]
     fn more_items(&self, tokens: &[Token<'_>], at: usize) -> Result<(Vec<Pat>, usize), ReadError>
         requires nests { Nests self.now.depth (F.pre self.now.sub) (F.post self.now.sub) }
-        requires few { length tokens.now ≤ 1048576 }
+        requires few { length tokens.now ≤ max_file_bytes }
         ensures { Gives (λ x. (pats x.0.items, from tokens.now x.1)) result (Some (many pure.no_pat pure.more_pat always (r.next_pat (read_pat self.now.depth) self.now.depth key.Semicolon (read_pat self.now.depth)) self.now.depth (from tokens.now at))) }
     {
         let mut found = Vec::new(self.alloc);
@@ -217,7 +218,7 @@ impl<F: Fn(Global, &[Token<'_>], usize, usize, usize) -> Result<(Pat, usize), Re
     ) -> Result<(Pat, usize), ReadError>
         requires within { at < length tokens.now }
         requires nests { Nests self.now.depth (F.pre self.now.sub) (F.post self.now.sub) }
-        requires few { length tokens.now ≤ 1048576 }
+        requires few { length tokens.now ≤ max_file_bytes }
         ensures { Gives (λ x. (view_pat x.0, from tokens.now x.1)) result (r.bracket_pat (read_pat self.now.depth) self.now.depth (at + 1) bracket (from tokens.now (at + 1))) }
     {
         let close = closing(bracket);
@@ -251,7 +252,7 @@ impl<F: Fn(Global, &[Token<'_>], usize, usize, usize) -> Result<(Pat, usize), Re
     #[inline(never)]
     fn equals(&self, tokens: &[Token<'_>], at: usize) -> Result<((u32, Pat), usize), ReadError>
         requires nests { Nests self.now.depth (F.pre self.now.sub) (F.post self.now.sub) }
-        requires few { length tokens.now ≤ 1048576 }
+        requires few { length tokens.now ≤ max_file_bytes }
         ensures { Gives (λ x. (x.0.0, view_pat x.0.1, from tokens.now x.1)) result (r.equals_part (read_pat self.now.depth) self.now.depth (from tokens.now at)) }
     {
         let (equals, at) = expect_at(tokens, Fixed::Equals, at)?;
@@ -264,7 +265,7 @@ impl<F: Fn(Global, &[Token<'_>], usize, usize, usize) -> Result<(Pat, usize), Re
     #[inline(never)]
     fn field(&self, tokens: &[Token<'_>], at: usize) -> Result<(PatField, usize), ReadError>
         requires nests { Nests self.now.depth (F.pre self.now.sub) (F.post self.now.sub) }
-        requires few { length tokens.now ≤ 1048576 }
+        requires few { length tokens.now ≤ max_file_bytes }
         ensures { Gives (λ x. (view_pat_field x.0, from tokens.now x.1)) result (r.field_pat (read_pat self.now.depth) self.now.depth (from tokens.now at)) }
     {
         let (path, at) = qualifiers(self.alloc, tokens, self.depth, at)?;
@@ -289,7 +290,7 @@ impl<F: Fn(Global, &[Token<'_>], usize, usize, usize) -> Result<(Pat, usize), Re
     /// The next field, behind its `;`.
     fn next_field(&self, tokens: &[Token<'_>], at: usize) -> Result<(PatField, usize), ReadError>
         requires nests { Nests self.now.depth (F.pre self.now.sub) (F.post self.now.sub) }
-        requires few { length tokens.now ≤ 1048576 }
+        requires few { length tokens.now ≤ max_file_bytes }
         ensures { Gives (λ x. (view_pat_field x.0, from tokens.now x.1)) result (r.next_field (read_pat self.now.depth) self.now.depth (from tokens.now at)) }
     {
         let at = expect(tokens, Fixed::Semicolon, at)?;
@@ -304,7 +305,7 @@ impl<F: Fn(Global, &[Token<'_>], usize, usize, usize) -> Result<(Pat, usize), Re
         at: usize,
     ) -> Result<(Vec<PatField>, usize), ReadError>
         requires nests { Nests self.now.depth (F.pre self.now.sub) (F.post self.now.sub) }
-        requires few { length tokens.now ≤ 1048576 }
+        requires few { length tokens.now ≤ max_file_bytes }
         ensures { Gives (λ x. (pat_fields x.0.items, from tokens.now x.1)) result (Some (many pure.no_pat_field pure.more_pat_field always (r.next_field (read_pat self.now.depth) self.now.depth) self.now.depth (from tokens.now at))) }
     {
         let mut found = Vec::new(self.alloc);
@@ -328,7 +329,7 @@ impl<F: Fn(Global, &[Token<'_>], usize, usize, usize) -> Result<(Pat, usize), Re
     fn record(&self, tokens: &[Token<'_>], at: usize) -> Result<(Pat, usize), ReadError>
         requires within { at < length tokens.now }
         requires nests { Nests self.now.depth (F.pre self.now.sub) (F.post self.now.sub) }
-        requires few { length tokens.now ≤ 1048576 }
+        requires few { length tokens.now ≤ max_file_bytes }
         ensures { Gives (λ x. (view_pat x.0, from tokens.now x.1)) result (r.brace_pat (read_pat self.now.depth) self.now.depth (at + 1) (from tokens.now (at + 1))) }
     {
         let (first, after) = self.field(tokens, at + 1)?;
@@ -354,7 +355,7 @@ impl<F: Fn(Global, &[Token<'_>], usize, usize, usize) -> Result<(Pat, usize), Re
     #[inline(never)]
     fn negative(&self, tokens: &[Token<'_>], at: usize) -> Result<(Pat, usize), ReadError>
         requires within { at < length tokens.now }
-        requires few { length tokens.now ≤ 1048576 }
+        requires few { length tokens.now ≤ max_file_bytes }
         ensures { Gives (λ x. (view_pat x.0, from tokens.now x.1)) result (if is_minus (text_at tokens.now at) then r.negative (name_at tokens.now at) (from tokens.now (at + 1)) else None) }
     {
         if !is_minus(text(tokens, at)) {
@@ -378,7 +379,7 @@ impl<F: Fn(Global, &[Token<'_>], usize, usize, usize) -> Result<(Pat, usize), Re
     #[inline(never)]
     fn character(&self, tokens: &[Token<'_>], at: usize) -> Result<(Pat, usize), ReadError>
         requires within { at < length tokens.now }
-        requires few { length tokens.now ≤ 1048576 }
+        requires few { length tokens.now ≤ max_file_bytes }
         ensures { Gives (λ x. (view_pat x.0, from tokens.now x.1)) result (Some (r.range_or (name_at tokens.now at) (from tokens.now (at + 1)))) }
     {
         let low = word(self.alloc, tokens, Class::Char, at)?;
@@ -399,7 +400,7 @@ impl<F: Fn(Global, &[Token<'_>], usize, usize, usize) -> Result<(Pat, usize), Re
     #[inline(never)]
     fn free(&self, tokens: &[Token<'_>], class: Class, at: usize) -> Result<(Pat, usize), ReadError>
         requires within { at < length tokens.now }
-        requires few { length tokens.now ≤ 1048576 }
+        requires few { length tokens.now ≤ max_file_bytes }
         ensures { Gives (λ x. (view_pat x.0, from tokens.now x.1)) result (r.free_pat class (name_at tokens.now at) (from tokens.now (at + 1))) }
     {
         match class {
@@ -423,7 +424,7 @@ impl<F: Fn(Global, &[Token<'_>], usize, usize, usize) -> Result<(Pat, usize), Re
     #[tactic(auto, unfolding(crate::specs::PatReading::simple_pat), using(ml_syntax::proofs::Variants::pat_views))]
     pub fn simple(&self, tokens: &[Token<'_>], at: usize) -> Result<(Pat, usize), ReadError>
         requires nests { Nests self.now.depth (F.pre self.now.sub) (F.post self.now.sub) }
-        requires few { length tokens.now ≤ 1048576 }
+        requires few { length tokens.now ≤ max_file_bytes }
         ensures { Gives (λ x. (view_pat x.0, from tokens.now x.1)) result (r.simple_pat (read_pat self.now.depth) self.now.depth (from tokens.now at)) }
     {
         match kind_at(tokens, at) {
@@ -462,7 +463,7 @@ impl<F: Fn(Global, &[Token<'_>], usize, usize, usize) -> Result<(Pat, usize), Re
         at: usize,
     ) -> Result<(Pat, usize), ReadError>
         requires nests { Nests self.now.depth (F.pre self.now.sub) (F.post self.now.sub) }
-        requires few { length tokens.now ≤ 1048576 }
+        requires few { length tokens.now ≤ max_file_bytes }
         ensures { Gives (λ x. (view_pat x.0, from tokens.now x.1)) result (Some (r.applied_to (view_pat head) (from tokens.now at) (if r.can_apply (view_pat head) then r.simple_pat (read_pat self.now.depth) self.now.depth (from tokens.now at) else None))) }
     {
         let mut head = head;
@@ -493,7 +494,7 @@ impl<F: Fn(Global, &[Token<'_>], usize, usize, usize) -> Result<(Pat, usize), Re
     #[tactic(auto, unfolding(crate::specs::PatReading::plain_pat), using(ml_syntax::proofs::Variants::pat_views))]
     fn plain(&self, tokens: &[Token<'_>], at: usize) -> Result<(Pat, usize), ReadError>
         requires nests { Nests self.now.depth (F.pre self.now.sub) (F.post self.now.sub) }
-        requires few { length tokens.now ≤ 1048576 }
+        requires few { length tokens.now ≤ max_file_bytes }
         ensures { Gives (λ x. (view_pat x.0, from tokens.now x.1)) result (r.plain_pat (read_pat self.now.depth) self.now.depth (from tokens.now at)) }
     {
         match kind_at(tokens, at) {
@@ -519,7 +520,7 @@ impl<F: Fn(Global, &[Token<'_>], usize, usize, usize) -> Result<(Pat, usize), Re
     #[tactic(auto, unfolding(crate::specs::PatReading::applied_pat), using(ml_syntax::proofs::Variants::pat_views))]
     fn applied(&self, tokens: &[Token<'_>], at: usize) -> Result<(Pat, usize), ReadError>
         requires nests { Nests self.now.depth (F.pre self.now.sub) (F.post self.now.sub) }
-        requires few { length tokens.now ≤ 1048576 }
+        requires few { length tokens.now ≤ max_file_bytes }
         ensures { Gives (λ x. (view_pat x.0, from tokens.now x.1)) result (r.applied_pat (read_pat self.now.depth) self.now.depth (from tokens.now at)) }
     {
         match kind_at(tokens, at) {
@@ -541,7 +542,7 @@ impl<F: Fn(Global, &[Token<'_>], usize, usize, usize) -> Result<(Pat, usize), Re
     /// The next part, behind its `::`.
     fn next_applied(&self, tokens: &[Token<'_>], at: usize) -> Result<(Pat, usize), ReadError>
         requires nests { Nests self.now.depth (F.pre self.now.sub) (F.post self.now.sub) }
-        requires few { length tokens.now ≤ 1048576 }
+        requires few { length tokens.now ≤ max_file_bytes }
         ensures { Gives (λ x. (view_pat x.0, from tokens.now x.1)) result (r.next_pat (read_pat self.now.depth) self.now.depth key.ColonColon (r.applied_pat (read_pat self.now.depth) self.now.depth) (from tokens.now at)) }
     {
         let at = expect(tokens, Fixed::ColonColon, at)?;
@@ -552,7 +553,7 @@ impl<F: Fn(Global, &[Token<'_>], usize, usize, usize) -> Result<(Pat, usize), Re
     #[inline(never)]
     fn more_applied(&self, tokens: &[Token<'_>], at: usize) -> Result<(Vec<Pat>, usize), ReadError>
         requires nests { Nests self.now.depth (F.pre self.now.sub) (F.post self.now.sub) }
-        requires few { length tokens.now ≤ 1048576 }
+        requires few { length tokens.now ≤ max_file_bytes }
         ensures { Gives (λ x. (pats x.0.items, from tokens.now x.1)) result (Some (many pure.no_pat pure.more_pat always (r.next_pat (read_pat self.now.depth) self.now.depth key.ColonColon (r.applied_pat (read_pat self.now.depth) self.now.depth)) self.now.depth (from tokens.now at))) }
     {
         let mut found = Vec::new(self.alloc);
@@ -574,7 +575,7 @@ impl<F: Fn(Global, &[Token<'_>], usize, usize, usize) -> Result<(Pat, usize), Re
     #[tactic(auto, unfolding(crate::specs::PatReading::cons_pat))]
     fn cons(&self, tokens: &[Token<'_>], at: usize) -> Result<(Pat, usize), ReadError>
         requires nests { Nests self.now.depth (F.pre self.now.sub) (F.post self.now.sub) }
-        requires few { length tokens.now ≤ 1048576 }
+        requires few { length tokens.now ≤ max_file_bytes }
         ensures { Gives (λ x. (view_pat x.0, from tokens.now x.1)) result (r.cons_pat (read_pat self.now.depth) self.now.depth (from tokens.now at)) }
     {
         let (first, at) = self.applied(tokens, at)?;
@@ -585,7 +586,7 @@ impl<F: Fn(Global, &[Token<'_>], usize, usize, usize) -> Result<(Pat, usize), Re
     /// The next part, behind its `,`.
     fn next_cons(&self, tokens: &[Token<'_>], at: usize) -> Result<(Pat, usize), ReadError>
         requires nests { Nests self.now.depth (F.pre self.now.sub) (F.post self.now.sub) }
-        requires few { length tokens.now ≤ 1048576 }
+        requires few { length tokens.now ≤ max_file_bytes }
         ensures { Gives (λ x. (view_pat x.0, from tokens.now x.1)) result (r.next_pat (read_pat self.now.depth) self.now.depth key.Comma (r.cons_pat (read_pat self.now.depth) self.now.depth) (from tokens.now at)) }
     {
         let at = expect(tokens, Fixed::Comma, at)?;
@@ -596,7 +597,7 @@ impl<F: Fn(Global, &[Token<'_>], usize, usize, usize) -> Result<(Pat, usize), Re
     #[inline(never)]
     fn more_cons(&self, tokens: &[Token<'_>], at: usize) -> Result<(Vec<Pat>, usize), ReadError>
         requires nests { Nests self.now.depth (F.pre self.now.sub) (F.post self.now.sub) }
-        requires few { length tokens.now ≤ 1048576 }
+        requires few { length tokens.now ≤ max_file_bytes }
         ensures { Gives (λ x. (pats x.0.items, from tokens.now x.1)) result (Some (many pure.no_pat pure.more_pat always (r.next_pat (read_pat self.now.depth) self.now.depth key.Comma (r.cons_pat (read_pat self.now.depth) self.now.depth)) self.now.depth (from tokens.now at))) }
     {
         let mut found = Vec::new(self.alloc);
@@ -618,7 +619,7 @@ impl<F: Fn(Global, &[Token<'_>], usize, usize, usize) -> Result<(Pat, usize), Re
     #[tactic(auto, unfolding(crate::specs::PatReading::tuple_pat))]
     fn tuple(&self, tokens: &[Token<'_>], at: usize) -> Result<(Pat, usize), ReadError>
         requires nests { Nests self.now.depth (F.pre self.now.sub) (F.post self.now.sub) }
-        requires few { length tokens.now ≤ 1048576 }
+        requires few { length tokens.now ≤ max_file_bytes }
         ensures { Gives (λ x. (view_pat x.0, from tokens.now x.1)) result (r.tuple_pat (read_pat self.now.depth) self.now.depth (from tokens.now at)) }
     {
         let (first, at) = self.cons(tokens, at)?;
@@ -629,7 +630,7 @@ impl<F: Fn(Global, &[Token<'_>], usize, usize, usize) -> Result<(Pat, usize), Re
     /// The next part, behind its `|`.
     fn next_tuple(&self, tokens: &[Token<'_>], at: usize) -> Result<(Pat, usize), ReadError>
         requires nests { Nests self.now.depth (F.pre self.now.sub) (F.post self.now.sub) }
-        requires few { length tokens.now ≤ 1048576 }
+        requires few { length tokens.now ≤ max_file_bytes }
         ensures { Gives (λ x. (view_pat x.0, from tokens.now x.1)) result (r.next_pat (read_pat self.now.depth) self.now.depth key.Bar (r.tuple_pat (read_pat self.now.depth) self.now.depth) (from tokens.now at)) }
     {
         let at = expect(tokens, Fixed::Bar, at)?;
@@ -640,7 +641,7 @@ impl<F: Fn(Global, &[Token<'_>], usize, usize, usize) -> Result<(Pat, usize), Re
     #[inline(never)]
     fn more_tuples(&self, tokens: &[Token<'_>], at: usize) -> Result<(Vec<Pat>, usize), ReadError>
         requires nests { Nests self.now.depth (F.pre self.now.sub) (F.post self.now.sub) }
-        requires few { length tokens.now ≤ 1048576 }
+        requires few { length tokens.now ≤ max_file_bytes }
         ensures { Gives (λ x. (pats x.0.items, from tokens.now x.1)) result (Some (many pure.no_pat pure.more_pat always (r.next_pat (read_pat self.now.depth) self.now.depth key.Bar (r.tuple_pat (read_pat self.now.depth) self.now.depth)) self.now.depth (from tokens.now at))) }
     {
         let mut found = Vec::new(self.alloc);
@@ -662,7 +663,7 @@ impl<F: Fn(Global, &[Token<'_>], usize, usize, usize) -> Result<(Pat, usize), Re
     #[tactic(auto, unfolding(crate::specs::PatReading::or_pat))]
     fn or(&self, tokens: &[Token<'_>], at: usize) -> Result<(Pat, usize), ReadError>
         requires nests { Nests self.now.depth (F.pre self.now.sub) (F.post self.now.sub) }
-        requires few { length tokens.now ≤ 1048576 }
+        requires few { length tokens.now ≤ max_file_bytes }
         ensures { Gives (λ x. (view_pat x.0, from tokens.now x.1)) result (r.or_pat (read_pat self.now.depth) self.now.depth (from tokens.now at)) }
     {
         let (first, at) = self.tuple(tokens, at)?;
@@ -672,7 +673,7 @@ impl<F: Fn(Global, &[Token<'_>], usize, usize, usize) -> Result<(Pat, usize), Re
 
     /// The next name, behind its `as`.
     fn next_name(&self, tokens: &[Token<'_>], at: usize) -> Result<(ValueName, usize), ReadError>
-        requires few { length tokens.now ≤ 1048576 }
+        requires few { length tokens.now ≤ max_file_bytes }
         ensures { Gives (λ x. (view_name x.0, from tokens.now x.1)) result (r.as_name (read_pat self.now.depth) self.now.depth (from tokens.now at)) }
     {
         let at = expect(tokens, Fixed::As, at)?;
@@ -687,7 +688,7 @@ impl<F: Fn(Global, &[Token<'_>], usize, usize, usize) -> Result<(Pat, usize), Re
         at: usize,
     ) -> Result<(Vec<ValueName>, usize), ReadError>
         requires nests { Nests self.now.depth (F.pre self.now.sub) (F.post self.now.sub) }
-        requires few { length tokens.now ≤ 1048576 }
+        requires few { length tokens.now ≤ max_file_bytes }
         ensures { Gives (λ x. (view_names x.0.items, from tokens.now x.1)) result (Some (many [] ◌∷◌ always (r.as_name (read_pat self.now.depth) self.now.depth) self.now.depth (from tokens.now at))) }
     {
         let mut found = Vec::new(self.alloc);
@@ -709,7 +710,7 @@ impl<F: Fn(Global, &[Token<'_>], usize, usize, usize) -> Result<(Pat, usize), Re
     #[tactic(auto, unfolding(crate::specs::PatReading::as_pat))]
     fn alias(&self, tokens: &[Token<'_>], at: usize) -> Result<(Pat, usize), ReadError>
         requires nests { Nests self.now.depth (F.pre self.now.sub) (F.post self.now.sub) }
-        requires few { length tokens.now ≤ 1048576 }
+        requires few { length tokens.now ≤ max_file_bytes }
         ensures { Gives (λ x. (view_pat x.0, from tokens.now x.1)) result (r.as_pat (read_pat self.now.depth) self.now.depth (from tokens.now at)) }
     {
         let (first, at) = self.or(tokens, at)?;
@@ -731,7 +732,7 @@ fn closing(bracket: Bracket) -> Fixed
 
 /// A last `;` that may follow, and the place after it.
 fn last_semicolon(tokens: &[Token<'_>], at: usize) -> (bool, usize)
-    requires { length tokens.now ≤ 1048576 }
+    requires { length tokens.now ≤ max_file_bytes }
     ensures { (result.0, from tokens.now result.1) ≡ r.last_semicolon (from tokens.now at) }
 {
     match kind_at(tokens, at) {
@@ -742,7 +743,7 @@ fn last_semicolon(tokens: &[Token<'_>], at: usize) -> (bool, usize)
 
 /// A `;` and a `_` that may follow: the number of the `_`, and the place after it.
 fn open_end(tokens: &[Token<'_>], at: usize) -> (Option<u32>, usize)
-    requires { length tokens.now ≤ 1048576 }
+    requires { length tokens.now ≤ max_file_bytes }
     ensures { (result.0, from tokens.now result.1) ≡ r.open_end (from tokens.now at) }
 {
     match kind_at(tokens, at) {
@@ -778,7 +779,7 @@ pub fn pattern(
     levels: usize,
     at: usize,
 ) -> Result<(Pat, usize), ReadError>
-    requires { length tokens.now ≤ 1048576 }
+    requires { length tokens.now ≤ max_file_bytes }
     ensures { Gives (λ x. (view_pat x.0, from tokens.now x.1)) result (read_pat depth (from tokens.now at)) }
 {
     if depth == 0 {
@@ -804,7 +805,7 @@ pub fn simple_pattern(
     levels: usize,
     at: usize,
 ) -> Result<(Pat, usize), ReadError>
-    requires { length tokens.now ≤ 1048576 }
+    requires { length tokens.now ≤ max_file_bytes }
     ensures { Gives (λ x. (view_pat x.0, from tokens.now x.1)) result (r.simple_pat (read_pat depth) depth (from tokens.now at)) }
 {
     let grammar = Grammar {

@@ -1,6 +1,7 @@
 //! The tokens of types and of declarations.
 
 ghost use Rattle.std.specs.Prelude.{◌≡◌, ◌≤◌, ◌<◌, ◌+◌, ◌&&◌, ◌==◌, length, take, reverse, Some, IfOk, if◌then◌else◌};
+ghost use Rattle.rotor_base.specs.Limits.{max_file_bytes};
 ghost use Rattle.ml_syntax.specs.Runs.{type_word, declaration_word, has_colon, is_optional, beside_type};
 ghost use Rattle.ml_syntax.specs.View.{view_run, view_type};
 ghost use Rattle.parse_base.specs.Pieces.{type_run as read_type, declaration_run as read_declaration, optional_type as read_optional_type};
@@ -261,7 +262,7 @@ fn run_length(
     run: RunKind,
     at: usize,
 ) -> Result<usize, ReadError>
-    requires { length tokens.now ≤ 1048576 }
+    requires { length tokens.now ≤ max_file_bytes }
     ensures value { Gives (λ n. n) result (run_length run (from tokens.now at)) }
     ensures within { IfOk result (λ n. at + n ≤ length tokens.now) }
 {
@@ -285,7 +286,7 @@ fn run_length(
 /// The tokens of a run, so many from a place.
 fn words(alloc: Global, tokens: &[Token<'_>], count: usize, at: usize) -> Result<Run, Memory>
     requires within { at + count ≤ length tokens.now }
-    requires few { length tokens.now ≤ 1048576 }
+    requires few { length tokens.now ≤ max_file_bytes }
     ensures { IfOk result (λ run. view_run run ≡ take count (from tokens.now at)) }
 {
     let mut words = Vec::new(alloc);
@@ -298,7 +299,7 @@ fn words(alloc: Global, tokens: &[Token<'_>], count: usize, at: usize) -> Result
 /// The longest type from a place.
 #[inline(never)]
 pub fn type_run(alloc: Global, tokens: &[Token<'_>], at: usize) -> Result<(Run, usize), ReadError>
-    requires { length tokens.now ≤ 1048576 }
+    requires { length tokens.now ≤ max_file_bytes }
     ensures { Gives (λ x. (view_run x.0, from tokens.now x.1)) result (read_type (from tokens.now at)) }
 {
     match run_length(alloc, tokens, RunKind::Type, at) {
@@ -314,7 +315,7 @@ pub fn declaration_run(
     tokens: &[Token<'_>],
     at: usize,
 ) -> Result<(Run, usize), ReadError>
-    requires { length tokens.now ≤ 1048576 }
+    requires { length tokens.now ≤ max_file_bytes }
     ensures { Gives (λ x. (view_run x.0, from tokens.now x.1)) result (read_declaration (from tokens.now at)) }
 {
     match run_length(alloc, tokens, RunKind::Declaration, at) {
@@ -331,7 +332,7 @@ pub fn optional_type(
     tokens: &[Token<'_>],
     at: usize,
 ) -> Result<(Option<Run>, usize), ReadError>
-    requires { length tokens.now ≤ 1048576 }
+    requires { length tokens.now ≤ max_file_bytes }
     ensures { Gives (λ x. (view_type x.0, from tokens.now x.1)) result (Some (read_optional_type (from tokens.now at))) }
 {
     match kind_at(tokens, at) {

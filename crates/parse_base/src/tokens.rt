@@ -1,6 +1,7 @@
 //! The token at a place. Places are counted from 0, tokens from 1.
 
 ghost use Rattle.std.specs.Prelude.{◌≡◌, ◌≤◌, ◌<◌, ◌+◌, ◌∷◌, true, false, length, IfOk};
+ghost use Rattle.rotor_base.specs.Limits.{max_file_bytes};
 ghost use Rattle.ml_syntax.specs.Tok.{fixed_at, is_placed, fixed_of, same};
 ghost use Rattle.ml_syntax.specs.View.{view_word, view_tok};
 ghost use Rattle.parse_base.specs.Steps.{expect as read_expect, expect_at as read_expect_at};
@@ -64,7 +65,7 @@ pub fn text<'a>(tokens: &[Token<'a>], at: usize) -> &'a [u8]
 
 /// The number of the token at a place.
 pub fn number(at: usize) -> u32
-    requires { at < 1048576 }
+    requires { at < max_file_bytes }
     ensures { result ≡ at + 1 }
 {
     at as u32 + 1
@@ -73,7 +74,7 @@ pub fn number(at: usize) -> u32
 /// The token at a place, as a word of a class.
 pub fn word(alloc: Global, tokens: &[Token<'_>], class: Class, at: usize) -> Result<Word, Memory>
     requires within { at < length tokens.now }
-    requires few { length tokens.now ≤ 1048576 }
+    requires few { length tokens.now ≤ max_file_bytes }
     ensures name { IfOk result (λ w. view_word w ≡ name_at tokens.now at) }
     ensures class { IfOk result (λ w. w.class ≡ class) }
 {
@@ -87,7 +88,7 @@ pub fn word(alloc: Global, tokens: &[Token<'_>], class: Class, at: usize) -> Res
 /// The token at a place, as a word that stands for itself: an operator, or a word of a run.
 pub fn token_word(alloc: Global, tokens: &[Token<'_>], at: usize) -> Result<Word, Memory>
     requires within { at < length tokens.now }
-    requires few { length tokens.now ≤ 1048576 }
+    requires few { length tokens.now ≤ max_file_bytes }
     ensures { IfOk result (λ w. from tokens.now at ≡ view_tok w ∷ from tokens.now (at + 1)) }
 {
     let token = tokens[at];
@@ -120,7 +121,7 @@ pub fn is(tokens: &[Token<'_>], fixed: Fixed, at: usize) -> bool
 /// The place after this fixed word, whose token no tree keeps.
 pub fn expect(tokens: &[Token<'_>], fixed: Fixed, at: usize) -> Result<usize, ReadError>
     requires plain { is_placed fixed ≡ false }
-    requires few { length tokens.now ≤ 1048576 }
+    requires few { length tokens.now ≤ max_file_bytes }
     ensures { Gives (λ next. from tokens.now next) result (read_expect fixed (from tokens.now at)) }
 {
     if is(tokens, fixed, at) {
@@ -132,7 +133,7 @@ pub fn expect(tokens: &[Token<'_>], fixed: Fixed, at: usize) -> Result<usize, Re
 /// The number of this fixed word, whose token trees keep, and the place after it.
 pub fn expect_at(tokens: &[Token<'_>], fixed: Fixed, at: usize) -> Result<(u32, usize), ReadError>
     requires placed { is_placed fixed ≡ true }
-    requires few { length tokens.now ≤ 1048576 }
+    requires few { length tokens.now ≤ max_file_bytes }
     ensures { Gives (λ x. (x.0, from tokens.now x.1)) result (read_expect_at fixed (from tokens.now at)) }
 {
     if is(tokens, fixed, at) {

@@ -1,6 +1,7 @@
 //! Applications, and parts behind a `.`.
 
 ghost use Rattle.std.specs.Prelude.{◌≤◌, ◌<◌, ◌+◌, length, Some};
+ghost use Rattle.rotor_base.specs.Limits.{max_file_bytes};
 ghost use Rattle.ml_syntax.specs.Tree as pure;
 ghost use Rattle.ml_syntax.specs.View.{view, view_argument, view_part, arguments, parts};
 ghost use Rattle.parse_base.specs.Steps.{many, always};
@@ -38,7 +39,7 @@ impl<
     #[inline(never)]
     fn part_after(&self, tokens: &[Token<'_>], at: usize) -> Result<(Box<Part>, usize), ReadError>
         requires nests { Nests self.now.grammar.depth (F.pre self.now.grammar.sub) (F.post self.now.grammar.sub) }
-        requires few { length tokens.now ≤ 1048576 }
+        requires few { length tokens.now ≤ max_file_bytes }
         ensures { Gives (λ x. (view_part x.0.value, from tokens.now x.1)) result (part_after self.now.grammar.depth (from tokens.now at)) }
     {
         match kind_at(tokens, at) {
@@ -72,7 +73,7 @@ impl<
         at: usize,
     ) -> Result<(Box<Part>, usize), ReadError>
         requires nests { Nests self.now.grammar.depth (F.pre self.now.grammar.sub) (F.post self.now.grammar.sub) }
-        requires few { length tokens.now ≤ 1048576 }
+        requires few { length tokens.now ≤ max_file_bytes }
         ensures { Gives (λ x. (view_part x.0.value, from tokens.now x.1)) result (r.part_behind (read_expr self.now.grammar.depth) self.now.grammar.depth (from tokens.now at)) }
     {
         let at = expect(tokens, Fixed::Dot, at)?;
@@ -87,7 +88,7 @@ impl<
         at: usize,
     ) -> Result<(Vec<Part>, usize), ReadError>
         requires nests { Nests self.now.grammar.depth (F.pre self.now.grammar.sub) (F.post self.now.grammar.sub) }
-        requires few { length tokens.now ≤ 1048576 }
+        requires few { length tokens.now ≤ max_file_bytes }
         ensures { Gives (λ x. (parts x.0.items, from tokens.now x.1)) result (Some (many pure.no_part pure.more_part always (r.part_behind (read_expr self.now.grammar.depth) self.now.grammar.depth) self.now.grammar.depth (from tokens.now at))) }
     {
         let mut found = Vec::new(self.grammar.alloc);
@@ -114,7 +115,7 @@ impl<
         at: usize,
     ) -> Result<(Box<Expr>, usize), ReadError>
         requires nests { Nests self.now.grammar.depth (F.pre self.now.grammar.sub) (F.post self.now.grammar.sub) }
-        requires few { length tokens.now ≤ 1048576 }
+        requires few { length tokens.now ≤ max_file_bytes }
         ensures { Gives (λ x. (view x.0.value, from tokens.now x.1)) result (Some (with_parts self.now.grammar.depth (view first.value) (from tokens.now at))) }
     {
         if is_constr(&first) {
@@ -133,7 +134,7 @@ impl<
         at: usize,
     ) -> Result<(Box<Expr>, usize), ReadError>
         requires nests { Nests self.now.grammar.depth (F.pre self.now.grammar.sub) (F.post self.now.grammar.sub) }
-        requires few { length tokens.now ≤ 1048576 }
+        requires few { length tokens.now ≤ max_file_bytes }
         ensures { Gives (λ x. (view x.0.value, from tokens.now x.1)) result (r.postfix (read_expr self.now.grammar.depth) self.now.grammar.depth (from tokens.now at)) }
     {
         let (first, at) = self.prefixed(tokens, at)?;
@@ -144,7 +145,7 @@ impl<
     #[inline(never)]
     fn argument_value(&self, tokens: &[Token<'_>], at: usize) -> Result<(Expr, usize), ReadError>
         requires nests { Nests self.now.grammar.depth (F.pre self.now.grammar.sub) (F.post self.now.grammar.sub) }
-        requires few { length tokens.now ≤ 1048576 }
+        requires few { length tokens.now ≤ max_file_bytes }
         ensures { Gives (λ x. (view x.0, from tokens.now x.1)) result (r.postfix (read_expr self.now.grammar.depth) self.now.grammar.depth (from tokens.now at)) }
     {
         let (value, at) = self.deeper()?.postfix(tokens, at)?;
@@ -160,7 +161,7 @@ impl<
         at: usize,
     ) -> Result<(Argument, usize), ReadError>
         requires nests { Nests self.now.grammar.depth (F.pre self.now.grammar.sub) (F.post self.now.grammar.sub) }
-        requires few { length tokens.now ≤ 1048576 }
+        requires few { length tokens.now ≤ max_file_bytes }
         ensures { Gives (λ x. (view_argument x.0, from tokens.now x.1)) result (r.argument (read_expr self.now.grammar.depth) self.now.grammar.depth (from tokens.now at)) }
     {
         match kind_at(tokens, at) {
@@ -187,7 +188,7 @@ impl<
         at: usize,
     ) -> Result<(Vec<Argument>, usize), ReadError>
         requires nests { Nests self.now.grammar.depth (F.pre self.now.grammar.sub) (F.post self.now.grammar.sub) }
-        requires few { length tokens.now ≤ 1048576 }
+        requires few { length tokens.now ≤ max_file_bytes }
         ensures { Gives (λ x. (arguments x.0.items, from tokens.now x.1)) result (Some (many pure.no_argument pure.more_argument always (r.argument (read_expr self.now.grammar.depth) self.now.grammar.depth) self.now.grammar.depth (from tokens.now at))) }
     {
         let mut found = Vec::new(self.grammar.alloc);
@@ -215,7 +216,7 @@ impl<
         at: usize,
     ) -> Result<(Box<Expr>, usize), ReadError>
         requires nests { Nests self.now.grammar.depth (F.pre self.now.grammar.sub) (F.post self.now.grammar.sub) }
-        requires few { length tokens.now ≤ 1048576 }
+        requires few { length tokens.now ≤ max_file_bytes }
         ensures { Gives (λ x. (view x.0.value, from tokens.now x.1)) result (Some (r.applied (read_expr self.now.grammar.depth) self.now.grammar.depth (view head.value) (from tokens.now at))) }
     {
         if !is_bare(&head) {
@@ -241,7 +242,7 @@ impl<
         at: usize,
     ) -> Result<(Box<Expr>, usize), ReadError>
         requires nests { Nests self.now.grammar.depth (F.pre self.now.grammar.sub) (F.post self.now.grammar.sub) }
-        requires few { length tokens.now ≤ 1048576 }
+        requires few { length tokens.now ≤ max_file_bytes }
         ensures { Gives (λ x. (view x.0.value, from tokens.now x.1)) result (r.apply (read_expr self.now.grammar.depth) self.now.grammar.depth (from tokens.now at)) }
     {
         match kind_at(tokens, at) {
@@ -259,7 +260,7 @@ impl<
     #[inline(never)]
     fn assertion(&self, tokens: &[Token<'_>], at: usize) -> Result<(Box<Expr>, usize), ReadError>
         requires nests { Nests self.now.grammar.depth (F.pre self.now.grammar.sub) (F.post self.now.grammar.sub) }
-        requires few { length tokens.now ≤ 1048576 }
+        requires few { length tokens.now ≤ max_file_bytes }
         requires within { at < length tokens.now }
         ensures { Gives (λ x. (view x.0.value, from tokens.now x.1)) result (wrapped_by (pure.Assert (at + 1)) (r.postfix (read_expr self.now.grammar.depth) self.now.grammar.depth (from tokens.now (at + 1)))) }
     {
@@ -276,7 +277,7 @@ impl<
     #[inline(never)]
     fn lazy_value(&self, tokens: &[Token<'_>], at: usize) -> Result<(Box<Expr>, usize), ReadError>
         requires nests { Nests self.now.grammar.depth (F.pre self.now.grammar.sub) (F.post self.now.grammar.sub) }
-        requires few { length tokens.now ≤ 1048576 }
+        requires few { length tokens.now ≤ max_file_bytes }
         requires within { at < length tokens.now }
         ensures { Gives (λ x. (view x.0.value, from tokens.now x.1)) result (wrapped_by (pure.Lazy (at + 1)) (r.postfix (read_expr self.now.grammar.depth) self.now.grammar.depth (from tokens.now (at + 1)))) }
     {

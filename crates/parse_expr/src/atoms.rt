@@ -2,6 +2,7 @@
 
 ghost use Rattle.ml_syntax.specs.Tok.{Tok};
 ghost use Rattle.std.specs.Prelude.{List, ◌≡◌, ◌≤◌, ◌<◌, ◌+◌, [], length, Some};
+ghost use Rattle.rotor_base.specs.Limits.{max_file_bytes};
 ghost use Rattle.ml_syntax.specs.Tree as pure;
 ghost use Rattle.ml_syntax.specs.View.{view, view_path, view_name};
 ghost use Rattle.parse_base.specs.Gives.{from, name_at, Gives};
@@ -40,7 +41,7 @@ impl<
         at: usize,
     ) -> Result<(Box<Expr>, usize), ReadError>
         requires nests { Nests self.now.grammar.depth (F.pre self.now.grammar.sub) (F.post self.now.grammar.sub) }
-        requires few { length tokens.now ≤ 1048576 }
+        requires few { length tokens.now ≤ max_file_bytes }
         ensures { Gives (λ x. (view x.0.value, from tokens.now x.1)) result (r.enclosed (read_expr self.now.grammar.depth) self.now.grammar.depth (from tokens.now at)) }
     {
         match kind_at(tokens, at) {
@@ -61,7 +62,7 @@ impl<
         at: usize,
     ) -> Result<(Box<Expr>, usize), ReadError>
         requires nests { Nests self.now.grammar.depth (F.pre self.now.grammar.sub) (F.post self.now.grammar.sub) }
-        requires few { length tokens.now ≤ 1048576 }
+        requires few { length tokens.now ≤ max_file_bytes }
         ensures { Gives (λ x. (view x.0.value, from tokens.now x.1)) result (dot_enclosed self.now.grammar.depth (from tokens.now at)) }
     {
         let at = expect(tokens, Fixed::Dot, at)?;
@@ -77,7 +78,7 @@ impl<
         at: usize,
     ) -> Result<(Box<Expr>, usize), ReadError>
         requires nests { Nests self.now.grammar.depth (F.pre self.now.grammar.sub) (F.post self.now.grammar.sub) }
-        requires few { length tokens.now ≤ 1048576 }
+        requires few { length tokens.now ≤ max_file_bytes }
         requires within { at < length tokens.now }
         ensures { Gives (λ x. (view x.0.value, from tokens.now x.1)) result (r.upper_expr (read_expr self.now.grammar.depth) self.now.grammar.depth (name_at tokens.now at) (from tokens.now (at + 1))) }
     {
@@ -98,7 +99,7 @@ impl<
         at: usize,
     ) -> Result<(Box<Expr>, usize), ReadError>
         requires nests { Nests self.now.grammar.depth (F.pre self.now.grammar.sub) (F.post self.now.grammar.sub) }
-        requires few { length tokens.now ≤ 1048576 }
+        requires few { length tokens.now ≤ max_file_bytes }
         ensures { Gives (λ x. (view x.0.value, from tokens.now x.1)) result (r.atom (read_expr self.now.grammar.depth) self.now.grammar.depth (from tokens.now at)) }
     {
         match kind_at(tokens, at) {
@@ -124,7 +125,7 @@ impl<
     #[inline(never)]
     fn operated(&self, tokens: &[Token<'_>], at: usize) -> Result<(Box<Expr>, usize), ReadError>
         requires nests { Nests self.now.grammar.depth (F.pre self.now.grammar.sub) (F.post self.now.grammar.sub) }
-        requires few { length tokens.now ≤ 1048576 }
+        requires few { length tokens.now ≤ max_file_bytes }
         requires within { at < length tokens.now }
         ensures { Gives (λ x. (view x.0.value, from tokens.now x.1)) result (wrapped_by (pure.Prefixed (name_at tokens.now at)) (read_expr self.now.grammar.depth wanted.Prefixed (from tokens.now (at + 1)))) }
     {
@@ -145,7 +146,7 @@ impl<
         at: usize,
     ) -> Result<(Box<Expr>, usize), ReadError>
         requires nests { Nests self.now.grammar.depth (F.pre self.now.grammar.sub) (F.post self.now.grammar.sub) }
-        requires few { length tokens.now ≤ 1048576 }
+        requires few { length tokens.now ≤ max_file_bytes }
         ensures { Gives (λ x. (view x.0.value, from tokens.now x.1)) result (r.prefixed (read_expr self.now.grammar.depth) self.now.grammar.depth (from tokens.now at)) }
     {
         match kind_at(tokens, at) {
@@ -165,7 +166,7 @@ fn boolean(
     at: usize,
 ) -> Result<(Box<Expr>, usize), ReadError>
     requires within { at < length tokens.now }
-    requires few { length tokens.now ≤ 1048576 }
+    requires few { length tokens.now ≤ max_file_bytes }
     ensures { Gives {A = pure.Expr × List Tok} (λ x. (view x.0.value, from tokens.now x.1)) result (Some (pure.BoolExpr (at + 1) value, from tokens.now (at + 1))) }
 {
     let after = at + 1;
@@ -183,7 +184,7 @@ fn literal(
     at: usize,
 ) -> Result<(Box<Expr>, usize), ReadError>
     requires within { at < length tokens.now }
-    requires few { length tokens.now ≤ 1048576 }
+    requires few { length tokens.now ≤ max_file_bytes }
     ensures { Gives {A = pure.Expr × List Tok} (λ x. (view x.0.value, from tokens.now x.1)) result (Some (pure.Literal class (name_at tokens.now at), from tokens.now (at + 1))) }
 {
     let literal = Expr::Literal(word(alloc, tokens, class, at)?);
@@ -195,7 +196,7 @@ fn literal(
 #[inline(never)]
 fn tag(alloc: Global, tokens: &[Token<'_>], at: usize) -> Result<(Box<Expr>, usize), ReadError>
     requires within { at < length tokens.now }
-    requires few { length tokens.now ≤ 1048576 }
+    requires few { length tokens.now ≤ max_file_bytes }
     ensures { Gives {A = pure.Expr × List Tok} (λ x. (view x.0.value, from tokens.now x.1)) result (Some (pure.Tag (name_at tokens.now at), from tokens.now (at + 1))) }
 {
     let tag = Expr::Tag(word(alloc, tokens, Class::Tag, at)?);
@@ -207,7 +208,7 @@ fn tag(alloc: Global, tokens: &[Token<'_>], at: usize) -> Result<(Box<Expr>, usi
 #[inline(never)]
 fn value(alloc: Global, tokens: &[Token<'_>], at: usize) -> Result<(Box<Expr>, usize), ReadError>
     requires within { at < length tokens.now }
-    requires few { length tokens.now ≤ 1048576 }
+    requires few { length tokens.now ≤ max_file_bytes }
     ensures { Gives {A = pure.Expr × List Tok} (λ x. (view x.0.value, from tokens.now x.1)) result (Some (pure.Value [] (pure.PlainName (name_at tokens.now at)), from tokens.now (at + 1))) }
 {
     let path = Vec::new(alloc);
@@ -226,7 +227,7 @@ fn qualified(
     inner: Box<Expr>,
     after: usize,
 ) -> Result<(Box<Expr>, usize), ReadError>
-    requires few { length tokens.now ≤ 1048576 }
+    requires few { length tokens.now ≤ max_file_bytes }
     ensures { Gives (λ x. (view x.0.value, from tokens.now x.1)) result (Some (r.opened_or (view_path path) (from tokens.now at) (r.qualified (view_path path) (view inner.value) (from tokens.now after)))) }
 {
     let mut inner = inner;

@@ -1,6 +1,7 @@
 //! Expressions in brackets, and loops.
 
 ghost use Rattle.std.specs.Prelude.{◌≤◌, ◌<◌, ◌+◌, [], true, length, Some};
+ghost use Rattle.rotor_base.specs.Limits.{max_file_bytes};
 ghost use Rattle.ml_syntax.specs.Tree as pure;
 ghost use Rattle.ml_syntax.specs.View.{view, view_name, links};
 ghost use Rattle.parse_base.specs.Steps.{many};
@@ -38,7 +39,7 @@ impl<
         at: usize,
     ) -> Result<(Expr, usize), ReadError>
         requires nests { Nests self.now.grammar.depth (F.pre self.now.grammar.sub) (F.post self.now.grammar.sub) }
-        requires few { length tokens.now ≤ 1048576 }
+        requires few { length tokens.now ≤ max_file_bytes }
         ensures { Gives (λ x. (link_of x.0, from tokens.now x.1)) result (r.semicolon_part (read_expr self.now.grammar.depth) self.now.grammar.depth (item_of self.now.grammar.depth true) (from tokens.now at)) }
     {
         let at = expect(tokens, Fixed::Semicolon, at)?;
@@ -53,7 +54,7 @@ impl<
         at: usize,
     ) -> Result<(Vec<Expr>, usize), ReadError>
         requires nests { Nests self.now.grammar.depth (F.pre self.now.grammar.sub) (F.post self.now.grammar.sub) }
-        requires few { length tokens.now ≤ 1048576 }
+        requires few { length tokens.now ≤ max_file_bytes }
         ensures { Gives (λ x. (links x.0.items, from tokens.now x.1)) result (Some (many pure.no_link r.cons_link (λ x. r.no_form x.1) (r.semicolon_part (read_expr self.now.grammar.depth) self.now.grammar.depth (item_of self.now.grammar.depth true)) self.now.grammar.depth (from tokens.now at))) }
     {
         let mut found = Vec::new(self.grammar.alloc);
@@ -84,7 +85,7 @@ impl<
         at: usize,
     ) -> Result<((Vec<Expr>, bool), usize), ReadError>
         requires nests { Nests self.now.grammar.depth (F.pre self.now.grammar.sub) (F.post self.now.grammar.sub) }
-        requires few { length tokens.now ≤ 1048576 }
+        requires few { length tokens.now ≤ max_file_bytes }
         ensures { Gives (λ x. ((links x.0.0.items, x.0.1), from tokens.now x.1)) result (Some (row_rest self.now.grammar.depth true (view first.now) (from tokens.now at))) }
     {
         if on_edge(Edge::Form, first) {
@@ -107,7 +108,7 @@ impl<
         at: usize,
     ) -> Result<(Box<Expr>, usize), ReadError>
         requires nests { Nests self.now.grammar.depth (F.pre self.now.grammar.sub) (F.post self.now.grammar.sub) }
-        requires few { length tokens.now ≤ 1048576 }
+        requires few { length tokens.now ≤ max_file_bytes }
         requires begun { start < length tokens.now }
         ensures { Gives (λ x. (view x.0.value, from tokens.now x.1)) result (r.list_expr (read_expr self.now.grammar.depth) self.now.grammar.depth (start + 1) bracket (from tokens.now at)) }
     {
@@ -139,7 +140,7 @@ impl<
         at: usize,
     ) -> Result<(Box<Expr>, usize), ReadError>
         requires nests { Nests self.now.grammar.depth (F.pre self.now.grammar.sub) (F.post self.now.grammar.sub) }
-        requires few { length tokens.now ≤ 1048576 }
+        requires few { length tokens.now ≤ max_file_bytes }
         requires within { at < length tokens.now }
         ensures { Gives (λ x. (view x.0.value, from tokens.now x.1)) result (r.bracket_expr (read_expr self.now.grammar.depth) self.now.grammar.depth (at + 1) bracket (from tokens.now (at + 1))) }
     {
@@ -166,7 +167,7 @@ impl<
         at: usize,
     ) -> Result<(Box<Expr>, usize), ReadError>
         requires nests { Nests self.now.grammar.depth (F.pre self.now.grammar.sub) (F.post self.now.grammar.sub) }
-        requires few { length tokens.now ≤ 1048576 }
+        requires few { length tokens.now ≤ max_file_bytes }
         requires within { at < length tokens.now }
         ensures { Gives (λ x. (view x.0.value, from tokens.now x.1)) result (paren_of (at + 1) (read_expr self.now.grammar.depth wanted.Sequence (from tokens.now (at + 1)))) }
     {
@@ -183,7 +184,7 @@ impl<
         at: usize,
     ) -> Result<(Box<Expr>, usize), ReadError>
         requires nests { Nests self.now.grammar.depth (F.pre self.now.grammar.sub) (F.post self.now.grammar.sub) }
-        requires few { length tokens.now ≤ 1048576 }
+        requires few { length tokens.now ≤ max_file_bytes }
         requires within { at < length tokens.now }
         ensures { Gives (λ x. (view x.0.value, from tokens.now x.1)) result (r.paren_expr (read_expr self.now.grammar.depth) self.now.grammar.depth (at + 1) (from tokens.now (at + 1))) }
     {
@@ -209,7 +210,7 @@ impl<
         at: usize,
     ) -> Result<(Box<Expr>, usize), ReadError>
         requires nests { Nests self.now.grammar.depth (F.pre self.now.grammar.sub) (F.post self.now.grammar.sub) }
-        requires few { length tokens.now ≤ 1048576 }
+        requires few { length tokens.now ≤ max_file_bytes }
         requires within { at < length tokens.now }
         ensures { Gives (λ x. (view x.0.value, from tokens.now x.1)) result (r.begin_expr (read_expr self.now.grammar.depth) self.now.grammar.depth (at + 1) (from tokens.now (at + 1))) }
     {
@@ -242,7 +243,7 @@ impl<
         at: usize,
     ) -> Result<(Box<Expr>, usize), ReadError>
         requires nests { Nests self.now.grammar.depth (F.pre self.now.grammar.sub) (F.post self.now.grammar.sub) }
-        requires few { length tokens.now ≤ 1048576 }
+        requires few { length tokens.now ≤ max_file_bytes }
         requires within { at < length tokens.now }
         ensures { Gives (λ x. (view x.0.value, from tokens.now x.1)) result (r.while_expr (read_expr self.now.grammar.depth) self.now.grammar.depth (at + 1) (from tokens.now (at + 1))) }
     {
@@ -262,7 +263,7 @@ impl<
         at: usize,
     ) -> Result<(Box<Expr>, usize), ReadError>
         requires nests { Nests self.now.grammar.depth (F.pre self.now.grammar.sub) (F.post self.now.grammar.sub) }
-        requires few { length tokens.now ≤ 1048576 }
+        requires few { length tokens.now ≤ max_file_bytes }
         requires within { at < length tokens.now }
         ensures { Gives (λ x. (view x.0.value, from tokens.now x.1)) result (r.for_expr (read_expr self.now.grammar.depth) self.now.grammar.depth (at + 1) (from tokens.now (at + 1))) }
     {

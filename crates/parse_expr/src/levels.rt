@@ -1,6 +1,7 @@
 //! The levels of expressions.
 
 ghost use Rattle.std.specs.Prelude.{◌≤◌, ◌<◌, ◌+◌, ◌-◌, false, length, Some};
+ghost use Rattle.rotor_base.specs.Limits.{max_file_bytes};
 ghost use Rattle.ml_syntax.specs.Tree as pure;
 ghost use Rattle.ml_syntax.specs.declared.fixed.Fixed.TheVariants as key;
 ghost use Rattle.ml_syntax.specs.View.{view, view_tok, links, commas, ops};
@@ -45,7 +46,7 @@ impl<
         at: usize,
     ) -> Result<(Box<Expr>, usize), ReadError>
         requires nests { Nests self.now.grammar.depth (F.pre self.now.grammar.sub) (F.post self.now.grammar.sub) }
-        requires few { length tokens.now ≤ 1048576 }
+        requires few { length tokens.now ≤ max_file_bytes }
         requires within { at < length tokens.now }
         ensures { Gives (λ x. (view x.0.value, from tokens.now x.1)) result (wrapped_by (pure.Minus (name_at tokens.now at)) (read_expr self.now.grammar.depth wanted.Operand (from tokens.now (at + 1)))) }
     {
@@ -66,7 +67,7 @@ impl<
         at: usize,
     ) -> Result<(Box<Expr>, usize), ReadError>
         requires nests { Nests self.now.grammar.depth (F.pre self.now.grammar.sub) (F.post self.now.grammar.sub) }
-        requires few { length tokens.now ≤ 1048576 }
+        requires few { length tokens.now ≤ max_file_bytes }
         ensures { Gives (λ x. (view x.0.value, from tokens.now x.1)) result (r.unary (read_expr self.now.grammar.depth) self.now.grammar.depth (from tokens.now at)) }
     {
         match kind_at(tokens, at) {
@@ -97,7 +98,7 @@ impl<
         at: usize,
     ) -> Result<((Word, Expr, bool), usize), ReadError>
         requires nests { Nests self.now.grammar.depth (F.pre self.now.grammar.sub) (F.post self.now.grammar.sub) }
-        requires few { length tokens.now ≤ 1048576 }
+        requires few { length tokens.now ≤ max_file_bytes }
         requires low { tier ≤ 9 }
         ensures { Gives (λ x. ((view_tok x.0.0, view x.0.1, x.0.2), from tokens.now x.1)) result (r.operator_part (read_expr self.now.grammar.depth) self.now.grammar.depth (12 - tier) (r.tier (read_expr self.now.grammar.depth) self.now.grammar.depth tier) (from tokens.now at)) }
     {
@@ -117,7 +118,7 @@ impl<
         at: usize,
     ) -> Result<(Vec<(Word, Expr)>, usize), ReadError>
         requires nests { Nests self.now.grammar.depth (F.pre self.now.grammar.sub) (F.post self.now.grammar.sub) }
-        requires few { length tokens.now ≤ 1048576 }
+        requires few { length tokens.now ≤ max_file_bytes }
         requires low { tier ≤ 9 }
         ensures { Gives (λ x. (ops x.0.items, from tokens.now x.1)) result (Some (many pure.no_link r.cons_operand (λ x. x.2) (r.operator_part (read_expr self.now.grammar.depth) self.now.grammar.depth (12 - tier) (r.tier (read_expr self.now.grammar.depth) self.now.grammar.depth tier)) self.now.grammar.depth (from tokens.now at))) }
     {
@@ -151,7 +152,7 @@ impl<
         at: usize,
     ) -> Result<(Box<Expr>, usize), ReadError>
         requires nests { Nests self.now.grammar.depth (F.pre self.now.grammar.sub) (F.post self.now.grammar.sub) }
-        requires few { length tokens.now ≤ 1048576 }
+        requires few { length tokens.now ≤ max_file_bytes }
         requires low { tier ≤ 9 }
         ensures { Gives (λ x. (view x.0.value, from tokens.now x.1)) result (Some (grown_tier self.now.grammar.depth tier (view first.value) (from tokens.now at))) }
     {
@@ -185,7 +186,7 @@ impl<
         at: usize,
     ) -> Result<(Box<Expr>, usize), ReadError>
         requires nests { Nests self.now.grammar.depth (F.pre self.now.grammar.sub) (F.post self.now.grammar.sub) }
-        requires few { length tokens.now ≤ 1048576 }
+        requires few { length tokens.now ≤ max_file_bytes }
         requires low { tier ≤ 10 }
         ensures { Gives (λ x. (view x.0.value, from tokens.now x.1)) result (r.tier (read_expr self.now.grammar.depth) self.now.grammar.depth tier (from tokens.now at)) }
     {
@@ -210,7 +211,7 @@ impl<
         at: usize,
     ) -> Result<((Expr, bool), usize), ReadError>
         requires nests { Nests self.now.grammar.depth (F.pre self.now.grammar.sub) (F.post self.now.grammar.sub) }
-        requires few { length tokens.now ≤ 1048576 }
+        requires few { length tokens.now ≤ max_file_bytes }
         ensures { Gives (λ x. ((fixed key.Comma, view x.0.0, x.0.1), from tokens.now x.1)) result (r.operator_part (read_expr self.now.grammar.depth) self.now.grammar.depth 4 (r.tier (read_expr self.now.grammar.depth) self.now.grammar.depth 8) (from tokens.now at)) }
     {
         match expect(tokens, Fixed::Comma, at) {
@@ -233,7 +234,7 @@ impl<
         at: usize,
     ) -> Result<(Vec<Expr>, usize), ReadError>
         requires nests { Nests self.now.grammar.depth (F.pre self.now.grammar.sub) (F.post self.now.grammar.sub) }
-        requires few { length tokens.now ≤ 1048576 }
+        requires few { length tokens.now ≤ max_file_bytes }
         ensures { Gives (λ x. (commas x.0.items, from tokens.now x.1)) result (Some (many pure.no_link r.cons_operand (λ x. x.2) (r.operator_part (read_expr self.now.grammar.depth) self.now.grammar.depth 4 (r.tier (read_expr self.now.grammar.depth) self.now.grammar.depth 8)) self.now.grammar.depth (from tokens.now at))) }
     {
         let mut found = Vec::new(self.grammar.alloc);
@@ -263,7 +264,7 @@ impl<
         at: usize,
     ) -> Result<(Box<Expr>, usize), ReadError>
         requires nests { Nests self.now.grammar.depth (F.pre self.now.grammar.sub) (F.post self.now.grammar.sub) }
-        requires few { length tokens.now ≤ 1048576 }
+        requires few { length tokens.now ≤ max_file_bytes }
         ensures { Gives (λ x. (view x.0.value, from tokens.now x.1)) result (r.expr (read_expr self.now.grammar.depth) self.now.grammar.depth (from tokens.now at)) }
     {
         self.tier(tokens, 10, at)
@@ -277,7 +278,7 @@ impl<
         at: usize,
     ) -> Result<(Expr, usize), ReadError>
         requires nests { Nests self.now.grammar.depth (F.pre self.now.grammar.sub) (F.post self.now.grammar.sub) }
-        requires few { length tokens.now ≤ 1048576 }
+        requires few { length tokens.now ≤ max_file_bytes }
         ensures { Gives (λ x. (link_of x.0, from tokens.now x.1)) result (r.semicolon_part (read_expr self.now.grammar.depth) self.now.grammar.depth (item_of self.now.grammar.depth false) (from tokens.now at)) }
     {
         let at = expect(tokens, Fixed::Semicolon, at)?;
@@ -293,7 +294,7 @@ impl<
         at: usize,
     ) -> Result<(Vec<Expr>, usize), ReadError>
         requires nests { Nests self.now.grammar.depth (F.pre self.now.grammar.sub) (F.post self.now.grammar.sub) }
-        requires few { length tokens.now ≤ 1048576 }
+        requires few { length tokens.now ≤ max_file_bytes }
         ensures { Gives (λ x. (links x.0.items, from tokens.now x.1)) result (Some (many pure.no_link r.cons_link (λ x. r.no_form x.1) (r.semicolon_part (read_expr self.now.grammar.depth) self.now.grammar.depth (item_of self.now.grammar.depth false)) self.now.grammar.depth (from tokens.now at))) }
     {
         let mut found = Vec::new(self.grammar.alloc);
@@ -324,7 +325,7 @@ impl<
         at: usize,
     ) -> Result<((Vec<Expr>, bool), usize), ReadError>
         requires nests { Nests self.now.grammar.depth (F.pre self.now.grammar.sub) (F.post self.now.grammar.sub) }
-        requires few { length tokens.now ≤ 1048576 }
+        requires few { length tokens.now ≤ max_file_bytes }
         ensures { Gives (λ x. ((links x.0.0.items, x.0.1), from tokens.now x.1)) result (Some (row_rest self.now.grammar.depth false (view first.now) (from tokens.now at))) }
     {
         if on_edge(Edge::Form, first) {
@@ -345,7 +346,7 @@ impl<
         at: usize,
     ) -> Result<(Box<Expr>, usize), ReadError>
         requires nests { Nests self.now.grammar.depth (F.pre self.now.grammar.sub) (F.post self.now.grammar.sub) }
-        requires few { length tokens.now ≤ 1048576 }
+        requires few { length tokens.now ≤ max_file_bytes }
         ensures { Gives (λ x. (view x.0.value, from tokens.now x.1)) result (Some (with_steps self.now.grammar.depth (view first.value) (from tokens.now at))) }
     {
         let ((rest, last), at) = self.rest_of_steps(tokens, &first, at)?;
@@ -361,7 +362,7 @@ impl<
         at: usize,
     ) -> Result<(Box<Expr>, usize), ReadError>
         requires nests { Nests self.now.grammar.depth (F.pre self.now.grammar.sub) (F.post self.now.grammar.sub) }
-        requires few { length tokens.now ≤ 1048576 }
+        requires few { length tokens.now ≤ max_file_bytes }
         ensures { Gives (λ x. (view x.0.value, from tokens.now x.1)) result (r.seq (read_expr self.now.grammar.depth) self.now.grammar.depth (from tokens.now at)) }
     {
         let (first, at) = self.expression(tokens, at)?;
@@ -378,7 +379,7 @@ fn operator_word(
     level: u32,
     at: usize,
 ) -> Result<(Word, usize), ReadError>
-    requires few { length tokens.now ≤ 1048576 }
+    requires few { length tokens.now ≤ max_file_bytes }
     ensures { Gives (λ x. (view_tok x.0, from tokens.now x.1)) result (operator_of level (from tokens.now at)) }
 {
     if at >= tokens.len() {

@@ -1,6 +1,7 @@
 //! The longest sequence expression from a token.
 
 ghost use Rattle.std.specs.Prelude.{◌≡◌, ◌≤◌, length, Err, IfOk, IfErr};
+ghost use Rattle.rotor_base.specs.Limits.{max_file_bytes};
 ghost use Rattle.ml_syntax.specs.View.{view};
 ghost use Rattle.parse_base.specs.Gives.{from, IsPlain};
 ghost use Rattle.parse_base.specs.declared.error.ParseError.TheVariants as refused;
@@ -27,7 +28,7 @@ pub fn parse_seq(
     start: usize,
 ) -> Result<(Expr, usize), ParseError>
     requires within { start ≤ length tokens.now }
-    requires few { length tokens.now ≤ 1048576 }
+    requires few { length tokens.now ≤ max_file_bytes }
     // It has these words, no longer one begins there, and no other of its length does.
     ensures found { IfOk result (λ x. IsLongestExpr (from tokens.now start) (view x.0) (from tokens.now x.1)) }
     ensures end { IfOk result (λ x. x.1 ≤ length tokens.now) }

@@ -1,6 +1,7 @@
 //! The knot of the readers.
 
 ghost use Rattle.std.specs.Prelude.{◌≤◌, length, IfOk};
+ghost use Rattle.rotor_base.specs.Limits.{max_file_bytes};
 ghost use Rattle.ml_syntax.specs.View.{view};
 ghost use Rattle.parse_base.specs.Gives.{from, Gives};
 ghost use Rattle.expr_reading.specs.ExprReading as r;
@@ -28,7 +29,7 @@ pub fn read(
     wanted: Wanted,
     at: usize,
 ) -> Result<(Box<Expr>, usize), ReadError>
-    requires { length tokens.now ≤ 1048576 }
+    requires { length tokens.now ≤ max_file_bytes }
     ensures reads { Gives (λ x. (view x.0.value, from tokens.now x.1)) result (read_expr depth wanted (from tokens.now at)) }
     ensures low { IfOk result (λ x. height (view x.0.value) ≤ levels) }
 {
@@ -74,7 +75,7 @@ impl<
         at: usize,
     ) -> Result<(Box<Expr>, usize), ReadError>
         requires nests { Nests self.now.grammar.depth (F.pre self.now.grammar.sub) (F.post self.now.grammar.sub) }
-        requires few { length tokens.now ≤ 1048576 }
+        requires few { length tokens.now ≤ max_file_bytes }
         ensures { Gives (λ x. (view x.0.value, from tokens.now x.1)) result (r.one_of (read_expr self.now.grammar.depth) self.now.grammar.depth wanted (from tokens.now at)) }
     {
         match wanted {

@@ -1,6 +1,7 @@
 //! Records.
 
 ghost use Rattle.std.specs.Prelude.{◌≤◌, ◌<◌, ◌+◌, length, Some};
+ghost use Rattle.rotor_base.specs.Limits.{max_file_bytes};
 ghost use Rattle.ml_syntax.specs.Tree as pure;
 ghost use Rattle.ml_syntax.specs.View.{view, view_word, view_words, view_type, view_field, maybe, fields};
 ghost use Rattle.parse_base.specs.Steps.{many};
@@ -39,7 +40,7 @@ impl<
         at: usize,
     ) -> Result<(Box<Field>, usize), ReadError>
         requires nests { Nests self.now.grammar.depth (F.pre self.now.grammar.sub) (F.post self.now.grammar.sub) }
-        requires few { length tokens.now ≤ 1048576 }
+        requires few { length tokens.now ≤ max_file_bytes }
         ensures { Gives (λ x. (view_field x.0.value, from tokens.now x.1)) result (r.field_expr (read_expr self.now.grammar.depth) self.now.grammar.depth (from tokens.now at)) }
     {
         let (path, at) = qualifiers(self.grammar.alloc, tokens, self.grammar.depth, at)?;
@@ -63,7 +64,7 @@ impl<
         at: usize,
     ) -> Result<(Box<Field>, usize), ReadError>
         requires nests { Nests self.now.grammar.depth (F.pre self.now.grammar.sub) (F.post self.now.grammar.sub) }
-        requires few { length tokens.now ≤ 1048576 }
+        requires few { length tokens.now ≤ max_file_bytes }
         ensures { Gives (λ x. (view_field x.0.value, from tokens.now x.1)) result (r.next_field (read_expr self.now.grammar.depth) self.now.grammar.depth (from tokens.now at)) }
     {
         let at = expect(tokens, Fixed::Semicolon, at)?;
@@ -78,7 +79,7 @@ impl<
         at: usize,
     ) -> Result<(Vec<Field>, usize), ReadError>
         requires nests { Nests self.now.grammar.depth (F.pre self.now.grammar.sub) (F.post self.now.grammar.sub) }
-        requires few { length tokens.now ≤ 1048576 }
+        requires few { length tokens.now ≤ max_file_bytes }
         ensures { Gives (λ x. (fields x.0.items, from tokens.now x.1)) result (Some (many pure.no_field pure.more_field r.ends_field (r.next_field (read_expr self.now.grammar.depth) self.now.grammar.depth) self.now.grammar.depth (from tokens.now at))) }
     {
         let mut found = Vec::new(self.grammar.alloc);
@@ -109,7 +110,7 @@ impl<
         at: usize,
     ) -> Result<((Vec<Field>, bool), usize), ReadError>
         requires nests { Nests self.now.grammar.depth (F.pre self.now.grammar.sub) (F.post self.now.grammar.sub) }
-        requires few { length tokens.now ≤ 1048576 }
+        requires few { length tokens.now ≤ max_file_bytes }
         ensures { Gives (λ x. ((fields x.0.0.items, x.0.1), from tokens.now x.1)) result (Some (fields_rest self.now.grammar.depth (view_field first.now) (from tokens.now at))) }
     {
         if !ends_field(first) {
@@ -129,7 +130,7 @@ impl<
         at: usize,
     ) -> Result<(Box<Expr>, usize), ReadError>
         requires nests { Nests self.now.grammar.depth (F.pre self.now.grammar.sub) (F.post self.now.grammar.sub) }
-        requires few { length tokens.now ≤ 1048576 }
+        requires few { length tokens.now ≤ max_file_bytes }
         ensures { Gives (λ x. (view x.0.value, from tokens.now x.1)) result (base_with (read_expr self.now.grammar.depth wanted.Postfix (from tokens.now at))) }
     {
         let (base, at) = self.grammar.sub(tokens, Wanted::Postfix, at)?;
@@ -145,7 +146,7 @@ impl<
         at: usize,
     ) -> Result<(Option<Box<Expr>>, usize), ReadError>
         requires nests { Nests self.now.grammar.depth (F.pre self.now.grammar.sub) (F.post self.now.grammar.sub) }
-        requires few { length tokens.now ≤ 1048576 }
+        requires few { length tokens.now ≤ max_file_bytes }
         ensures { Gives (λ x. (maybe x.0, from tokens.now x.1)) result (Some (r.base_part (read_expr self.now.grammar.depth) self.now.grammar.depth (from tokens.now at))) }
     {
         match self.base_with(tokens, at) {
@@ -164,7 +165,7 @@ impl<
         at: usize,
     ) -> Result<(Box<Expr>, usize), ReadError>
         requires nests { Nests self.now.grammar.depth (F.pre self.now.grammar.sub) (F.post self.now.grammar.sub) }
-        requires few { length tokens.now ≤ 1048576 }
+        requires few { length tokens.now ≤ max_file_bytes }
         requires within { at < length tokens.now }
         ensures { Gives (λ x. (view x.0.value, from tokens.now x.1)) result (r.brace_expr (read_expr self.now.grammar.depth) self.now.grammar.depth (at + 1) (from tokens.now (at + 1))) }
     {

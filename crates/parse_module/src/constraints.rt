@@ -1,6 +1,7 @@
 //! `with` and its constraints.
 
 ghost use Rattle.std.specs.Prelude.{◌≡◌, ◌≤◌, ◌<◌, true, length, map, Some};
+ghost use Rattle.rotor_base.specs.Limits.{max_file_bytes};
 ghost use Rattle.ml_syntax.specs.View.{view_tok, view_constraint, view_with};
 ghost use Rattle.ml_syntax.specs.WellFormed.{is_constraint_sign};
 ghost use Rattle.parse_base.specs.Gives.{from, Gives};
@@ -27,7 +28,7 @@ fn is_sign(tokens: &[Token<'_>], at: usize) -> bool
 /// `=` or `:=`.
 #[tactic(auto, using(crate::proofs::Rows::signs))]
 fn sign(alloc: Global, tokens: &[Token<'_>], at: usize) -> Result<(Word, usize), ReadError>
-    requires { length tokens.now ≤ 1048576 }
+    requires { length tokens.now ≤ max_file_bytes }
     ensures { Gives (λ x. (view_tok x.0, from tokens.now x.1)) result (r.constraint_sign (from tokens.now at)) }
 {
     if !is_sign(tokens, at) {
@@ -53,7 +54,7 @@ fn constraint(
     tokens: &[Token<'_>],
     at: usize,
 ) -> Result<(Constraint, usize), ReadError>
-    requires { length tokens.now ≤ 1048576 }
+    requires { length tokens.now ≤ max_file_bytes }
     ensures { Gives (λ x. (view_constraint x.0, from tokens.now x.1)) result (r.constraint (from tokens.now at)) }
 {
     let at = expect(tokens, Fixed::Type, at)?;
@@ -78,7 +79,7 @@ fn next_constraint(
     tokens: &[Token<'_>],
     at: usize,
 ) -> Result<(Constraint, usize), ReadError>
-    requires { length tokens.now ≤ 1048576 }
+    requires { length tokens.now ≤ max_file_bytes }
     ensures { Gives (λ x. (view_constraint x.0, from tokens.now x.1)) result (r.next_constraint (from tokens.now at)) }
 {
     let at = expect(tokens, Fixed::And, at)?;
@@ -92,7 +93,7 @@ fn more_constraints(
     depth: usize,
     at: usize,
 ) -> Result<(Vec<Constraint>, usize), ReadError>
-    requires { length tokens.now ≤ 1048576 }
+    requires { length tokens.now ≤ max_file_bytes }
     ensures { Gives (λ x. (map view_constraint x.0.items, from tokens.now x.1)) result (Some (r.more_constraints depth (from tokens.now at))) }
 {
     let mut found = Vec::new(alloc);
@@ -118,7 +119,7 @@ fn with_clause(
     depth: usize,
     at: usize,
 ) -> Result<(WithClause, usize), ReadError>
-    requires { length tokens.now ≤ 1048576 }
+    requires { length tokens.now ≤ max_file_bytes }
     ensures { Gives (λ x. (view_with x.0, from tokens.now x.1)) result (r.with_clause depth (from tokens.now at)) }
 {
     let at = expect(tokens, Fixed::With, at)?;
@@ -134,7 +135,7 @@ pub(crate) fn with_clauses(
     depth: usize,
     at: usize,
 ) -> Result<(Vec<WithClause>, usize), ReadError>
-    requires { length tokens.now ≤ 1048576 }
+    requires { length tokens.now ≤ max_file_bytes }
     ensures { Gives (λ x. (map view_with x.0.items, from tokens.now x.1)) result (Some (r.with_clauses depth (from tokens.now at))) }
 {
     let mut found = Vec::new(alloc);

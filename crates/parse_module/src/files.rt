@@ -1,6 +1,7 @@
 //! A file's tokens as its tree.
 
 ghost use Rattle.std.specs.Prelude.{◌≡◌, ◌≢◌, ◌≤◌, ◌+◌, length, Err, None, IfOk};
+ghost use Rattle.rotor_base.specs.Limits.{max_file_bytes};
 ghost use Rattle.ml_syntax.specs.View.{view_file};
 ghost use Rattle.parse_base.specs.Forms.{first_form};
 ghost use Rattle.parse_base.specs.Gives.{from, Gives};
@@ -27,7 +28,7 @@ pub enum FileKind {
 
 /// The tree of a body, with the number of its file.
 fn body(alloc: Global, tokens: &[Token<'_>], file: u32) -> Result<FileTree, ReadError>
-    requires { length tokens.now ≤ 1048576 }
+    requires { length tokens.now ≤ max_file_bytes }
     ensures { Gives view_file result (read_body file (length tokens.now + 1) (from tokens.now 0)) }
 {
     let readers = Modules {
@@ -46,7 +47,7 @@ fn body(alloc: Global, tokens: &[Token<'_>], file: u32) -> Result<FileTree, Read
 
 /// The tree of an interface, with the number of its file.
 fn face(alloc: Global, tokens: &[Token<'_>], file: u32) -> Result<FileTree, ReadError>
-    requires { length tokens.now ≤ 1048576 }
+    requires { length tokens.now ≤ max_file_bytes }
     ensures { Gives view_file result (read_face file (length tokens.now + 1) (from tokens.now 0)) }
 {
     let readers = Modules {
@@ -70,7 +71,7 @@ fn whole(
     file: u32,
     kind: FileKind,
 ) -> Result<FileTree, ReadError>
-    requires { length tokens.now ≤ 1048576 }
+    requires { length tokens.now ≤ max_file_bytes }
     ensures { Gives view_file result (read_file kind file (length tokens.now + 1) (from tokens.now 0)) }
 {
     match kind {
@@ -89,7 +90,7 @@ pub fn parse_file(
     file: u32,
     kind: FileKind,
 ) -> Result<FileTree, ParseError>
-    requires few { length tokens.now ≤ 1048576 }
+    requires few { length tokens.now ≤ max_file_bytes }
     // It is well-formed, has these words, and no other file of this kind and number has them.
     ensures found { IfOk result (λ tree. IsTreeOf kind file (from tokens.now 0) (view_file tree)) }
     // The first refused form is told, and where there is none, none is.

@@ -1,6 +1,7 @@
 //! Items of structures.
 
 ghost use Rattle.std.specs.Prelude.{◌≡◌, ◌≤◌, ◌<◌, ◌+◌, ◌∷◌, true, length, Some};
+ghost use Rattle.rotor_base.specs.Limits.{max_file_bytes};
 ghost use Rattle.ml_syntax.specs.declared.fixed.Fixed.TheVariants as key;
 ghost use Rattle.ml_syntax.specs.Tok.{placed};
 ghost use Rattle.ml_syntax.specs.WellFormed.{is_separator as separates};
@@ -46,7 +47,7 @@ impl<
     ) -> Result<(Item, usize), ReadError>
         requires modules { ReadsModules self.now.depth (F.pre self.now.modules) (F.post self.now.modules) }
         requires types { ReadsTypes self.now.depth (G.pre self.now.types) (G.post self.now.types) }
-        requires few { length tokens.now ≤ 1048576 }
+        requires few { length tokens.now ≤ max_file_bytes }
         requires begun { start < length tokens.now }
         ensures { Gives (λ x. (v.view_item x.0, from tokens.now x.1)) result (r.module_rest (read_mod self.now.depth) (read_type self.now.depth) self.now.depth (start + 1) (from tokens.now at)) }
     {
@@ -77,7 +78,7 @@ impl<
     ) -> Result<(Item, usize), ReadError>
         requires modules { ReadsModules self.now.depth (F.pre self.now.modules) (F.post self.now.modules) }
         requires types { ReadsTypes self.now.depth (G.pre self.now.types) (G.post self.now.types) }
-        requires few { length tokens.now ≤ 1048576 }
+        requires few { length tokens.now ≤ max_file_bytes }
         requires begun { start < length tokens.now }
         ensures { Gives (λ x. (v.view_item x.0, from tokens.now x.1)) result (p.module_type_item self.now.depth (start + 1) (from tokens.now at)) }
     {
@@ -99,7 +100,7 @@ impl<
     fn module_item(&self, tokens: &[Token<'_>], at: usize) -> Result<(Item, usize), ReadError>
         requires modules { ReadsModules self.now.depth (F.pre self.now.modules) (F.post self.now.modules) }
         requires types { ReadsTypes self.now.depth (G.pre self.now.types) (G.post self.now.types) }
-        requires few { length tokens.now ≤ 1048576 }
+        requires few { length tokens.now ≤ max_file_bytes }
         requires within { at < length tokens.now }
         ensures { Gives (λ x. (v.view_item x.0, from tokens.now x.1)) result (r.plain_item (read_mod self.now.depth) (read_type self.now.depth) self.now.depth (placed key.Module (at + 1) ∷ from tokens.now (at + 1))) }
     {
@@ -115,7 +116,7 @@ impl<
     fn plain_item(&self, tokens: &[Token<'_>], at: usize) -> Result<(Item, usize), ReadError>
         requires modules { ReadsModules self.now.depth (F.pre self.now.modules) (F.post self.now.modules) }
         requires types { ReadsTypes self.now.depth (G.pre self.now.types) (G.post self.now.types) }
-        requires few { length tokens.now ≤ 1048576 }
+        requires few { length tokens.now ≤ max_file_bytes }
         ensures { Gives (λ x. (v.view_item x.0, from tokens.now x.1)) result (r.plain_item (read_mod self.now.depth) (read_type self.now.depth) self.now.depth (from tokens.now at)) }
     {
         match kind_at(tokens, at) {
@@ -155,7 +156,7 @@ impl<
     fn item(&self, tokens: &[Token<'_>], fresh: bool, at: usize) -> Result<(Item, usize), ReadError>
         requires modules { ReadsModules self.now.depth (F.pre self.now.modules) (F.post self.now.modules) }
         requires types { ReadsTypes self.now.depth (G.pre self.now.types) (G.post self.now.types) }
-        requires few { length tokens.now ≤ 1048576 }
+        requires few { length tokens.now ≤ max_file_bytes }
         ensures { Gives (λ x. (v.view_item x.0, from tokens.now x.1)) result (r.item_of (read_mod self.now.depth) (read_type self.now.depth) self.now.depth fresh (from tokens.now at)) }
     {
         if !fresh {
@@ -177,7 +178,7 @@ impl<
     ) -> Result<(Vec<Item>, usize), ReadError>
         requires modules { ReadsModules self.now.depth (F.pre self.now.modules) (F.post self.now.modules) }
         requires types { ReadsTypes self.now.depth (G.pre self.now.types) (G.post self.now.types) }
-        requires few { length tokens.now ≤ 1048576 }
+        requires few { length tokens.now ≤ max_file_bytes }
         ensures { Gives (λ x. (v.items x.0.items, from tokens.now x.1)) result (Some (r.items_of (read_mod self.now.depth) (read_type self.now.depth) self.now.depth self.now.depth true (from tokens.now at))) }
     {
         let mut found = Vec::new(self.alloc);

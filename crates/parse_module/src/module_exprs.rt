@@ -1,6 +1,7 @@
 //! Module expressions.
 
 ghost use Rattle.std.specs.Prelude.{◌≤◌, ◌<◌, ◌+◌, length, Some};
+ghost use Rattle.rotor_base.specs.Limits.{max_file_bytes};
 ghost use Rattle.ml_syntax.specs.Tree as pure;
 ghost use Rattle.ml_syntax.specs.View as v;
 ghost use Rattle.parse_base.specs.Gives.{from, Gives};
@@ -52,7 +53,7 @@ impl<
     ) -> Result<(ModExpr, usize), ReadError>
         requires modules { ReadsModules self.now.depth (F.pre self.now.modules) (F.post self.now.modules) }
         requires types { ReadsTypes self.now.depth (G.pre self.now.types) (G.post self.now.types) }
-        requires few { length tokens.now ≤ 1048576 }
+        requires few { length tokens.now ≤ max_file_bytes }
         requires begun { start < length tokens.now }
         ensures { Gives (λ x. (v.view_mod x.0, from tokens.now x.1)) result (r.mod_closed (read_mod self.now.depth) (read_type self.now.depth) self.now.depth (start + 1) (v.view_mod body) (from tokens.now at)) }
     {
@@ -84,7 +85,7 @@ impl<
     fn simple_mod(&self, tokens: &[Token<'_>], at: usize) -> Result<(ModExpr, usize), ReadError>
         requires modules { ReadsModules self.now.depth (F.pre self.now.modules) (F.post self.now.modules) }
         requires types { ReadsTypes self.now.depth (G.pre self.now.types) (G.post self.now.types) }
-        requires few { length tokens.now ≤ 1048576 }
+        requires few { length tokens.now ≤ max_file_bytes }
         ensures { Gives (λ x. (v.view_mod x.0, from tokens.now x.1)) result (r.simple_mod (read_mod self.now.depth) (read_type self.now.depth) self.now.depth (from tokens.now at)) }
     {
         match kind_at(tokens, at) {
@@ -118,7 +119,7 @@ impl<
     ) -> Result<(ModArgument, usize), ReadError>
         requires modules { ReadsModules self.now.depth (F.pre self.now.modules) (F.post self.now.modules) }
         requires types { ReadsTypes self.now.depth (G.pre self.now.types) (G.post self.now.types) }
-        requires few { length tokens.now ≤ 1048576 }
+        requires few { length tokens.now ≤ max_file_bytes }
         requires begun { start < length tokens.now }
         ensures { Gives (λ x. (v.view_mod_argument x.0, from tokens.now x.1)) result (r.argument_closed (read_mod self.now.depth) (read_type self.now.depth) self.now.depth (start + 1) (v.view_mod given) (from tokens.now at)) }
     {
@@ -153,7 +154,7 @@ impl<
     fn argument(&self, tokens: &[Token<'_>], at: usize) -> Result<(ModArgument, usize), ReadError>
         requires modules { ReadsModules self.now.depth (F.pre self.now.modules) (F.post self.now.modules) }
         requires types { ReadsTypes self.now.depth (G.pre self.now.types) (G.post self.now.types) }
-        requires few { length tokens.now ≤ 1048576 }
+        requires few { length tokens.now ≤ max_file_bytes }
         ensures { Gives (λ x. (v.view_mod_argument x.0, from tokens.now x.1)) result (r.mod_argument (read_mod self.now.depth) (read_type self.now.depth) self.now.depth (from tokens.now at)) }
     {
         if !is(tokens, Fixed::LeftParen, at) {
@@ -175,7 +176,7 @@ impl<
     ) -> Result<(Vec<ModArgument>, usize), ReadError>
         requires modules { ReadsModules self.now.depth (F.pre self.now.modules) (F.post self.now.modules) }
         requires types { ReadsTypes self.now.depth (G.pre self.now.types) (G.post self.now.types) }
-        requires few { length tokens.now ≤ 1048576 }
+        requires few { length tokens.now ≤ max_file_bytes }
         ensures { Gives (λ x. (v.mod_arguments x.0.items, from tokens.now x.1)) result (Some (many pure.no_mod_argument pure.more_mod_argument always (r.mod_argument (read_mod self.now.depth) (read_type self.now.depth) self.now.depth) self.now.depth (from tokens.now at))) }
     {
         let mut found = Vec::new(self.alloc);
@@ -203,7 +204,7 @@ impl<
     ) -> Result<(ModExpr, usize), ReadError>
         requires modules { ReadsModules self.now.depth (F.pre self.now.modules) (F.post self.now.modules) }
         requires types { ReadsTypes self.now.depth (G.pre self.now.types) (G.post self.now.types) }
-        requires few { length tokens.now ≤ 1048576 }
+        requires few { length tokens.now ≤ max_file_bytes }
         ensures { Gives (λ x. (v.view_mod x.0, from tokens.now x.1)) result (r.mod_apply (read_mod self.now.depth) (read_type self.now.depth) self.now.depth (from tokens.now at)) }
     {
         let (function, at) = self.simple_mod(tokens, at)?;
@@ -223,7 +224,7 @@ impl<
     ) -> Result<(ModExpr, usize), ReadError>
         requires modules { ReadsModules self.now.depth (F.pre self.now.modules) (F.post self.now.modules) }
         requires types { ReadsTypes self.now.depth (G.pre self.now.types) (G.post self.now.types) }
-        requires few { length tokens.now ≤ 1048576 }
+        requires few { length tokens.now ≤ max_file_bytes }
         requires begun { start < length tokens.now }
         ensures { Gives (λ x. (v.view_mod x.0, from tokens.now x.1)) result (r.functor_end (read_mod self.now.depth) (read_type self.now.depth) self.now.depth (start + 1) (v.functor_params params.items) (from tokens.now at)) }
     {
@@ -254,7 +255,7 @@ impl<
     ) -> Result<(ModExpr, usize), ReadError>
         requires modules { ReadsModules self.now.depth (F.pre self.now.modules) (F.post self.now.modules) }
         requires types { ReadsTypes self.now.depth (G.pre self.now.types) (G.post self.now.types) }
-        requires few { length tokens.now ≤ 1048576 }
+        requires few { length tokens.now ≤ max_file_bytes }
         ensures { Gives (λ x. (v.view_mod x.0, from tokens.now x.1)) result (r.mod_expr (read_mod self.now.depth) (read_type self.now.depth) self.now.depth (from tokens.now at)) }
     {
         match kind_at(tokens, at) {

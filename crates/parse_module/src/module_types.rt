@@ -1,6 +1,7 @@
 //! Module types.
 
 ghost use Rattle.std.specs.Prelude.{◌≤◌, ◌<◌, ◌+◌, ◌∷◌, length, map, Some};
+ghost use Rattle.rotor_base.specs.Limits.{max_file_bytes};
 ghost use Rattle.ml_syntax.specs.declared.fixed.Fixed.TheVariants as key;
 ghost use Rattle.ml_syntax.specs.Tok.{placed};
 ghost use Rattle.ml_syntax.specs.View as v;
@@ -35,7 +36,7 @@ impl<
     ) -> Result<(ModType, usize), ReadError>
         requires modules { ReadsModules self.now.depth (F.pre self.now.modules) (F.post self.now.modules) }
         requires types { ReadsTypes self.now.depth (G.pre self.now.types) (G.post self.now.types) }
-        requires few { length tokens.now ≤ 1048576 }
+        requires few { length tokens.now ≤ max_file_bytes }
         requires begun { start < length tokens.now }
         ensures { Gives (λ x. (v.view_mod_type x.0, from tokens.now x.1)) result (p.type_of self.now.depth (start + 1) (from tokens.now at)) }
     {
@@ -52,7 +53,7 @@ impl<
     fn module_type_of(&self, tokens: &[Token<'_>], at: usize) -> Result<(ModType, usize), ReadError>
         requires modules { ReadsModules self.now.depth (F.pre self.now.modules) (F.post self.now.modules) }
         requires types { ReadsTypes self.now.depth (G.pre self.now.types) (G.post self.now.types) }
-        requires few { length tokens.now ≤ 1048576 }
+        requires few { length tokens.now ≤ max_file_bytes }
         requires within { at < length tokens.now }
         ensures { Gives (λ x. (v.view_mod_type x.0, from tokens.now x.1)) result (r.simple_type (read_mod self.now.depth) (read_type self.now.depth) self.now.depth (placed key.Module (at + 1) ∷ from tokens.now (at + 1))) }
     {
@@ -68,7 +69,7 @@ impl<
     fn simple_type(&self, tokens: &[Token<'_>], at: usize) -> Result<(ModType, usize), ReadError>
         requires modules { ReadsModules self.now.depth (F.pre self.now.modules) (F.post self.now.modules) }
         requires types { ReadsTypes self.now.depth (G.pre self.now.types) (G.post self.now.types) }
-        requires few { length tokens.now ≤ 1048576 }
+        requires few { length tokens.now ≤ max_file_bytes }
         ensures { Gives (λ x. (v.view_mod_type x.0, from tokens.now x.1)) result (r.simple_type (read_mod self.now.depth) (read_type self.now.depth) self.now.depth (from tokens.now at)) }
     {
         match kind_at(tokens, at) {
@@ -105,7 +106,7 @@ impl<
         at: usize,
         after: usize,
     ) -> Result<(Step, usize), ReadError>
-        requires few { length tokens.now ≤ 1048576 }
+        requires few { length tokens.now ≤ max_file_bytes }
         ensures { Steps self.now.depth tokens.now result (Some (r.with_or (read_mod self.now.depth) (read_type self.now.depth) self.now.depth (v.view_mod_type body) (from tokens.now at) (map v.view_with clauses.items, from tokens.now after))) }
     {
         if clauses.len() > 0 {
@@ -123,7 +124,7 @@ impl<
     fn with_type(&self, tokens: &[Token<'_>], at: usize) -> Result<(Step, usize), ReadError>
         requires modules { ReadsModules self.now.depth (F.pre self.now.modules) (F.post self.now.modules) }
         requires types { ReadsTypes self.now.depth (G.pre self.now.types) (G.post self.now.types) }
-        requires few { length tokens.now ≤ 1048576 }
+        requires few { length tokens.now ≤ max_file_bytes }
         ensures { Steps self.now.depth tokens.now result (r.with_type (read_mod self.now.depth) (read_type self.now.depth) self.now.depth (from tokens.now at)) }
     {
         let (body, at) = self.simple_type(tokens, at)?;
@@ -141,7 +142,7 @@ impl<
         params: Vec<FunctorParam>,
         at: usize,
     ) -> Result<(Step, usize), ReadError>
-        requires few { length tokens.now ≤ 1048576 }
+        requires few { length tokens.now ≤ max_file_bytes }
         requires begun { start < length tokens.now }
         ensures { Steps self.now.depth tokens.now result (r.functor_type_end (read_mod self.now.depth) (read_type self.now.depth) self.now.depth (start + 1) (v.functor_params params.items) (from tokens.now at)) }
     {
@@ -159,7 +160,7 @@ impl<
     pub(crate) fn step(&self, tokens: &[Token<'_>], at: usize) -> Result<(Step, usize), ReadError>
         requires modules { ReadsModules self.now.depth (F.pre self.now.modules) (F.post self.now.modules) }
         requires types { ReadsTypes self.now.depth (G.pre self.now.types) (G.post self.now.types) }
-        requires few { length tokens.now ≤ 1048576 }
+        requires few { length tokens.now ≤ max_file_bytes }
         ensures { Steps self.now.depth tokens.now result (r.mod_type (read_mod self.now.depth) (read_type self.now.depth) self.now.depth (from tokens.now at)) }
     {
         if is(tokens, Fixed::Functor, at) {

@@ -1,6 +1,7 @@
 //! What the readers of modules are lent.
 
 ghost use Rattle.std.specs.Prelude.{◌≤◌, length};
+ghost use Rattle.rotor_base.specs.Limits.{max_file_bytes};
 ghost use Rattle.ml_syntax.specs.View as v;
 ghost use Rattle.parse_base.specs.Gives.{from, Gives};
 ghost use Rattle.parse_module.specs.ModReading.{read_mod, read_type};
@@ -36,7 +37,7 @@ impl<
     ) -> Result<(ModExpr, usize), ReadError>
         requires modules { ReadsModules self.now.depth (F.pre self.now.modules) (F.post self.now.modules) }
         requires types { ReadsTypes self.now.depth (G.pre self.now.types) (G.post self.now.types) }
-        requires few { length tokens.now ≤ 1048576 }
+        requires few { length tokens.now ≤ max_file_bytes }
         ensures { Gives (λ x. (v.view_mod x.0, from tokens.now x.1)) result (read_mod self.now.depth (from tokens.now at)) }
     {
         (self.modules)(self.alloc, tokens, self.depth, self.levels, at)
@@ -50,7 +51,7 @@ impl<
     ) -> Result<(ModType, usize), ReadError>
         requires modules { ReadsModules self.now.depth (F.pre self.now.modules) (F.post self.now.modules) }
         requires types { ReadsTypes self.now.depth (G.pre self.now.types) (G.post self.now.types) }
-        requires few { length tokens.now ≤ 1048576 }
+        requires few { length tokens.now ≤ max_file_bytes }
         ensures { Gives (λ x. (v.view_mod_type x.0, from tokens.now x.1)) result (read_type self.now.depth (from tokens.now at)) }
     {
         (self.types)(self.alloc, tokens, self.depth, self.levels, at)

@@ -1,6 +1,7 @@
 //! Names of modules, and what stands behind `external` and `open`.
 
 ghost use Rattle.std.specs.Prelude.{◌≤◌, ◌∷◌, [], length, Some};
+ghost use Rattle.rotor_base.specs.Limits.{max_file_bytes};
 ghost use Rattle.ml_syntax.specs.View.{view_word, view_words, view_name, view_run, view_path, view_bang, view_module_name};
 ghost use Rattle.parse_base.specs.Gives.{from, Gives};
 ghost use Rattle.parse_base.specs.Steps.{many, always};
@@ -19,7 +20,7 @@ pub(crate) fn module_name(
     tokens: &[Token<'_>],
     at: usize,
 ) -> Result<(ModuleName, usize), ReadError>
-    requires { length tokens.now ≤ 1048576 }
+    requires { length tokens.now ≤ max_file_bytes }
     ensures { Gives (λ x. (view_module_name x.0, from tokens.now x.1)) result (r.module_name (from tokens.now at)) }
 {
     match kind_at(tokens, at) {
@@ -34,7 +35,7 @@ pub(crate) fn module_name(
 
 /// A text in quotes.
 fn text_word(alloc: Global, tokens: &[Token<'_>], at: usize) -> Result<(Word, usize), ReadError>
-    requires { length tokens.now ≤ 1048576 }
+    requires { length tokens.now ≤ max_file_bytes }
     ensures { Gives (λ x. (view_word x.0, from tokens.now x.1)) result (r.text_word (from tokens.now at)) }
 {
     match kind_at(tokens, at) {
@@ -50,7 +51,7 @@ fn more_texts(
     depth: usize,
     at: usize,
 ) -> Result<(Vec<Word>, usize), ReadError>
-    requires { length tokens.now ≤ 1048576 }
+    requires { length tokens.now ≤ max_file_bytes }
     ensures { Gives (λ x. (view_words x.0.items, from tokens.now x.1)) result (Some (many [] ◌∷◌ always r.text_word depth (from tokens.now at))) }
 {
     let mut found = Vec::new(alloc);
@@ -102,7 +103,7 @@ pub(crate) fn external(
     depth: usize,
     at: usize,
 ) -> Result<(External, usize), ReadError>
-    requires { length tokens.now ≤ 1048576 }
+    requires { length tokens.now ≤ max_file_bytes }
     ensures { Gives (λ x. (p.external_of x.0, from tokens.now x.1)) result (r.external_rest depth (from tokens.now at)) }
 {
     let (name, at) = value_name(alloc, tokens, at)?;
@@ -121,7 +122,7 @@ pub(crate) fn opened(
     depth: usize,
     at: usize,
 ) -> Result<((Option<Word>, Path), usize), ReadError>
-    requires { length tokens.now ≤ 1048576 }
+    requires { length tokens.now ≤ max_file_bytes }
     ensures { Gives (λ x. ((view_bang x.0.0, view_path x.0.1), from tokens.now x.1)) result (r.open_rest depth (from tokens.now at)) }
 {
     let (bang, at) = bang(alloc, tokens, at)?;

@@ -1,6 +1,7 @@
 //! Parameters of functors.
 
 ghost use Rattle.std.specs.Prelude.{◌≤◌, ◌<◌, ◌+◌, length, Some};
+ghost use Rattle.rotor_base.specs.Limits.{max_file_bytes};
 ghost use Rattle.ml_syntax.specs.Tree as pure;
 ghost use Rattle.ml_syntax.specs.View as v;
 ghost use Rattle.parse_base.specs.Gives.{from, Gives};
@@ -31,7 +32,7 @@ impl<
     ) -> Result<(FunctorParam, usize), ReadError>
         requires modules { ReadsModules self.now.depth (F.pre self.now.modules) (F.post self.now.modules) }
         requires types { ReadsTypes self.now.depth (G.pre self.now.types) (G.post self.now.types) }
-        requires few { length tokens.now ≤ 1048576 }
+        requires few { length tokens.now ≤ max_file_bytes }
         requires begun { start < length tokens.now }
         ensures { Gives (λ x. (v.view_functor_param x.0, from tokens.now x.1)) result (r.named_param (read_mod self.now.depth) (read_type self.now.depth) self.now.depth (start + 1) (from tokens.now at)) }
     {
@@ -60,7 +61,7 @@ impl<
     ) -> Result<(FunctorParam, usize), ReadError>
         requires modules { ReadsModules self.now.depth (F.pre self.now.modules) (F.post self.now.modules) }
         requires types { ReadsTypes self.now.depth (G.pre self.now.types) (G.post self.now.types) }
-        requires few { length tokens.now ≤ 1048576 }
+        requires few { length tokens.now ≤ max_file_bytes }
         ensures { Gives (λ x. (v.view_functor_param x.0, from tokens.now x.1)) result (r.functor_param (read_mod self.now.depth) (read_type self.now.depth) self.now.depth (from tokens.now at)) }
     {
         if !is(tokens, Fixed::LeftParen, at) {
@@ -81,7 +82,7 @@ impl<
     ) -> Result<(Vec<FunctorParam>, usize), ReadError>
         requires modules { ReadsModules self.now.depth (F.pre self.now.modules) (F.post self.now.modules) }
         requires types { ReadsTypes self.now.depth (G.pre self.now.types) (G.post self.now.types) }
-        requires few { length tokens.now ≤ 1048576 }
+        requires few { length tokens.now ≤ max_file_bytes }
         ensures { Gives (λ x. (v.functor_params x.0.items, from tokens.now x.1)) result (Some (many pure.no_functor_param pure.more_functor_param always (r.functor_param (read_mod self.now.depth) (read_type self.now.depth) self.now.depth) self.now.depth (from tokens.now at))) }
     {
         let mut found = Vec::new(self.alloc);
@@ -108,7 +109,7 @@ impl<
     ) -> Result<(Option<Box<ModType>>, usize), ReadError>
         requires modules { ReadsModules self.now.depth (F.pre self.now.modules) (F.post self.now.modules) }
         requires types { ReadsTypes self.now.depth (G.pre self.now.types) (G.post self.now.types) }
-        requires few { length tokens.now ≤ 1048576 }
+        requires few { length tokens.now ≤ max_file_bytes }
         ensures { Gives (λ x. (v.signature x.0, from tokens.now x.1)) result (r.signature_of (read_mod self.now.depth) (read_type self.now.depth) self.now.depth (from tokens.now at)) }
     {
         match kind_at(tokens, at) {

@@ -1,6 +1,7 @@
 //! The knot of the readers.
 
 ghost use Rattle.std.specs.Prelude.{◌≤◌, length};
+ghost use Rattle.rotor_base.specs.Limits.{max_file_bytes};
 ghost use Rattle.ml_syntax.specs.View as v;
 ghost use Rattle.parse_base.specs.Gives.{from, Gives};
 ghost use Rattle.parse_module.specs.ModReading.{read_mod, read_type};
@@ -22,7 +23,7 @@ pub(crate) fn read_module(
     levels: usize,
     at: usize,
 ) -> Result<(ModExpr, usize), ReadError>
-    requires { length tokens.now ≤ 1048576 }
+    requires { length tokens.now ≤ max_file_bytes }
     ensures { Gives (λ x. (v.view_mod x.0, from tokens.now x.1)) result (read_mod depth (from tokens.now at)) }
 {
     if depth == 0 {
@@ -51,7 +52,7 @@ pub(crate) fn read_module_type(
     levels: usize,
     at: usize,
 ) -> Result<(ModType, usize), ReadError>
-    requires { length tokens.now ≤ 1048576 }
+    requires { length tokens.now ≤ max_file_bytes }
     ensures { Gives (λ x. (v.view_mod_type x.0, from tokens.now x.1)) result (read_type depth (from tokens.now at)) }
 {
     let mut before = Vec::new(alloc);

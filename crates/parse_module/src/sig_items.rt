@@ -1,6 +1,7 @@
 //! Items of signatures.
 
 ghost use Rattle.std.specs.Prelude.{◌≡◌, ◌≤◌, ◌<◌, ◌+◌, ◌∷◌, length, Some};
+ghost use Rattle.rotor_base.specs.Limits.{max_file_bytes};
 ghost use Rattle.ml_syntax.specs.Tree as pure;
 ghost use Rattle.ml_syntax.specs.declared.fixed.Fixed.TheVariants as key;
 ghost use Rattle.ml_syntax.specs.Tok.{placed};
@@ -32,7 +33,7 @@ fn alias(
     start: usize,
     at: usize,
 ) -> Result<(SigItem, usize), ReadError>
-    requires few { length tokens.now ≤ 1048576 }
+    requires few { length tokens.now ≤ max_file_bytes }
     requires begun { start < length tokens.now }
     ensures { Gives (λ x. (v.view_sig_item x.0, from tokens.now x.1)) result (p.alias_sig depth (start + 1) (from tokens.now at)) }
 {
@@ -69,7 +70,7 @@ impl<
     #[tactic(auto, using(ml_syntax::proofs::Variants::sig_item_views))]
     #[inline(never)]
     fn val_rest(&self, tokens: &[Token<'_>], at: usize) -> Result<(SigItem, usize), ReadError>
-        requires few { length tokens.now ≤ 1048576 }
+        requires few { length tokens.now ≤ max_file_bytes }
         ensures { Gives (λ x. (v.view_sig_item x.0, from tokens.now x.1)) result (r.val_rest (read_mod self.now.depth) (read_type self.now.depth) self.now.depth (from tokens.now at)) }
     {
         let (name, at) = value_name(self.alloc, tokens, at)?;
@@ -89,7 +90,7 @@ impl<
     ) -> Result<(SigItem, usize), ReadError>
         requires modules { ReadsModules self.now.depth (F.pre self.now.modules) (F.post self.now.modules) }
         requires types { ReadsTypes self.now.depth (G.pre self.now.types) (G.post self.now.types) }
-        requires few { length tokens.now ≤ 1048576 }
+        requires few { length tokens.now ≤ max_file_bytes }
         requires begun { start < length tokens.now }
         ensures { Gives (λ x. (v.view_sig_item x.0, from tokens.now x.1)) result (r.module_sig_rest (read_mod self.now.depth) (read_type self.now.depth) self.now.depth (start + 1) (from tokens.now at)) }
     {
@@ -117,7 +118,7 @@ impl<
     ) -> Result<(SigItem, usize), ReadError>
         requires modules { ReadsModules self.now.depth (F.pre self.now.modules) (F.post self.now.modules) }
         requires types { ReadsTypes self.now.depth (G.pre self.now.types) (G.post self.now.types) }
-        requires few { length tokens.now ≤ 1048576 }
+        requires few { length tokens.now ≤ max_file_bytes }
         requires begun { start < length tokens.now }
         ensures { Gives (λ x. (v.view_sig_item x.0, from tokens.now x.1)) result (p.module_type_sig self.now.depth (start + 1) (from tokens.now at)) }
     {
@@ -139,7 +140,7 @@ impl<
     fn module_sig(&self, tokens: &[Token<'_>], at: usize) -> Result<(SigItem, usize), ReadError>
         requires modules { ReadsModules self.now.depth (F.pre self.now.modules) (F.post self.now.modules) }
         requires types { ReadsTypes self.now.depth (G.pre self.now.types) (G.post self.now.types) }
-        requires few { length tokens.now ≤ 1048576 }
+        requires few { length tokens.now ≤ max_file_bytes }
         requires within { at < length tokens.now }
         ensures { Gives (λ x. (v.view_sig_item x.0, from tokens.now x.1)) result (r.sig_item (read_mod self.now.depth) (read_type self.now.depth) self.now.depth (placed key.Module (at + 1) ∷ from tokens.now (at + 1))) }
     {
@@ -158,7 +159,7 @@ impl<
     fn sig_item(&self, tokens: &[Token<'_>], at: usize) -> Result<(SigItem, usize), ReadError>
         requires modules { ReadsModules self.now.depth (F.pre self.now.modules) (F.post self.now.modules) }
         requires types { ReadsTypes self.now.depth (G.pre self.now.types) (G.post self.now.types) }
-        requires few { length tokens.now ≤ 1048576 }
+        requires few { length tokens.now ≤ max_file_bytes }
         ensures { Gives (λ x. (v.view_sig_item x.0, from tokens.now x.1)) result (r.sig_item (read_mod self.now.depth) (read_type self.now.depth) self.now.depth (from tokens.now at)) }
     {
         match kind_at(tokens, at) {
@@ -201,7 +202,7 @@ impl<
     ) -> Result<(Vec<SigItem>, usize), ReadError>
         requires modules { ReadsModules self.now.depth (F.pre self.now.modules) (F.post self.now.modules) }
         requires types { ReadsTypes self.now.depth (G.pre self.now.types) (G.post self.now.types) }
-        requires few { length tokens.now ≤ 1048576 }
+        requires few { length tokens.now ≤ max_file_bytes }
         ensures { Gives (λ x. (v.sig_items x.0.items, from tokens.now x.1)) result (Some (many pure.no_sig_item pure.more_sig_item always (r.sig_item (read_mod self.now.depth) (read_type self.now.depth) self.now.depth) self.now.depth (from tokens.now at))) }
     {
         let mut found = Vec::new(self.alloc);

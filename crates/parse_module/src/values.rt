@@ -1,6 +1,7 @@
 //! Items that hold expressions.
 
 ghost use Rattle.std.specs.Prelude.{◌≤◌, ◌<◌, ◌+◌, length};
+ghost use Rattle.rotor_base.specs.Limits.{max_file_bytes};
 ghost use Rattle.ml_syntax.specs.View.{view, view_item};
 ghost use Rattle.parse_base.specs.Gives.{from, Gives};
 ghost use Rattle.expr_reading.specs.declared.wanted.Wanted.TheVariants as wanted;
@@ -24,7 +25,7 @@ fn nested(
     wanted: Wanted,
     at: usize,
 ) -> Result<(Box<Expr>, usize), ReadError>
-    requires { length tokens.now ≤ 1048576 }
+    requires { length tokens.now ≤ max_file_bytes }
     ensures { Gives (λ x. (view x.0.value, from tokens.now x.1)) result (read_expr depth wanted (from tokens.now at)) }
 {
     read(alloc, tokens, depth, levels, wanted, at)
@@ -38,7 +39,7 @@ pub(crate) fn sequence(
     levels: usize,
     at: usize,
 ) -> Result<(Expr, usize), ReadError>
-    requires { length tokens.now ≤ 1048576 }
+    requires { length tokens.now ≤ max_file_bytes }
     ensures { Gives (λ x. (view x.0, from tokens.now x.1)) result (read_expr depth wanted.Sequence (from tokens.now at)) }
 {
     let (tree, after) = read(alloc, tokens, depth, levels, Wanted::Sequence, at)?;
@@ -56,7 +57,7 @@ fn some_bindings(
     recursive: bool,
     at: usize,
 ) -> Result<(Item, usize), ReadError>
-    requires few { length tokens.now ≤ 1048576 }
+    requires few { length tokens.now ≤ max_file_bytes }
     requires begun { start < length tokens.now }
     ensures { Gives (λ x. (view_item x.0, from tokens.now x.1)) result (r.some_bindings depth recursive (start + 1) (from tokens.now at)) }
 {
@@ -86,7 +87,7 @@ pub(crate) fn value_item(
     levels: usize,
     at: usize,
 ) -> Result<(Item, usize), ReadError>
-    requires few { length tokens.now ≤ 1048576 }
+    requires few { length tokens.now ≤ max_file_bytes }
     requires begun { at < length tokens.now }
     ensures { Gives (λ x. (view_item x.0, from tokens.now x.1)) result (r.value_rest depth (at + 1) (from tokens.now (at + 1))) }
 {

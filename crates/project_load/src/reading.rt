@@ -3,6 +3,7 @@ ghost use Rattle.std.specs.Prelude.{◌≡◌, ◌⊎◌, ◌≤◌, ◌+◌, �
 ghost use Rattle.std.specs.Option.{ForSome, is_some, option_map};
 ghost use Rattle.std.specs.List.{AllByRecursion};
 ghost use Rattle.std.specs.FinMap.{get, keys};
+ghost use Rattle.rotor_base.specs.Limits.{max_file_bytes, max_total_bytes};
 ghost use Rattle.rotor_base.specs.Files.{names_of, too_large};
 ghost use Rattle.tree_io.specs.Outside.{IsFront, KeepsRoom, StaysSteady};
 ghost use Rattle.project_load.specs.Cause.{HasReadCause};
@@ -86,7 +87,7 @@ pub(crate) fn read_sources<T: Tree>(
 /// Whether a file of so many bytes, behind files of so many in all, is too large, or all are.
 fn is_over(total: u64, len: u64) -> bool
     requires { total + len < 2 ^ 64 }
-    ensures { result ≡ (nat_lt 1048576 len || nat_lt 8388608 (total + len)) }
+    ensures { result ≡ (nat_lt max_file_bytes len || nat_lt max_total_bytes (total + len)) }
 {
     len > MAX_FILE_BYTES as u64 || total + len > MAX_TOTAL_BYTES as u64
 }

@@ -1,6 +1,7 @@
 //! The sources of a project, one after another, as their tokens and their trees.
 
 ghost use Rattle.std.specs.Prelude.{◌≡◌, ◌≤◌, All, IfErr, IfOk, length, map};
+ghost use Rattle.rotor_base.specs.Limits.{max_file_bytes, max_sources};
 ghost use Rattle.rotor_base.specs.Stem.{is_body_name};
 ghost use Rattle.ml_lexer.specs.Lexed.{Lexed, view_tokens};
 ghost use Rattle.ml_syntax.specs.View.{view_file};
@@ -20,9 +21,9 @@ fn tokens_of<'a>(
     number: u32,
     source: &'a SourceFile,
 ) -> Result<Vec<Token<'a>>, Refusal>
-    requires { length source.now.bytes ≤ 1048576 }
+    requires { length source.now.bytes ≤ max_file_bytes }
     ensures cut { IfOk result (λ tokens. Lexed source.now.bytes (view_tokens tokens.items)) }
-    ensures few { IfOk result (λ tokens. length tokens.items ≤ 1048576) }
+    ensures few { IfOk result (λ tokens. length tokens.items ≤ max_file_bytes) }
     ensures refused { IfErr result (IsSourceRefused number source.now) }
 {
     match lex(alloc, source.bytes.as_slice()) {
@@ -57,7 +58,7 @@ fn tree_of(
     source: &SourceFile,
     tokens: &[Token<'_>],
 ) -> Result<FileTree, Refusal>
-    requires few { length tokens.now ≤ 1048576 }
+    requires few { length tokens.now ≤ max_file_bytes }
     requires cut { Lexed source.now.bytes (view_tokens tokens.now) }
     ensures tree { IfOk result (λ tree. ReadsAs number source.now (view_file tree)) }
     ensures refused { IfErr result (IsSourceRefused number source.now) }
@@ -87,8 +88,8 @@ pub(crate) fn read_sources<'a>(
     alloc: Global,
     sources: &'a [SourceFile],
 ) -> Result<(Vec<FileTree>, Vec<Vec<Token<'a>>>), Refusal>
-    requires few { length sources.now ≤ 2000 }
-    requires small { All (λ file. length file.bytes ≤ 1048576) sources.now }
+    requires few { length sources.now ≤ max_sources }
+    requires small { All (λ file. length file.bytes ≤ max_file_bytes) sources.now }
     ensures trees { IfOk result (λ read. ReadAll 0 sources.now (map view_file read.0.items)) }
     ensures tokens { IfOk result (λ read. AreCut sources.now (map (λ list. view_tokens list.items) read.1.items)) }
     ensures refused { IfErr result (AreSourcesRefused sources.now) }

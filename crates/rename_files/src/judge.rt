@@ -1,6 +1,7 @@
 //! The refusals of a renaming, in their order.
 
 ghost use Rattle.std.specs.Prelude.{◌≡◌, ◌≤◌, None, Some, IfErr, IfOk, OnOk, Contains, length, map};
+ghost use Rattle.rotor_base.specs.Limits.{max_name_bytes, max_sources};
 ghost use Rattle.rotor_base.specs.Files.{IsProject, are_over};
 ghost use Rattle.rotor_base.specs.declared.place.Place.{Place};
 ghost use Rattle.ml_lexer.specs.Lexed.{view_tokens};
@@ -101,9 +102,9 @@ fn new_sources(
     new: &[u8],
 ) -> Result<Vec<SourceFile>, Memory>
     requires cut { AreCut files.now.entries (map (λ list. view_tokens list.items) read.now.tokens.items) }
-    requires new { length new.now ≤ 255 }
+    requires new { length new.now ≤ max_name_bytes }
     ensures made { IfOk result (λ sources. AreMade set.now new.now 0 files.now.entries sources.items) }
-    ensures few { IfOk result (λ sources. length sources.items ≤ 2000) }
+    ensures few { IfOk result (λ sources. length sources.items ≤ max_sources) }
 {
     let entries = files.entries();
     let lists = read.tokens.as_slice();

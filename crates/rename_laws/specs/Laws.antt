@@ -2,6 +2,7 @@
 use Rattle.std.specs.Prelude.{◌≡◌, ◌⊎◌, ℕ, ◌<◌, ◌≤◌, List, map, length, true, Some, None, All, Contains, Ok, slice_get}
 use Rattle.std.specs.List.Sorted.{IsStrictlySortedBy}
 use Rattle.std.specs.Ordering.{nat_cmp}
+use Rattle.rotor_base.specs.Limits.{max_file_bytes}
 use Rattle.rotor_base.specs.declared.place.Place.{Place}
 use Rattle.rotor_base.specs.declared.report.Renamed.{Renamed}
 use Rattle.rotor_base.specs.declared.target.Target.{Target}
@@ -73,7 +74,7 @@ pub record IsUndoPlace (files : FileSet) (done : Renamed) : Type 0 where
   pub source_at : slice_get (names_of files.entries) done.undo_at.file ≡ Some source
   pub number : number_of done.files.entries source ≡ Some done.undo_at.file
   pub above : 0 < done.undo_at.token
-  pub below : done.undo_at.token ≤ 1048576
+  pub below : done.undo_at.token ≤ max_file_bytes
   pub named : is_value_name done.old ≡ true
 
 -- Law: a renaming that is accepted rewrites sources, and nothing else

@@ -2,6 +2,7 @@
 
 ghost use Rattle.std.specs.Prelude.{◌≡◌, ◌≤◌, ◌∷◌, ◌++◌, ◌&&◌, [], IfOk, OnOk, All, length, if◌then◌else◌};
 ghost use Rattle.std.specs.BTreeSet.{contains};
+ghost use Rattle.rotor_base.specs.Limits.{max_file_bytes, max_name_bytes, max_sources};
 ghost use Rattle.rotor_base.specs.Place.{place_cmp};
 ghost use Rattle.ml_lexer.specs.Lexed.{Lexed, view_tokens};
 ghost use Rattle.ml_lexer.specs.Respelled.{respelled};
@@ -25,9 +26,9 @@ pub fn new_bytes(
     set: &BTreeSet<Place>,
     new: &[u8],
 ) -> Result<Vec<u8>, Memory>
-    requires source { length source.now ≤ 1048576 }
+    requires source { length source.now ≤ max_file_bytes }
     requires cut { Lexed source.now (view_tokens tokens.now) }
-    requires new { length new.now ≤ 255 }
+    requires new { length new.now ≤ max_name_bytes }
     ensures { IfOk result (λ bytes. bytes.items ≡ respelled source.now (view_tokens tokens.now) (hit_words set.now file new.now 1 (view_tokens tokens.now))) }
 {
     let edits = edits_of(alloc, tokens, file, set, new)?;
@@ -42,8 +43,8 @@ fn edits_of(
     set: &BTreeSet<Place>,
     new: &[u8],
 ) -> Result<Vec<Edit>, Memory>
-    requires tokens { length tokens.now ≤ 1048576 }
-    requires new { length new.now ≤ 255 }
+    requires tokens { length tokens.now ≤ max_file_bytes }
+    requires new { length new.now ≤ max_name_bytes }
     ensures words { IfOk result (λ list. GiveWords (view_tokens tokens.now) (hit_words set.now file new.now 1 (view_tokens tokens.now)) list.items) }
     ensures short { IfOk result (λ list. All HasShortText list.items) }
 {
@@ -95,7 +96,7 @@ fn is_lower(class: Class) -> bool
 
 /// The number of the first source with which those up to it are over the limits on bytes.
 pub fn first_over(files: &[SourceFile]) -> Option<u32>
-    requires { length files.now ≤ 2000 }
+    requires { length files.now ≤ max_sources }
     ensures { result ≡ position_with are_over files.now }
 {
     let mut total: u64 = 0;

@@ -2,6 +2,7 @@
 
 ghost use Rattle.std.specs.Prelude.{◌≡◌, ◌<◌, ◌≤◌, IfSome, length};
 ghost use Rattle.std.specs.Option.{option_copied};
+ghost use Rattle.rotor_base.specs.Limits.{max_file_bytes, max_sources};
 ghost use Rattle.ml_lexer.specs.Lexed.{view_tokens};
 ghost use Rattle.shape_core.specs.Node.{entries_of};
 ghost use Rattle.shape_core.specs.Shape.{entries_in, find_mod, find_mty, or_else};
@@ -12,7 +13,7 @@ use shape_core::{Scope, Shared, mod_in, mod_of, mty_in, mty_of, val_in, val_of};
 
 /// The number of the source of a name.
 pub fn number_of(files: &[SourceFile], name: &[u8]) -> Option<u32>
-    requires { length files.now ≤ 2000 }
+    requires { length files.now ≤ max_sources }
     ensures found { result ≡ number_of files.now name.now }
     ensures within { IfSome result (λ number. number < length files.now) }
 {
@@ -28,8 +29,8 @@ pub fn number_of(files: &[SourceFile], name: &[u8]) -> Option<u32>
 
 /// The number of the token that holds the byte at a line and a column, all three from 1.
 pub fn token_at(bytes: &[u8], tokens: &[Token], line: u32, column: u32) -> Option<u32>
-    requires bytes { length bytes.now ≤ 1048576 }
-    requires tokens { length tokens.now ≤ 1048576 }
+    requires bytes { length bytes.now ≤ max_file_bytes }
+    requires tokens { length tokens.now ≤ max_file_bytes }
     ensures { result ≡ token_over (line, column) bytes.now (view_tokens tokens.now) }
 {
     let offset = offset_of(bytes, line, column)?;
@@ -38,7 +39,7 @@ pub fn token_at(bytes: &[u8], tokens: &[Token], line: u32, column: u32) -> Optio
 
 /// The offset of the byte at a line and a column; a line ends before its LF.
 fn offset_of(bytes: &[u8], line: u32, column: u32) -> Option<u32>
-    requires { length bytes.now ≤ 1048576 }
+    requires { length bytes.now ≤ max_file_bytes }
     ensures { result ≡ offset_of (line, column) bytes.now }
 {
     let mut offset: u32 = 0;
@@ -61,7 +62,7 @@ fn offset_of(bytes: &[u8], line: u32, column: u32) -> Option<u32>
 
 /// The number of the token that holds a byte, from 1.
 fn lexeme_over(tokens: &[Token], offset: u32) -> Option<u32>
-    requires { length tokens.now ≤ 1048576 }
+    requires { length tokens.now ≤ max_file_bytes }
     ensures { result ≡ lexeme_over offset (view_tokens tokens.now) }
 {
     let mut number: u32 = 1;

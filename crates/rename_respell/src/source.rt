@@ -1,6 +1,7 @@
 //! The bytes of a source with new words at its places.
 
 ghost use Rattle.std.specs.Prelude.{◌≡◌, ◌≤◌, ◌++◌, IfOk, OnOk, length, option_copied};
+ghost use Rattle.rotor_base.specs.Limits.{max_file_bytes};
 ghost use Rattle.ml_lexer.specs.Lexed.{Lexed, view_tokens};
 ghost use Rattle.ml_lexer.specs.Respelled.{respelled};
 ghost use Rattle.binding_model.specs.Renaming.{in_file};
@@ -20,7 +21,7 @@ pub fn respell_source(
     file: u32,
     words: &NewWords,
 ) -> Result<Vec<u8>, Memory>
-    requires small { length source.now ≤ 1048576 }
+    requires small { length source.now ≤ max_file_bytes }
     requires cut { Lexed source.now (view_tokens tokens.now) }
     ensures { IfOk result (λ bytes. bytes.items ≡ respelled source.now (view_tokens tokens.now) (new_texts (in_file (words_in words.now.names words.now.goals) file) 1 (view_tokens tokens.now))) }
 {

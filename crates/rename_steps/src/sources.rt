@@ -6,6 +6,7 @@ ghost use Rattle.std.specs.List.{list_any};
 ghost use Rattle.std.specs.Ordering.{nat_cmp};
 ghost use Rattle.ml_lexer.specs.Lexed.{Lexed, view_tokens};
 ghost use Rattle.std.specs.Option.{option_map};
+ghost use Rattle.rotor_base.specs.Limits.{max_file_bytes, max_name_bytes, max_sources};
 ghost use Rattle.rotor_base.specs.Files.{names_of, too_large, IsProject};
 ghost use Rattle.rename_model.specs.Report.{hit_files};
 ghost use Rattle.rename_steps.specs.Sources.{IsMade};
@@ -24,9 +25,9 @@ pub fn new_source(
     set: &BTreeSet<Place>,
     new: &[u8],
 ) -> Result<SourceFile, Memory>
-    requires small { length source.now.bytes ≤ 1048576 }
+    requires small { length source.now.bytes ≤ max_file_bytes }
     requires cut { Lexed source.now.bytes (view_tokens tokens.now) }
-    requires new { length new.now ≤ 255 }
+    requires new { length new.now ≤ max_name_bytes }
     ensures { IfOk result (IsMade set.now new.now file source.now) }
 {
     let bytes = new_bytes(alloc, source.bytes.as_slice(), tokens, file, set, new)?;
@@ -65,7 +66,7 @@ pub fn changed_files(
     places: &[Place],
     sources: &[SourceFile],
 ) -> Result<Vec<u32>, Memory>
-    requires { length sources.now ≤ 2000 }
+    requires { length sources.now ≤ max_sources }
     ensures { IfOk result (λ numbers. numbers.items ≡ hit_files places.now 0 sources.now) }
 {
     let files = files_of(alloc, places)?;

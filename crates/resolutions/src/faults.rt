@@ -2,6 +2,7 @@
 
 ghost use Rattle.std.specs.Prelude.{◌≡◌, ◌≤◌, None, length, map};
 ghost use Rattle.std.specs.Bool.{Decides};
+ghost use Rattle.rotor_base.specs.Limits.{max_name_bytes};
 ghost use Rattle.ml_syntax.specs.Sound.{IsSound};
 ghost use Rattle.ml_syntax.specs.View.{view_project};
 ghost use Rattle.binding_model.specs.Facts.{facts as facts_of};
@@ -130,7 +131,7 @@ fn renamed_source(
     set: &BTreeSet<Place>,
     new: &[u8],
 ) -> Result<SourceFile, Memory>
-    requires { length new.now ≤ 255 }
+    requires { length new.now ≤ max_name_bytes }
 {
     let bytes = source.bytes.as_slice();
     if bytes.len() > MAX_FILE_BYTES as usize {

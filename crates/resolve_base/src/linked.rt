@@ -1,6 +1,7 @@
 //! Links that are added to what a resolver has in hand, while their work is within its bound.
 
 ghost use Rattle.std.specs.Prelude.{◌≡◌, ◌≤◌, ◌+◌, ◌++◌, OnOk, length, nat_lt};
+ghost use Rattle.rotor_base.specs.Limits.{max_work};
 ghost use Rattle.shape_core.specs.Shape.{vals, entries_in};
 ghost use Rattle.shape_core.specs.Node.{entries_of};
 ghost use Rattle.binding_model.specs.Steps.{MatchOf, PinOf, TieOf};
@@ -65,7 +66,7 @@ pub fn pinned(alloc: Global, found: &mut Found, shape: &Shared) -> Result<(), Me
 
 /// Adds links and their work.
 fn add_links(found: &mut Found, links: &[Link], work: u32) -> Result<(), Memory>
-    requires { found.old.sums.work ≤ 4194304 }
+    requires { found.old.sums.work ≤ max_work }
     ensures { OnOk result (found.new ≡ record found.old { links = found.old.links ++ links.now; sums = record found.old.sums { work = found.old.sums.work + work } }) }
 {
     for link in links {
@@ -92,7 +93,7 @@ pub fn tied(found: &mut Found, part: &Shared, before: &Shared) -> Result<(), Mem
 
 /// Whether more work is over the bound.
 fn exceeds(found: &Found, work: u64) -> bool
-    ensures { result ≡ nat_lt 4194304 (found.now.sums.work + work) }
+    ensures { result ≡ nat_lt max_work (found.now.sums.work + work) }
 {
     found.sums.work > MAX_WORK || work > MAX_WORK - found.sums.work
 }

@@ -8,6 +8,7 @@ use Rattle.std.specs.Cmp.Lexicographic.{slice_cmp}
 use Rattle.std.specs.Bool.{beq}
 use Rattle.std.specs.Str.{bytes_eq}
 use Rattle.std.specs.Str.Lines.{lines}
+use Rattle.rotor_base.specs.Limits.{max_file_bytes, max_sources, max_total_bytes}
 use Rattle.rotor_base.specs.Stem.{is_source_name, is_body_name}
 use Rattle.rotor_base.specs.Unit.{unit_of}
 use Rattle.rotor_base.specs.declared.source.SourceFile.{SourceFile}
@@ -27,11 +28,11 @@ first_with test (x ∷ xs) = if test (x ∷ []) then Some x else first_with (λ 
 
 -- there are more than 2,000 sources
 unfoldable pub too_many : List SourceFile → Option LoadError
-too_many files = if nat_lt 2000 (length files) then Some (TooMany (length files)) else None
+too_many files = if nat_lt max_sources (length files) then Some (TooMany (length files)) else None
 
 -- one of these sources has more than 1,048,576 bytes, or all of them together more than 8,388,608
 abbrev pub are_over : List SourceFile → Bool
-are_over files = list_any (λ file. nat_lt 1048576 (length file.bytes)) files || nat_lt 8388608 (sum_by (λ file. length file.bytes) files)
+are_over files = list_any (λ file. nat_lt max_file_bytes (length file.bytes)) files || nat_lt max_total_bytes (sum_by (λ file. length file.bytes) files)
 
 -- the first source with which those up to it are over the limits on bytes
 unfoldable pub too_large : List SourceFile → Option LoadError
@@ -40,7 +41,7 @@ too_large files = option_map (λ file. TooLarge file.name) (first_with are_over 
 -- the manifest has more than 1,048,576 bytes
 unfoldable pub long_manifest : Option (List ℕ) → Option LoadError
 long_manifest None = None
-long_manifest (Some bytes) = if nat_lt 1048576 (length bytes) then Some (TooLarge (codes "rotor.units")) else None
+long_manifest (Some bytes) = if nat_lt max_file_bytes (length bytes) then Some (TooLarge (codes "rotor.units")) else None
 
 -- two sources are of one kind and give one unit
 abbrev pub are_twins : SourceUnit → SourceUnit → Bool

@@ -3,6 +3,7 @@ use Rattle.std.specs.Prelude.{ℕ, List, [], ◌∷◌, Bool, false, ◌==◌, �
 use Rattle.std.specs.Char.{is_ascii_lowercase, is_ascii_alphanumeric}
 use Rattle.std.specs.List.{list_all, list_any}
 use Rattle.std.specs.Str.{bytes_eq}
+use Rattle.rotor_base.specs.Limits.{max_name_bytes}
 
 -- a value name begins with a lower-case letter or `_`
 abbrev pub starts_as_value_name : List ℕ → Bool
@@ -36,4 +37,4 @@ is_reserved_word word = is_keyword_word word || bytes_eq word (codes "_")
 
 -- the words that may name a value
 abbrev pub is_value_name : List ℕ → Bool
-is_value_name word = starts_as_value_name word && nat_le (length word) 255 && not (is_reserved_word word) && list_all is_identifier_byte word
+is_value_name word = starts_as_value_name word && nat_le (length word) max_name_bytes && not (is_reserved_word word) && list_all is_identifier_byte word

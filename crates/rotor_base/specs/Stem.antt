@@ -3,6 +3,7 @@ use Rattle.std.specs.Prelude.{ℕ, List, [], ◌∷◌, Bool, false, ◌==◌, �
 use Rattle.std.specs.Char.{is_ascii_alphabetic, is_ascii_alphanumeric}
 use Rattle.std.specs.List.{list_all}
 use Rattle.std.specs.Str.{bytes_eq}
+use Rattle.rotor_base.specs.Limits.{max_name_bytes}
 
 -- letters, digits and `_`
 abbrev pub is_stem_byte : ℕ → Bool
@@ -11,7 +12,7 @@ is_stem_byte b = is_ascii_alphanumeric b || b == 95
 -- a letter, then letters, digits and `_`, at most 255 bytes in all
 abbrev pub is_stem_word : List ℕ → Bool
 is_stem_word [] = false
-is_stem_word (b ∷ bs) = is_ascii_alphabetic b && nat_le (length (b ∷ bs)) 255 && list_all is_stem_byte (b ∷ bs)
+is_stem_word (b ∷ bs) = is_ascii_alphabetic b && nat_le (length (b ∷ bs)) max_name_bytes && list_all is_stem_byte (b ∷ bs)
 
 -- a stem and then the ending
 unfoldable pub ends_stem : List ℕ → List ℕ → Bool

@@ -1,6 +1,7 @@
 //! The files of a project.
 ghost use Rattle.std.specs.Prelude.{◌≡◌, ◌≤◌, None, IfOk, IfErr, OnOk, All, length, sum_by};
 ghost use Rattle.std.specs.Option.{option_copied, option_map};
+ghost use Rattle.rotor_base.specs.Limits.{max_file_bytes, max_sources, max_total_bytes};
 ghost use Rattle.rotor_base.specs.Files.{AreSources, IsProject, IsRefusedBy, load_refusal};
 
 use crate::load_checks::{
@@ -53,9 +54,9 @@ impl Files {
     pub fn entries(&self) -> &[SourceFile]
         ensures entries { result.now ≡ self.now.entries }
         ensures project { IsProject self.now }
-        ensures few { length result.now ≤ 2000 }
-        ensures small { All (λ file. length file.bytes ≤ 1048576) result.now }
-        ensures total { sum_by (λ file. length file.bytes) result.now ≤ 8388608 }
+        ensures few { length result.now ≤ max_sources }
+        ensures small { All (λ file. length file.bytes ≤ max_file_bytes) result.now }
+        ensures total { sum_by (λ file. length file.bytes) result.now ≤ max_total_bytes }
     {
         &self.entries
     }

@@ -4,6 +4,7 @@ ghost use Rattle.std.specs.List.{list_any};
 ghost use Rattle.std.specs.Option.{ForSome, option_copied, option_map};
 ghost use Rattle.std.specs.Str.{bytes_eq};
 ghost use Rattle.std.specs.Str.Lines.{lines};
+ghost use Rattle.rotor_base.specs.Limits.{max_file_bytes};
 ghost use Rattle.rotor_base.specs.Files.{IsRefusedBy, too_many, too_large, long_manifest, double_unit, bad_manifest, bad_line, least_word, lesser, doubled_units, are_twins};
 
 use crate::lines::next_line;
@@ -124,7 +125,7 @@ pub(crate) fn check_manifest(
     units: Vec<SourceUnit>,
     manifest: &Option<Vec<u8>>,
 ) -> Result<(), LoadError>
-    requires { ForSome manifest.now (λ bytes. length bytes.items ≤ 1048576) }
+    requires { ForSome manifest.now (λ bytes. length bytes.items ≤ max_file_bytes) }
     ensures passed { OnOk result (bad_manifest units.items (option_map (λ bytes. bytes.items) manifest.now) ≡ None) }
     ensures refused { IfErr result (IsRefusedBy (bad_manifest units.items (option_map (λ bytes. bytes.items) manifest.now))) }
 {
@@ -140,7 +141,7 @@ pub(crate) fn check_manifest(
 /// The number of the first line that names no unit, or one that an earlier line names; else, where a unit has no line,
 /// one more than the number of lines.
 fn first_bad_line(units: Vec<SourceUnit>, manifest: &[u8]) -> Option<u32>
-    requires { length manifest.now ≤ 1048576 }
+    requires { length manifest.now ≤ max_file_bytes }
     ensures { result ≡ bad_line (lines manifest.now) units.items }
 {
     let mut left = units;

@@ -1,5 +1,6 @@
 -- What an index of a list of entries tells.
 use Rattle.std.specs.Prelude.{◌≡◌, ◌≤◌, ℕ, suc, Bool, false, List, [], ◌∷◌, ◌++◌, slice_get, Option, Some, None, bytes_eq, nat_eq}
+use Rattle.rotor_base.specs.Limits.{max_levels}
 use Rattle.shape_core.specs.declared.shared.SharedEntry.{SharedEntry}
 use Rattle.shape_core.specs.declared.shared.SharedEntry.TheVariants as e
 use Rattle.shape_core.specs.declared.shared.Form.{Form}
@@ -121,5 +122,5 @@ IsIndexed f.Opaque = Unit {0}
 pub record IsSound (n : Node) : Type 0 where
   pub weight : n.weight ≡ capped (weight (shape_of n.form))
   pub levels : n.levels ≡ depth (shape_of n.form)
-  pub bound : n.levels ≤ 3000
+  pub bound : n.levels ≤ max_levels
   pub indexed : IsIndexed n.form

@@ -1,6 +1,7 @@
 //! The shared form of shapes.
 
 ghost use Rattle.std.specs.Prelude.{◌≡◌, ◌≤◌, ◌+◌, IfOk, option_copied};
+ghost use Rattle.rotor_base.specs.Limits.{max_levels};
 ghost use Rattle.shape_core.specs.Shape as pure;
 ghost use Rattle.shape_core.specs.Node.{entries_of, and_then, shape_of, kind_of};
 ghost use Rattle.shape_core.specs.Index.{IsIndexed};
@@ -154,7 +155,7 @@ pub fn weight_of(shape: &Shared) -> u64
 /// How many levels of shapes stand below a shape: at most [`MAX_LEVELS`]. It takes no memory.
 pub fn levels_of(shape: &Shared) -> usize
     ensures levels { result ≡ pure.depth shape.now }
-    ensures bound { result ≤ 3000 }
+    ensures bound { result ≤ max_levels }
 {
     shape.node.levels
 }

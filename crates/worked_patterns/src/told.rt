@@ -1,6 +1,7 @@
 //! What a source is answered with.
 
 ghost use Rattle.std.specs.Prelude.{◌≤◌, length, IfOk};
+ghost use Rattle.rotor_base.specs.Limits.{max_file_bytes};
 
 use ml_lexer::{LexError, lex};
 use ml_syntax::Pat;
@@ -61,7 +62,7 @@ fn production(pat: &Pat) -> &'static str {
 
 /// The lexemes of a source.
 fn lexemes<'a>(alloc: Global, source: &'a [u8]) -> Result<Vec<Token<'a>>, Told>
-    ensures { IfOk result (λ tokens. length tokens.items ≤ 1048576) }
+    ensures { IfOk result (λ tokens. length tokens.items ≤ max_file_bytes) }
 {
     if source.len() > 1_048_576 {
         return Err(Told::NoLexemes);
