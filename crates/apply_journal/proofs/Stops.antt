@@ -18,7 +18,7 @@ plan_no_source : is_source_name plan_name ≡ false
 unfolding ends_stem
 plan_no_source = refl
 
-gate_no_source : is_source_name gate_name ≡ false
+pub gate_no_source : is_source_name gate_name ≡ false
 unfolding ends_stem
 gate_no_source = refl
 
@@ -28,7 +28,7 @@ plan_counts_not = ap (λ b. b || bytes_eq plan_name (codes "rotor.units")) plan_
 gate_counts_not : counts gate_name ≡ false
 gate_counts_not = ap (λ b. b || bytes_eq gate_name (codes "rotor.units")) gate_no_source
 
-not_named : (q : Words) (files : List SourceFile) → is_source_name q ≡ false → list_all is_source_name (names_of files) ≡ true → named q files ≡ false
+pub not_named : (q : Words) (files : List SourceFile) → is_source_name q ≡ false → list_all is_source_name (names_of files) ≡ true → named q files ≡ false
 not_named q [] f h = refl
 not_named q (x ∷ files) f h = by (bytes_eq q x.name) refl (not_named q files f (both_true _ _ h).1) where
   turned : bytes_eq x.name q ≡ false
@@ -296,3 +296,11 @@ pub whole_again : (held : FileMap) (files : List SourceFile) → IsOpen held →
 whole_again held files o p =
     let whole = whole_recovery held files o p in
     (whole.0, subst (Recovers held) (sym whole.1) (planned files o p))
+
+-- `--safe` leaves every other file than the plan and the gate as the writes of the files alone do
+pub safe_others : (held : FileMap) (files : List SourceFile) (q : List ℕ) → bytes_eq q plan_name ≡ false → bytes_eq q gate_name ≡ false
+    → get (after (safe_writes files) held) q ≡ get (after files held) q
+safe_others held files q p g =
+    ap (λ (n : FileMap). get n q) (after-append files (file_of gate_name [] ∷ []) (ready held files))
+    ∙ get_other (after files (ready held files)) gate_name [] q g
+    ∙ get_after_same files (ready held files) held q (λ none. get_other (insert held plan_name (plan_text files)) gate_name open_bytes q g ∙ get_other held plan_name (plan_text files) q p)
