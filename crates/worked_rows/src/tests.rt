@@ -2,5 +2,7 @@ mod calls;
 mod faults;
 mod graph;
 mod lexemes;
+mod limits;
 mod outside;
 mod run;
+mod system;
