@@ -1,8 +1,8 @@
-// The looks of matches and of pinnings.
+// The looks of a match.
 use crate::tests::making::made;
 use crate::{Piece, Sketch, place};
 use rotor_base::{Foot, LinkLook, Looks, Memory, Name, Row, Watch};
-use sig_match::{match_looks, pin_looks};
+use sig_match::match_looks;
 use std::alloc::Global;
 use std::test::Fail;
 
@@ -40,11 +40,6 @@ fn looks_of_match(
     match_looks(alloc, &src, &tgt, &watch(alloc, watched)?)
 }
 
-fn looks_of_pinning(alloc: Global, shape: &Sketch, watched: &Watched) -> Result<Looks, Memory> {
-    let shape = made(alloc, shape)?;
-    pin_looks(alloc, &shape, &watch(alloc, watched)?)
-}
-
 /// Whether two looks are of one link and tell the same of its item.
 fn tell_one_item(one: &LinkLook, other: &LinkLook) -> bool {
     one.number == other.number
@@ -71,48 +66,6 @@ fn are(looks: &Looks, want: &[LinkLook], passed: u64) -> bool {
     let same = found.iter().zip(want).all(|(one, other)| tell_one_item(one, other)
         && tell_one_source(one, other));
     same && found.len() == want.len() && looks.refs.as_slice().is_empty() && looks.passed == passed
-}
-
-/// The look of row turned-parameter: its parameter's value is asked of the signature.
-fn turned() -> LinkLook {
-    LinkLook {
-        number: 0,
-        item: place(21),
-        is_new: false,
-        later_foot: false,
-        later_old: false,
-        later_new: false,
-        pinned: false,
-        darks: 0,
-        by: None,
-        foot: Some((0, place(7), 0)),
-        old: None,
-        new: None,
-    }
-}
-
-const TURNED_SRC: Sketch = Sketch::Functor(
-    &Sketch::Struct(&[Piece::Val("a", 21)]),
-    &Sketch::Struct(&[Piece::Val("b", 57)]),
-);
-
-const TURNED_TGT: Sketch = Sketch::Functor(
-    &Sketch::Struct(&[Piece::Val("a", 7), Piece::Val("k", 11)]),
-    &Sketch::Struct(&[Piece::Val("b", 39)]),
-);
-
-const TURNED_WATCHED: Watched = Watched {
-    old: "a",
-    new: "c",
-    foot: &[7, 21],
-};
-
-#[test]
-fn turned_parameter(rt: HostRuntime) -> Result<(), Fail> {
-    let alloc = rt.alloc();
-    let looks = looks_of_match(alloc, &TURNED_SRC, &TURNED_TGT, &TURNED_WATCHED)?;
-    assert!(rt; are(&looks, &[turned()], 2));
-    Ok(())
 }
 
 /// The looks of a value that later ones hide, of a new name, and of one that stays; in the source each of the three
@@ -193,39 +146,5 @@ fn names_that_meet(rt: HostRuntime) -> Result<(), Fail> {
     let alloc = rt.alloc();
     let looks = looks_of_match(alloc, &MEETING_SRC, &MEETING_TGT, &MEETING_WATCHED)?;
     assert!(rt; are(&looks, &[first(), second(), third()], 4));
-    Ok(())
-}
-
-/// The look of row outside-unit.
-fn pinned() -> LinkLook {
-    LinkLook {
-        number: 0,
-        item: place(2),
-        is_new: false,
-        later_foot: false,
-        later_old: false,
-        later_new: false,
-        pinned: true,
-        darks: 0,
-        by: None,
-        foot: None,
-        old: None,
-        new: None,
-    }
-}
-
-const OUTSIDE_SHAPE: Sketch = Sketch::Struct(&[Piece::Val("f", 2)]);
-
-const OUTSIDE_WATCHED: Watched = Watched {
-    old: "f",
-    new: "g",
-    foot: &[2],
-};
-
-#[test]
-fn outside_unit(rt: HostRuntime) -> Result<(), Fail> {
-    let alloc = rt.alloc();
-    let looks = looks_of_pinning(alloc, &OUTSIDE_SHAPE, &OUTSIDE_WATCHED)?;
-    assert!(rt; are(&looks, &[pinned()], 1));
     Ok(())
 }

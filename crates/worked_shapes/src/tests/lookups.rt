@@ -1,8 +1,7 @@
 // Look-ups through Dark entries, in both forms and on a scope.
-use crate::tests::makers::{cut, value};
 use crate::{Piece, Sketch, decl, entries, place, plain};
 use rotor_base::{Goal, Memory, Name, Place};
-use shape_core::{Scope, SharedEntry, find_val, share, val_of};
+use shape_core::{Scope, SharedEntry, find_val, share, val_in, val_of};
 use std::alloc::Global;
 use std::test::Fail;
 
@@ -91,6 +90,17 @@ fn through_dark(rt: HostRuntime) -> Result<(), Fail> {
 
 /// How often the scope grows and shrinks.
 const ROUNDS: u32 = 20_000;
+
+fn value(scope: &Scope, name: &[u8]) -> Option<Goal> {
+    val_in(scope, name)
+}
+
+/// Keeps the first entries of a scope that has so many.
+fn cut(scope: &mut Scope, len: usize) {
+    if len <= scope.len() {
+        scope.cut(len);
+    }
+}
 
 /// Pushes a value `x` and a Dark entry.
 fn push_both(alloc: Global, scope: &mut Scope, dark: u32) -> Result<(), Memory> {

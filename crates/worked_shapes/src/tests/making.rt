@@ -1,10 +1,7 @@
 // Shared shapes of tables, by the makers.
 use crate::{Piece, Sketch, decl, place};
 use rotor_base::{Memory, Name};
-use shape_core::{
-    Shared, SharedEntry, make_functor, make_opaque, make_struct, make_unitary, mod_of, mty_of,
-    param, result,
-};
+use shape_core::{Shared, SharedEntry, make_functor, make_opaque, make_struct, make_unitary};
 use std::alloc::Global;
 
 /// The shared shape of a sketch.
@@ -52,31 +49,4 @@ pub fn module(alloc: Global, name: &str, shape: Shared) -> Result<SharedEntry, M
 /// A module type of that name and shape.
 pub fn module_type(alloc: Global, name: &str, shape: Shared) -> Result<SharedEntry, Memory> {
     Ok(SharedEntry::Mty(Name::new(alloc, name.as_bytes())?, shape))
-}
-
-/// A step into a shape.
-#[derive(Clone, Copy)]
-pub enum Step {
-    Mod(&'static str),
-    Mty(&'static str),
-    Param,
-    Result,
-}
-
-/// The part of a shape behind some steps.
-pub fn part<'a>(shape: &'a Shared, steps: &[Step]) -> Option<&'a Shared> {
-    let mut part = shape;
-    for step in steps {
-        part = step_into(part, *step)?;
-    }
-    Some(part)
-}
-
-fn step_into(shape: &Shared, step: Step) -> Option<&Shared> {
-    match step {
-        Step::Mod(x) => mod_of(shape, x.as_bytes()),
-        Step::Mty(x) => mty_of(shape, x.as_bytes()),
-        Step::Param => param(shape),
-        Step::Result => result(shape),
-    }
 }

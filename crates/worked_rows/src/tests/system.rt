@@ -1,12 +1,46 @@
 // The system's folder: files, a folder of a source's name, a source that leads nowhere, and a name that is no text.
-use super::told::{Told, is_told};
 use project_load::load;
+use rotor_base::{LoadError, SourceFile};
 use std::alloc::{Allocator, Global};
 use std::fs::{Files, Metadata, OpenOptions};
 use std::process::Abort;
 use std::test::Fail;
 use std::{fs, io};
 use tree_io::HostTree;
+
+/// The answer of a load.
+#[derive(Clone, Copy)]
+enum Told {
+    /// The sources in order, with their texts.
+    Loaded(&'static [(&'static str, &'static str)]),
+    Read,
+}
+
+/// Whether a load answered so.
+fn is_told(answer: &Result<rotor_base::Files, LoadError>, told: &Told) -> bool {
+    match answer {
+        Ok(files) => match told {
+            Told::Loaded(sources) => are_sources(files.entries(), sources),
+            Told::Read => false,
+        },
+        Err(LoadError::Read) => matches!(told, Told::Read),
+        Err(_) => false,
+    }
+}
+
+/// Whether these are the sources with their texts.
+fn are_sources(files: &[SourceFile], sources: &[(&str, &str)]) -> bool {
+    if files.len() != sources.len() {
+        return false;
+    }
+    for (file, (name, text)) in files.iter().zip(sources.iter()) {
+        let is_same = file.name.as_str() == *name && file.bytes.as_slice() == text.as_bytes();
+        if !is_same {
+            return false;
+        }
+    }
+    true
+}
 
 /// The system's files, with a listing of its own.
 #[derive(Clone, Copy)]
@@ -62,7 +96,7 @@ impl<'a, R: Files> Files for Listed<'a, R> {
 }
 
 #[test]
-fn host_tree(rt: HostRuntime) -> Result<(), Fail> {
+fn loaded_folder(rt: HostRuntime) -> Result<(), Fail> {
     let alloc = rt.alloc();
     fs::write(&rt, "b.ml", "let y = 1")?;
     fs::write(&rt, "a.mli", "val x : int")?;

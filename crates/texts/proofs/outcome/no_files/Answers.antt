@@ -2,7 +2,7 @@ use Rattle.std.proofs.Common.{◌≡◌, List, [], ◌∷◌, refl}
 use Rattle.std.specs.List.Sorted.{IsStrictlySortedBy}
 use Rattle.rotor_base.specs.Files.{AreSources}
 use Rattle.rotor_base.specs.declared.source.SourceFile.{SourceFile}
-use Rattle.worked_texts.proofs.told.no_files.Goals as goal
+use Rattle.texts.proofs.outcome.no_files.Goals as goal
 
 no_sources : (files : List SourceFile) → files ≡ [] → AreSources files
 unfolding IsStrictlySortedBy

@@ -1,6 +1,0 @@
-mod faults;
-mod folders;
-mod limits;
-mod lines;
-mod system;
-mod told;

@@ -1,2 +1,0 @@
-mod reports;
-mod words;
