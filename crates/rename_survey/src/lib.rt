@@ -7,5 +7,6 @@ mod calls;
 mod laws;
 
 pub use answer::{Binder, Survey};
+pub use binders::list_binders;
 pub use calls::survey;
 pub use laws::listed_are_binders;

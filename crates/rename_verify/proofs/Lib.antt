@@ -1,0 +1,13 @@
+pub mod Answered
+pub mod Alone
+pub mod Parting
+pub mod Cutting
+pub mod Fixing
+pub mod Least
+pub mod Texts
+pub mod Sources
+pub mod Given
+pub mod Renamed
+pub mod Listing
+pub mod Reasons
+pub mod Judged

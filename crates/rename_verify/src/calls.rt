@@ -1,0 +1,97 @@
+//! The verdict on two projects.
+
+ghost use Rattle.std.specs.Prelude.{◌≡◌, Err, IfErr, IfOk, List, Ok, map, None};
+ghost use Rattle.rotor_base.specs.Files.{IsProject, names_of};
+ghost use Rattle.rotor_base.specs.declared.refusal.Refusal.TheVariants as refusal;
+ghost use Rattle.ml_lexer.specs.Lexed.{view_tokens};
+ghost use Rattle.ml_syntax.specs.Tree.{UnitTree};
+ghost use Rattle.ml_syntax.specs.View.{view_project};
+ghost use Rattle.binding_model.specs.Facts.{facts as facts_of};
+ghost use Rattle.binding_model.specs.Sums.{heavy};
+ghost use Rattle.project_reading.specs.Reads.{Reads};
+ghost use Rattle.project_reading.specs.Sources.{AreCut};
+ghost use Rattle.rename_project.specs.Steps.{IsRefusedFor};
+ghost use Rattle.rename_verify.specs.Steps.{HasFirstFault, IsSameShape};
+ghost use Rattle.rename_verify.specs.Verdict.{IsVerdict, Verdicts};
+
+use crate::bytes::first_spot;
+use crate::candidate::{candidate, changes, lex_all};
+use crate::fixed::least_fixed;
+use crate::names::other_source;
+use crate::verdict::{Verdict, Why};
+use capture_check::{Fault, first_fault};
+use project_reading::{Read, read_project};
+use rename_project::{resolve, resolve_facts};
+use rename_respell::respell_read;
+use rename_survey::list_binders;
+use rotor_base::{Facts, Files, Refusal};
+use std::alloc::Global;
+
+/// Whether a project is a valid respelling of another, by the renaming that gives each binder the word of the same token
+/// in the new sources.
+///
+/// # Errors
+///
+/// The first refusal of `check` of the old files. `Memory`.
+pub fn verify(alloc: Global, old: &Files, new: &Files) -> Result<Verdict, Refusal>
+    ensures verdict { IfOk result (λ verdict. Verdicts old.now new.now (Ok verdict)) }
+    ensures refused { IfErr result (IsRefusedFor (λ why. Verdicts old.now new.now (Err why))) }
+{
+    let read = read_project(alloc, old)?;
+    let facts = resolve(alloc, &read.project)?.facts;
+    if let Some(name) = other_source(alloc, old, new)? {
+        return Ok(Verdict::No(Why::Sources { name }));
+    }
+    judge(alloc, old, new, &read, &facts)
+}
+
+/// The verdict on two projects whose sources have the same names and whose manifests are the same.
+fn judge(
+    alloc: Global,
+    old: &Files,
+    new: &Files,
+    read: &Read,
+    facts: &Facts,
+) -> Result<Verdict, Refusal>
+    requires reads { Reads old.now (view_project read.now.project) }
+    requires project { IsProject old.now }
+    requires cut { AreCut old.now.entries (map (λ list. view_tokens list.items) read.now.tokens.items) }
+    requires facts { facts.now ≡ facts_of (view_project read.now.project) }
+    requires light { heavy (view_project read.now.project) ≡ None }
+    requires names { names_of old.now.entries ≡ names_of new.now.entries }
+    requires manifest { old.now.manifest ≡ new.now.manifest }
+    ensures verdict { IfOk result (IsVerdict old.now new.now (view_project read.now.project)) }
+    ensures memory { IfErr result (λ why. why ≡ refusal.Memory) }
+{
+    let lists = lex_all(alloc, new.entries())?;
+    let binders = list_binders(alloc, &read.project)?;
+    let map = candidate(alloc, &binders, &lists)?;
+    let sources = respell_read(alloc, old, read, facts, &map)?;
+    if let Some(spot) = first_spot(&sources, new.entries()) {
+        return Ok(Verdict::No(Why::Bytes {
+            file: spot.file,
+            offset: spot.offset,
+        }));
+    }
+    let changes = changes(alloc, &binders, &lists)?;
+    if let Some(at) = least_fixed(alloc, &read.project, facts, &changes)? {
+        return Ok(Verdict::No(Why::Fixed { at }));
+    }
+    match broken(alloc, new, facts)? {
+        Some(fault) => Ok(Verdict::No(Why::Broken(fault))),
+        None => Ok(Verdict::Yes(changes)),
+    }
+}
+
+/// The first fault of the project that new files are read as, against the facts of the old one. `Memory` is the only
+/// error.
+fn broken(alloc: Global, new: &Files, facts: &Facts) -> Result<Option<Fault>, Refusal>
+    requires read { (us : List UnitTree) × Reads new.now us }
+    requires same { (us : List UnitTree) → Reads new.now us → IsSameShape facts.now us }
+    ensures fault { IfOk result (HasFirstFault new.now facts.now) }
+    ensures memory { IfErr result (λ why. why ≡ refusal.Memory) }
+{
+    let read = read_project(alloc, new)?;
+    let now = resolve_facts(alloc, &read.project)?.facts;
+    Ok(first_fault(alloc, &read.project, facts, &now)?)
+}

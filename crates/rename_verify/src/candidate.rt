@@ -1,0 +1,125 @@
+//! The candidate: the renaming that the words of the new sources suggest.
+
+ghost use Rattle.std.specs.Prelude.{◌≡◌, ◌≤◌, All, IfOk, OnOk, length, map, Some, None, unwrap_or, slice_get, [], ◌++◌, ◌∷◌, bytes_eq, if◌then◌else◌};
+ghost use Rattle.std.specs.Option.{option_copied};
+ghost use Rattle.rotor_base.specs.Limits.{max_file_bytes};
+ghost use Rattle.ml_lexer.specs.Lexed.{view_tokens};
+ghost use Rattle.rename_verify.specs.Candidate.{AreLexemes, AreLexemesOf, candidate, changes, given_name, if_lower, word_at};
+
+use crate::verdict::Change;
+use ml_lexer::{LexError, lex};
+use rename_survey::Binder;
+use rotor_base::{Class, Memory, Name, Place, SourceFile, Token};
+use std::alloc::Global;
+
+/// The lexemes of each source: none for a source that is not cut into lexemes. `Memory` is the only error.
+pub fn lex_all<'a>(
+    alloc: Global,
+    sources: &'a [SourceFile],
+) -> Result<Vec<Vec<Token<'a>>>, Memory>
+    requires { All (λ file. length file.bytes ≤ max_file_bytes) sources.now }
+    ensures { IfOk result (λ lists. AreLexemesOf sources.now (map (λ list. view_tokens list.items) lists.items)) }
+{
+    let mut lists = Vec::new(alloc);
+    for source in sources {
+        lists.push(lex_source(alloc, source)?)?;
+    }
+    Ok(lists)
+}
+
+/// The lexemes of a source: none if it is not cut into lexemes.
+fn lex_source<'a>(alloc: Global, source: &'a SourceFile) -> Result<Vec<Token<'a>>, Memory>
+    requires { length source.now.bytes ≤ max_file_bytes }
+    ensures { IfOk result (λ tokens. AreLexemes source.now.bytes (view_tokens tokens.items)) }
+{
+    match lex(alloc, source.bytes.as_slice()) {
+        Ok(tokens) => Ok(tokens),
+        Err(LexError::Bad { offset: _ }) => Ok(Vec::new(alloc)),
+        Err(LexError::LongName { offset: _ }) => Ok(Vec::new(alloc)),
+        Err(LexError::Memory) => Err(Memory),
+    }
+}
+
+/// The candidate's name for each binder. `Memory` is the only error.
+pub fn candidate(
+    alloc: Global,
+    binders: &[Binder],
+    lists: &[Vec<Token>],
+) -> Result<Vec<(Place, Name)>, Memory>
+    ensures { IfOk result (λ names. names.items ≡ candidate (map (λ list. view_tokens list.items) lists.now) binders.now) }
+{
+    let mut names = Vec::new(alloc);
+    for binder in binders {
+        let name = given_name(alloc, binder, lists)?;
+        names.push((binder.at, name))?;
+    }
+    Ok(names)
+}
+
+/// The binders that the candidate changes, each with its old name and its new one. `Memory` is the only error.
+pub fn changes(
+    alloc: Global,
+    binders: &[Binder],
+    lists: &[Vec<Token>],
+) -> Result<Vec<Change>, Memory>
+    ensures { IfOk result (λ list. list.items ≡ changes (map (λ list. view_tokens list.items) lists.now) binders.now) }
+{
+    let mut list = Vec::new(alloc);
+    for binder in binders {
+        let name = given_name(alloc, binder, lists)?;
+        add_change(alloc, &mut list, binder, name)?;
+    }
+    Ok(list)
+}
+
+/// Adds a binder with its new name, if it is another one.
+fn add_change(
+    alloc: Global,
+    list: &mut Vec<Change>,
+    binder: &Binder,
+    new: Name,
+) -> Result<(), Memory>
+    ensures { OnOk result (list.new.items ≡ (if bytes_eq binder.now.name new then list.old.items else list.old.items ++ (binder.now.at, binder.now.name, new) ∷ [])) }
+{
+    let old = binder.name.as_bytes();
+    if old == new.as_bytes() {
+        return Ok(());
+    }
+    let old = Name::new(alloc, old)?;
+    list.push((binder.at, old, new))?;
+    Ok(())
+}
+
+/// The candidate's name for a binder: the word of the same token, and its own name if there is none, or if it is an
+/// operator or its word is a label or a field too. `Memory` is the only error.
+fn given_name(alloc: Global, binder: &Binder, lists: &[Vec<Token>]) -> Result<Name, Memory>
+    ensures { IfOk result (λ name. name ≡ given_name (map (λ list. view_tokens list.items) lists.now) binder.now) }
+{
+    if binder.operator || binder.pun {
+        return Name::new(alloc, binder.name.as_bytes());
+    }
+    match word_at(lists, binder.at) {
+        Some(word) => Name::new(alloc, word),
+        None => Name::new(alloc, binder.name.as_bytes()),
+    }
+}
+
+/// The lower-case word at a place, if there is one.
+fn word_at<'a>(lists: &[Vec<Token<'a>>], at: Place) -> Option<&'a [u8]>
+    ensures { option_copied result ≡ word_at (map (λ list. view_tokens list.items) lists.now) at }
+{
+    let tokens = lists.get(at.file as usize)?;
+    let before = at.token.checked_sub(1)?;
+    let token = tokens.get(before as usize)?;
+    lower_word(token)
+}
+
+/// The text of a token that is a lower-case word.
+fn lower_word<'a>(token: &Token<'a>) -> Option<&'a [u8]>
+    ensures { option_copied result ≡ if_lower token.now.class token.now.bytes.now }
+{
+    match token.class {
+        Class::Lower => Some(token.bytes),
+        _ => None,
+    }
+}
