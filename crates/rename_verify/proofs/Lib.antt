@@ -11,3 +11,4 @@ pub mod Renamed
 pub mod Listing
 pub mod Reasons
 pub mod Judged
+pub mod One

@@ -47,7 +47,7 @@ as_many w n (o ∷ olds) (x ∷ a) h = ap suc (as_many w (suc n) olds a h.1)
 
 -- ---- there is no reason of a kind
 
-not_alone : (olds news : List Name) (x : Name) → olds ≡ news → IsAlone olds news x → ⊥
+pub not_alone : (olds news : List Name) (x : Name) → olds ≡ news → IsAlone olds news x → ⊥
 not_alone olds news x e (inl a) = a.1 (subst (λ l. Contains l x) e a.0)
 not_alone olds news x e (inr a) = a.1 (subst (λ l. Contains l x) (sym e) a.0)
 

@@ -6,3 +6,4 @@ pub mod Fixed
 pub mod Verdict
 pub mod Steps
 pub mod Text
+pub mod Laws

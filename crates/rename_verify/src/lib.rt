@@ -5,10 +5,12 @@ mod bytes;
 mod calls;
 mod candidate;
 mod fixed;
+mod laws;
 mod names;
 mod text;
 mod verdict;
 
+pub use calls::verify;
+pub use laws::verdicts_are_one;
 pub use text::verdict_text;
 pub use verdict::{Change, Verdict, Why};
-pub use calls::verify;

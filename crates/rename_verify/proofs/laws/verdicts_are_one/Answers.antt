@@ -1,0 +1,5 @@
+use Rattle.rename_verify.proofs.One.{verdicts_are_one}
+use Rattle.rename_verify.proofs.laws.verdicts_are_one.Goals as goal
+
+pub returns : goal.returns
+returns c = verdicts_are_one
