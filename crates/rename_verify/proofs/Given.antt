@@ -69,7 +69,7 @@ each_filtered P test (x ∷ L) h = by (test x) refl (each_filtered P test L h.1)
   by true t k = ((h.0, t), k)
   by false t k = k
 
-abbrev is_other : List UnitTree → Place × Name → Bool
+abbrev pub is_other : List UnitTree → Place × Name → Bool
 is_other us e = not (bytes_eq e.1 (name_of us e.0))
 
 other_name : (us : List UnitTree) (d : Place) (y : Name) → is_other us (d, y) ≡ true → y ≢ name_of us d
@@ -210,6 +210,16 @@ module _ (us : List UnitTree) (sound : IsSound us) where
 
     pub are_binders : Each (λ e. IsBinder us e.0) r
     are_binders = binder_all r given
+
+    kept_in : (L : Renaming) → Each IsGiven L → Each (λ e. IsBinder us e.0) (filter (is_other us) L)
+    kept_in [] h = tt
+    kept_in (e ∷ L) h = by (is_other us e) (kept_in L h.1) where
+      by : (b : Bool) → Each (λ z. IsBinder us z.0) (filter (is_other us) L) → Each (λ z. IsBinder us z.0) (cond b (e ∷ filter (is_other us) L) (filter (is_other us) L))
+      by true k = ((h.0.site, h.0.at, h.0.binds), k)
+      by false k = k
+
+    pub kept_binders : Each (λ e. IsBinder us e.0) (changed us r)
+    kept_binders = kept_in r given
 
     one_given : (d : Place) (y z : Name) → IsGiven (d, y) → IsGiven (d, z) → y ≡ z
     one_given d y z g h =

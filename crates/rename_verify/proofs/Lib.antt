@@ -12,3 +12,6 @@ pub mod Listing
 pub mod Reasons
 pub mod Judged
 pub mod One
+pub mod Unchanged
+pub mod Decided
+pub mod Valid

@@ -75,7 +75,7 @@ below zero (suc n) ne = inl (omega arith)
 below (suc m) zero ne = inr (omega arith)
 below (suc m) (suc n) ne = elim (below m n (λ e. ne (ap suc e))) [ inl a ↦ inl (omega (arith, a)) | inr b ↦ inr (omega (arith, b)) ]
 
-which : (m n : ℕ) → (m ≡ n) ⊎ ((m < n) ⊎ (n < m))
+pub which : (m n : ℕ) → (m ≡ n) ⊎ ((m < n) ⊎ (n < m))
 which m n = elim (cases_eq m n) [ inl e ↦ inl e | inr ne ↦ inr (below m n ne) ]
 
 one_part : (a b : List ℕ) (m n : ℕ) → PartAt a b m → PartAt a b n → m ≡ n

@@ -1,7 +1,16 @@
 -- The laws of verdicts.
-use Rattle.std.specs.Prelude.{◌≡◌, Result, Ok, Err}
+use Rattle.std.specs.Prelude.{◌≡◌, ◌↔◌, List, Result, Ok, Err, Contains, map}
+use Rattle.std.specs.Global.{Vec}
+use Rattle.rotor_base.specs.declared.place.Place.{Place}
 use Rattle.rotor_base.specs.declared.refusal.Refusal.{Refusal}
-use Rattle.rotor_base.specs.Files.{FileSet}
+use Rattle.rotor_base.specs.Files.{FileSet, IsProject, names_of}
+use Rattle.ml_syntax.specs.Tree.{UnitTree}
+use Rattle.shape_core.specs.Shape.{Name}
+use Rattle.binding_model.specs.Renaming.{Renaming, Changes, IsValid}
+use Rattle.project_reading.specs.Reads.{Reads}
+use Rattle.rename_laws.specs.Laws.{KeepsRuns}
+use Rattle.rename_respell.specs.Respelled.{AreRespelledBytes, mapped_words}
+use Rattle.rename_verify.specs.Changed.{Changed}
 use Rattle.rename_verify.specs.declared.verdict.Verdict.{Verdict}
 use Rattle.rename_verify.specs.declared.verdict.Verdict.TheVariants.{Yes, No}
 use Rattle.rename_verify.specs.Verdict.{Verdicts}
@@ -21,3 +30,33 @@ AreSameAnswers one other = ⊥
 -- Law: two projects have at most one verdict
 abbrev pub VerdictsAreOne : Type 0
 VerdictsAreOne = (old new : FileSet) (one other : Result Verdict Refusal) → Verdicts old new one → Verdicts old new other → AreSameAnswers one other
+
+-- the new files are the old ones under a renaming: the names and the manifest are the same, and the bytes are respelled
+pub record AreRespelledBy (old new : FileSet) (us : List UnitTree) (r : Renaming) : Type 0 where
+  pub names : names_of old.entries ≡ names_of new.entries
+  pub manifest : old.manifest ≡ new.manifest
+  pub bytes : AreRespelledBytes (mapped_words us r) 0 old.entries (map (λ s. s.bytes) new.entries)
+
+-- a binder takes another name, and this is listed
+pub record IsListedChange (list : List Changed) (d : Place) (y : Name) : Type 0 where
+  pub change : Changed
+  pub among : Contains list change
+  pub place : change.0 ≡ d
+  pub name : change.2 ≡ y
+
+-- the new files are a valid respelling of the old ones, by a renaming whose changes are those of a list
+pub record AreValidlyRespelled (old new : FileSet) (list : List Changed) : Type 0 where
+  pub project : List UnitTree
+  pub reads : Reads old project
+  pub renaming : Renaming
+  pub valid : IsValid project renaming
+  pub respelled : AreRespelledBy old new project renaming
+  pub listed : (d : Place) (y : Name) → Changes project renaming d y ↔ IsListedChange list d y
+
+-- Law: yes comes only for a valid respelling, by the renaming whose changes are reported
+abbrev pub YesIsValid : Type 0
+YesIsValid = (old new : FileSet) (list : Vec Changed) → IsProject old → IsProject new → Verdicts old new (Ok (Yes list)) → AreValidlyRespelled old new list.items
+
+-- Law: then every bounded run is the same
+abbrev pub YesKeepsRuns : Type 0
+YesKeepsRuns = (old new : FileSet) (list : Vec Changed) → IsProject old → IsProject new → Verdicts old new (Ok (Yes list)) → KeepsRuns old new

@@ -1,8 +1,15 @@
 //! The laws of verdicts, each as the contract of a function.
 
-ghost use Rattle.rename_verify.specs.Laws.{VerdictsAreOne};
+ghost use Rattle.rename_verify.specs.Laws.{VerdictsAreOne, YesIsValid, YesKeepsRuns};
 
 /// Two projects have at most one verdict.
 pub fn verdicts_are_one()
     ensures { VerdictsAreOne }
+{}
+
+/// The verdict is yes only for a valid respelling, by the renaming whose changes are reported. Then every bounded run of
+/// the project is kept.
+pub fn yes_is_valid()
+    ensures valid { YesIsValid }
+    ensures runs { YesKeepsRuns }
 {}

@@ -11,6 +11,6 @@ mod text;
 mod verdict;
 
 pub use calls::verify;
-pub use laws::verdicts_are_one;
+pub use laws::{verdicts_are_one, yes_is_valid};
 pub use text::verdict_text;
 pub use verdict::{Change, Verdict, Why};
