@@ -1,11 +1,11 @@
 -- The lexemes of the new sources, source by source.
-use Rattle.std.proofs.Common.{◌≡◌, ℕ, zero, suc, ◌+◌, ◌-◌, ◌<◌, inl, inr, List, [], ◌∷◌, ◌++◌, Option, Some, None, map, take, length, get_or, slice_get, unwrap_or, refl, ap, sym, subst, ◌∙◌, arith}
+use Rattle.std.proofs.Common.{◌≡◌, ℕ, suc, ◌+◌, ◌<◌, inl, inr, List, [], ◌∷◌, ◌++◌, Some, map, take, length, get_or, slice_get, unwrap_or, refl, ap, sym, subst, ◌∙◌}
 use Rattle.std.proofs.lemmas.List.{map-append, take_more}
 use Rattle.std.proofs.lemmas.Option.{slice_get-map}
 use Rattle.std.specs.Option.{option_map}
 use Rattle.rotor_base.specs.declared.place.Place.{Place}
 use Rattle.rotor_base.specs.declared.source.SourceFile.{SourceFile}
-use Rattle.ml_lexer.specs.Lexed.{Fault, Lexeme, Lexed, LexFault}
+use Rattle.ml_lexer.specs.Lexed.{Fault, Lexeme, LexFault}
 use Rattle.ml_lexer.proofs.OneCutting.{not_both, one_lexed}
 use Rattle.rename_verify.specs.Candidate.{AreLexemes, AreLexemesOf, lexeme_at, lower_word, word_at}
 

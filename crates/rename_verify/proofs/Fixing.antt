@@ -1,5 +1,5 @@
 -- What the scan of the facts fixes is what may not take another name.
-use Rattle.std.proofs.Common.{◌≡◌, ◌⊎◌, ◌||◌, ◌++◌, inl, inr, List, [], ◌∷◌, Bool, true, false, Option, Some, None, map, filter, flat_map, Contains, refl, ap, sym, subst, ◌∙◌}
+use Rattle.std.proofs.Common.{◌≡◌, ◌⊎◌, ◌||◌, inl, inr, List, [], ◌∷◌, Bool, true, false, Option, Some, None, map, filter, flat_map, Contains, refl, ap, sym, subst, ◌∙◌}
 use Rattle.std.specs.BTreeSet.{BTreeSet, contains}
 use Rattle.std.proofs.lemmas.List.Elements.{Contains-append_left, Contains-append_right, Contains-append_cases}
 use Rattle.rotor_base.specs.Place.{same_place, place_cmp}
@@ -18,7 +18,6 @@ use Rattle.binding_model.specs.Renaming.{places, at_place, HasBehind, IsBlur, Is
 use Rattle.binding_model.proofs.LastEntries.{same_is}
 use Rattle.binding_model.proofs.Sounds.{found_all}
 use Rattle.binding_model.proofs.Telltale.{apart_of}
-use Rattle.rename_model.specs.Ladder.{IsLeast}
 use Rattle.rename_parts.specs.declared.checks.Hit.{Hit}
 use Rattle.rename_parts.specs.Hits.{all_hits, hit_of}
 use Rattle.rename_parts.specs.Leasts.{IsLeastOrNone}

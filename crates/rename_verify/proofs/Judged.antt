@@ -1,17 +1,15 @@
 -- The verdict on new files whose sources have the old names and whose manifest is the same.
-use Rattle.std.proofs.Common.{◌≡◌, ℕ, List, Some, None, map, length, refl, ap, sym, subst, ◌∙◌}
+use Rattle.std.proofs.Common.{◌≡◌, ℕ, List, Some, None, map, length, ap, sym, subst, ◌∙◌}
 use Rattle.std.proofs.lemmas.List.{length-map}
 use Rattle.rotor_base.specs.Files.{FileSet, IsProject, names_of}
 use Rattle.rotor_base.specs.declared.place.Facts.{Facts}
 use Rattle.rotor_base.specs.declared.place.Place.{Place}
-use Rattle.rotor_base.specs.declared.refusal.Refusal.{Refusal}
 use Rattle.rotor_base.specs.declared.source.SourceFile.{SourceFile}
 use Rattle.ml_lexer.specs.Lexed.{Lexeme}
 use Rattle.ml_syntax.specs.Sound.{IsSound}
 use Rattle.ml_syntax.specs.Tree.{UnitTree}
 use Rattle.shape_core.specs.Respell.{Words}
 use Rattle.binding_model.specs.Facts.{facts}
-use Rattle.binding_model.specs.Laws.{StaysPut}
 use Rattle.binding_model.specs.Renaming.{Renaming, name_of, respell}
 use Rattle.binding_model.specs.Sums.{heavy}
 use Rattle.capture_check.specs.declared.fault.Fault.{Fault}
@@ -28,7 +26,7 @@ use Rattle.rename_verify.specs.Changed.{Changed}
 use Rattle.rename_verify.specs.Differ.{FilesPartAt}
 use Rattle.rename_verify.specs.Fixed.{IsLeastHeld}
 use Rattle.rename_verify.specs.Steps.{HasFirstFault, IsSameShape}
-use Rattle.rename_verify.specs.Verdict.{AreChanges, IsBytes, IsFixedAt, IsSources, reasons}
+use Rattle.rename_verify.specs.Verdict.{IsBytes, IsFixedAt, IsSources, reasons}
 use Rattle.rename_verify.proofs.Listing.{all_free, least_fixed}
 use Rattle.rename_verify.proofs.Reasons.{as_many, no_broken, no_bytes, no_fixed, no_reason, no_sources, then_broken, then_bytes, then_fixed}
 use Rattle.rename_verify.proofs.Renamed.{AreRespelling, stays, still}

@@ -1,5 +1,5 @@
 -- The changes that are listed are those of the candidate.
-use Rattle.std.proofs.Common.{◌≡◌, ◌≢◌, ◌||◌, inl, inr, List, [], ◌∷◌, Bool, true, false, not, Option, Some, None, map, filter, Contains, refl, ap, sym, subst, ◌∙◌, arith}
+use Rattle.std.proofs.Common.{◌≡◌, ◌≢◌, ◌||◌, inl, inr, List, [], ◌∷◌, Bool, true, false, not, Some, None, map, filter, Contains, refl, ap, sym, subst, ◌∙◌, arith}
 use Rattle.std.specs.Str.{bytes_eq}
 use Rattle.std.proofs.lemmas.Slice.Eq.{bytes_eq-Decides}
 use Rattle.rotor_base.specs.Place.{same_place}
@@ -23,7 +23,7 @@ use Rattle.rename_verify.specs.Changed.{Changed}
 use Rattle.rename_verify.specs.Fixed.{IsHeld, IsLeastHeld}
 use Rattle.rename_verify.specs.Verdict.{IsFixed}
 use Rattle.rename_verify.proofs.Alone.{split_in}
-use Rattle.rename_verify.proofs.Given.{IsListed, IsGiven, listed, given, changed_word}
+use Rattle.rename_verify.proofs.Given.{IsListed, listed, changed_word}
 
 -- ---- entries
 

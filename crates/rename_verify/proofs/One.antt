@@ -1,5 +1,5 @@
 -- Two projects have at most one verdict.
-use Rattle.std.proofs.Common.{◌≡◌, ◌⊎◌, inl, inr, ℕ, zero, suc, ◌<◌, List, [], ◌∷◌, Option, Some, None, Result, Ok, Err, map, take, slice_get, refl, ap, sym, subst, ◌∙◌, arith}
+use Rattle.std.proofs.Common.{◌≡◌, ◌⊎◌, inl, inr, ℕ, zero, suc, ◌<◌, List, [], ◌∷◌, Some, Result, Ok, Err, map, take, slice_get, refl, ap, sym, subst, ◌∙◌, arith}
 use Rattle.std.proofs.lemmas.Bool.{cases_eq}
 use Rattle.std.proofs.lemmas.Cmp.{nat_list_cmp_total, tied_itself}
 use Rattle.std.specs.Cmp.Lexicographic.{slice_cmp}
@@ -10,7 +10,6 @@ use Rattle.rotor_base.specs.declared.place.Place.{Place}
 use Rattle.rotor_base.specs.declared.refusal.Refusal.{Refusal}
 use Rattle.rotor_base.specs.declared.report.Counts.{Counts}
 use Rattle.rotor_base.specs.declared.source.SourceFile.{SourceFile}
-use Rattle.ml_lexer.specs.Lexed.{Lexeme}
 use Rattle.ml_syntax.specs.Tree.{UnitTree}
 use Rattle.shape_core.specs.Shape.{Name}
 use Rattle.binding_model.specs.Facts.{facts}
@@ -28,9 +27,8 @@ use Rattle.rename_respell.specs.Respelled.{mapped_words}
 use Rattle.rename_survey.specs.Survey.{binders_of}
 use Rattle.rename_verify.specs.declared.verdict.Verdict.{Verdict}
 use Rattle.rename_verify.specs.declared.verdict.Verdict.TheVariants.{Yes, No}
-use Rattle.rename_verify.specs.declared.verdict.Why.{Why}
 use Rattle.rename_verify.specs.declared.verdict.Why.TheVariants as why
-use Rattle.rename_verify.specs.Candidate.{AreLexemesOf, candidate, changes}
+use Rattle.rename_verify.specs.Candidate.{candidate, changes}
 use Rattle.rename_verify.specs.Changed.{Changed}
 use Rattle.rename_verify.specs.Differ.{HasOtherSources, source, manifest, IsFirstAlone, PartAt, FilesPartAt}
 use Rattle.rename_verify.specs.Laws.{AreSame, VerdictsAreOne}

@@ -1,11 +1,10 @@
 -- Respelled bytes are those of renamed sources.
-use Rattle.std.proofs.Common.{◌≡◌, ◌||◌, ℕ, suc, ◌+◌, ◌<◌, inl, inr, List, [], ◌∷◌, ◌++◌, All, Option, Some, None, map, length, get_or, refl, ap, sym, subst, ◌∙◌, arith}
-use Rattle.std.specs.Prelude.{Contains, IsTrue, slice_get}
+use Rattle.std.proofs.Common.{◌≡◌, ◌||◌, ℕ, suc, ◌+◌, ◌<◌, inl, inr, List, [], ◌∷◌, ◌++◌, Some, map, length, ap, sym, subst, ◌∙◌, arith}
+use Rattle.std.specs.Prelude.{Contains, IsTrue}
 use Rattle.std.proofs.lemmas.Option.{slice_get-get_or}
 use Rattle.rotor_base.specs.Files.{FileSet, IsProject, names_of}
 use Rattle.rotor_base.specs.declared.place.Place.{Place}
 use Rattle.rotor_base.specs.declared.source.SourceFile.{SourceFile}
-use Rattle.ml_lexer.specs.Lexed.{Lexeme}
 use Rattle.ml_lexer.specs.Respelled.{respelled}
 use Rattle.ml_lexer.proofs.OneCutting.{one_lexed}
 use Rattle.ml_syntax.specs.Each.{Each}
@@ -27,7 +26,7 @@ use Rattle.project_reading.proofs.Soundness.{source_at}
 use Rattle.project_reading.proofs.Twins.{tree_at, read_at, trees_are_parts}
 use Rattle.project_reading.proofs.UnitsKept.{changes_at, changes_by}
 use Rattle.respelled_reading.proofs.Changed.{ChangesPlaces, changes_all}
-use Rattle.rename_respell.specs.Respelled.{IsRespelledBytes, AreRespelledBytes, new_texts}
+use Rattle.rename_respell.specs.Respelled.{IsRespelledBytes, AreRespelledBytes}
 use Rattle.rename_verify.proofs.Alone.{split_in}
 use Rattle.rename_verify.proofs.Texts.{KeepsOwn, tree_texts}
 

@@ -1,5 +1,5 @@
 -- The new texts of tokens and the new words of lower-case ones are the same, if operators and puns keep theirs.
-use Rattle.std.proofs.Common.{◌≡◌, ◌||◌, ℕ, zero, suc, ◌<◌, ◌⊎◌, inl, inr, List, [], ◌∷◌, ◌++◌, Bool, true, false, Option, Some, None, length, get_or, slice_index_or, refl, ap, sym, subst, ◌∙◌, arith, append_assoc, length-append}
+use Rattle.std.proofs.Common.{◌≡◌, ◌||◌, ℕ, suc, inl, inr, List, [], ◌∷◌, ◌++◌, Bool, true, false, Option, Some, None, length, refl, ap, sym, subst, ◌∙◌, arith, append_assoc, length-append}
 use Rattle.std.specs.Prelude.{Contains, IsTrue, if◌then◌else◌}
 use Rattle.rotor_base.specs.declared.token.Class.{Class}
 use Rattle.rotor_base.specs.declared.token.Class.TheVariants as class
@@ -10,7 +10,7 @@ use Rattle.ml_syntax.specs.Places.{Site, label_name, sites}
 use Rattle.ml_syntax.specs.Respelled.{Spelling, spelled}
 use Rattle.ml_syntax.specs.RespelledFile.{lexeme_toks, new_words, ChangesNames}
 use Rattle.ml_syntax.specs.Sound.{AreNumbered}
-use Rattle.ml_syntax.specs.Standing.{AreNumberedBy, IsNamed, IsWordOf, a_name, a_label, an_equals, a_sign, a_minus}
+use Rattle.ml_syntax.specs.Standing.{AreNumberedBy, IsWordOf, a_name, a_label, an_equals, a_sign, a_minus}
 use Rattle.ml_syntax.specs.Tok.{Name, Tok, fixed, is_placed, placed, word, fixed_of, tok, tok_or}
 use Rattle.ml_syntax.specs.Tree.{FileTree}
 use Rattle.ml_syntax.specs.WellFormed.{WfFile}

@@ -1,8 +1,7 @@
 -- Two projects without a fault between them have the same facts.
-use Rattle.std.proofs.Common.{◌≡◌, ◌≢◌, ◌⊎◌, ◌==◌, ◌&&◌, inl, inr, ℕ, zero, suc, ◌<◌, ◌≤◌, List, [], ◌∷◌, Bool, true, false, Option, Some, None, map, slice_get, refl, ap, sym, subst, ◌∙◌, arith}
+use Rattle.std.proofs.Common.{◌≡◌, ◌≢◌, ◌⊎◌, ◌==◌, ◌&&◌, inl, inr, ℕ, zero, suc, ◌<◌, ◌≤◌, List, [], ◌∷◌, Bool, true, false, Option, Some, None, map, refl, ap, sym, subst, ◌∙◌, arith}
 use Rattle.std.proofs.lemmas.Bool.Decides.{nat_tests}
 use Rattle.rotor_base.specs.Place.{IsBefore, same_place, same_behind, same_goal}
-use Rattle.rotor_base.specs.declared.place.Facts.{Facts}
 use Rattle.rotor_base.specs.declared.place.Goal.{Goal}
 use Rattle.rotor_base.specs.declared.place.Goal.TheVariants.{Decl, Outside, Missing, Hidden, Blur}
 use Rattle.rotor_base.specs.declared.place.Link.{Link}
@@ -16,7 +15,7 @@ use Rattle.binding_model.specs.Laws.{StaysPut}
 use Rattle.binding_model.specs.Renaming.{name_of}
 use Rattle.binding_model.proofs.LastEntries.{same_is}
 use Rattle.capture_check.specs.declared.fault.Fault.{Fault}
-use Rattle.capture_check.specs.declared.fault.Fault.TheVariants.{Clash, Capture, Mislink}
+use Rattle.capture_check.specs.declared.fault.Fault.TheVariants.{Capture, Mislink}
 use Rattle.capture_check.specs.Fault.{IsMet, Differs, IsFirstDiffering, IsClash, IsCapture, IsMislink, before, faults, of_ref, of_link}
 use Rattle.capture_check.proofs.Equal.{IsAtDecl, items_decl}
 use Rattle.rename_model.specs.Ladder.{IsLeast}

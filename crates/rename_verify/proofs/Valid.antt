@@ -1,31 +1,26 @@
 -- A yes is a valid respelling.
-use Rattle.std.proofs.Common.{◌≡◌, ◌⊎◌, inl, inr, ℕ, zero, suc, ◌<◌, List, [], ◌∷◌, Bool, true, false, cond, not, Option, Some, None, Ok, map, filter, length, Contains, refl, ap, sym, subst, ◌∙◌}
+use Rattle.std.proofs.Common.{◌≡◌, inl, inr, ℕ, suc, List, [], ◌∷◌, Bool, true, false, cond, Option, Some, None, map, filter, length, Contains, refl, ap, sym, subst, ◌∙◌}
 use Rattle.std.proofs.lemmas.List.{length-map}
 use Rattle.std.proofs.lemmas.Slice.Eq.{bytes_eq-Decides}
-use Rattle.std.specs.Global.{Vec}
 use Rattle.std.specs.Prelude.{IsTrue}
 use Rattle.std.specs.Str.{bytes_eq}
 use Rattle.rotor_base.specs.Files.{FileSet, IsProject, names_of}
-use Rattle.rotor_base.specs.Name.{is_value_name}
 use Rattle.rotor_base.specs.declared.place.Place.{Place}
 use Rattle.rotor_base.specs.declared.source.SourceFile.{SourceFile}
 use Rattle.ml_lexer.specs.Lexed.{Lexeme}
-use Rattle.ml_syntax.specs.Each.{Each}
 use Rattle.ml_syntax.specs.Places.{Site}
 use Rattle.ml_syntax.specs.Sound.{IsSound}
 use Rattle.ml_syntax.specs.Tree.{FileTree, UnitTree}
 use Rattle.shape_core.specs.Respell.{Words}
 use Rattle.shape_core.specs.Shape.{Name}
-use Rattle.binding_model.specs.Facts.{facts, unmatched, unmatched_items, least, IsGood}
+use Rattle.binding_model.specs.Facts.{facts, unmatched_items, least, IsGood}
 use Rattle.binding_model.specs.Renaming.{Renaming, places, at_place, name_of, respell, words_of, Changes, IsFree, IsValid}
 use Rattle.binding_model.proofs.Naming.{each_in}
 use Rattle.capture_check.specs.declared.fault.Fault.TheVariants.{Clash}
 use Rattle.capture_check.specs.Fault.{IsMet, before, faults}
 use Rattle.group_laws.proofs.Apartness.{unrefused_is_good}
-use Rattle.module_meaning.specs.Run.{run}
 use Rattle.module_meaning.proofs.Main.{runs_are_kept}
 use Rattle.project_reading.specs.Reads.{Reads}
-use Rattle.project_reading.specs.Source.{ReadsAs}
 use Rattle.project_reading.specs.Sources.{ReadAll}
 use Rattle.project_reading.proofs.Soundness.{read_is_sound}
 use Rattle.rename_files.specs.Answer.{Accepts}
@@ -33,21 +28,17 @@ use Rattle.rename_laws.specs.Laws.{KeepsRuns}
 use Rattle.rename_laws.proofs.Free.{none_repeats, none_unmatched}
 use Rattle.rename_laws.proofs.Ladder.{not_first, not_rest}
 use Rattle.rename_laws.proofs.Leasts.{no_least_is_none}
-use Rattle.rename_model.specs.Ladder.{IsLeast}
 use Rattle.ml_lexer.specs.Respelled.{respelled}
 use Rattle.rename_respell.specs.Respelled.{AreRespelledBytes, changed, mapped_words, new_texts}
 use Rattle.rename_survey.specs.Survey.{binders_of}
-use Rattle.rename_verify.specs.declared.verdict.Verdict.TheVariants.{Yes}
-use Rattle.rename_verify.specs.declared.verdict.Why.{Why}
 use Rattle.rename_verify.specs.declared.verdict.Why.TheVariants as why
 use Rattle.rename_verify.specs.Candidate.{AreLexemesOf, candidate, changes}
-use Rattle.rename_verify.specs.Changed.{Changed}
-use Rattle.rename_verify.specs.Differ.{FilesPartAt, HasOtherSources, source, manifest}
-use Rattle.rename_verify.specs.Laws.{AreRespelledBy, AreValidlyRespelled, IsListedChange, YesIsValid, YesKeepsRuns}
+use Rattle.rename_verify.specs.Differ.{source, manifest}
+use Rattle.rename_verify.specs.Laws.{AreRespelledBy, IsListedChange, YesIsValid, YesKeepsRuns}
 use Rattle.rename_verify.specs.Scans.{first_alone}
-use Rattle.rename_verify.specs.Verdict.{IsSources, IsBytes, IsFixed, IsFixedAt, IsBroken, ForCandidate, reasons, Verdicts}
+use Rattle.rename_verify.specs.Verdict.{IsSources, IsBytes, IsFixed, IsFixedAt, IsBroken, ForCandidate, reasons}
 use Rattle.rename_verify.proofs.Alone.{IsToldAlone, told}
-use Rattle.rename_verify.proofs.Decided.{SomePart, files_part_or_same}
+use Rattle.rename_verify.proofs.Decided.{files_part_or_same}
 use Rattle.rename_verify.proofs.Given as given
 use Rattle.rename_verify.proofs.Listing.{changes_in, in_changes}
 use Rattle.rename_verify.proofs.Reasons.{Rest, as_many}

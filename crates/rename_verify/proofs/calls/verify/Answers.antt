@@ -1,4 +1,4 @@
-use Rattle.std.proofs.Common.{inl, subst, Some, None, Err}
+use Rattle.std.proofs.Common.{inl, subst, Err}
 use Rattle.ml_syntax.specs.View.{view_project}
 use Rattle.rename_files.specs.Answer.{Accepts}
 use Rattle.rename_files.proofs.Refusals.{rejects}

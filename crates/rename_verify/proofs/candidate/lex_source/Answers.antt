@@ -1,8 +1,6 @@
-use Rattle.std.proofs.Common.{ap, subst, sym, ◌∙◌, List, ℕ}
-use Rattle.rotor_base.specs.declared.token.Token.{Token}
+use Rattle.std.proofs.Common.{ap, subst, sym, List, ℕ}
 use Rattle.ml_lexer.specs.Answers.{FaultIs}
-use Rattle.ml_lexer.specs.Lexed.{Bad, Lexeme, LexFault, LongName, view_tokens}
-use Rattle.ml_lexer.specs.declared.error.LexError.{LexError}
+use Rattle.ml_lexer.specs.Lexed.{Bad, LexFault, LongName, view_tokens}
 use Rattle.rename_verify.specs.Candidate.{AreLexemes}
 use Rattle.rename_verify.proofs.Cutting.{fault_is_uncut}
 use Rattle.rename_verify.proofs.candidate.lex_source.Goals as goal

@@ -1,9 +1,9 @@
-use Rattle.std.proofs.Common.{◌≡◌, ◌∙◌, ◌-◌, ap, subst, sym, refl, suc, ℕ, List, length, get_or, slice_get, Some, arith}
+use Rattle.std.proofs.Common.{◌≡◌, ◌∙◌, ap, subst, sym, refl, suc, List, length, slice_get, Some, arith}
 use Rattle.std.proofs.lemmas.Option.{slice_get-map, slice_get_read}
 use Rattle.std.specs.Global.{Vec}
 use Rattle.std.specs.Option.{option_map}
 use Rattle.rotor_base.specs.declared.token.Token.{Token}
-use Rattle.ml_lexer.specs.Lexed.{Lexeme, view_token, view_tokens}
+use Rattle.ml_lexer.specs.Lexed.{view_token, view_tokens}
 use Rattle.rename_verify.proofs.Cutting.{word_found}
 use Rattle.rename_verify.proofs.candidate.word_at.Goals as goal
 

@@ -1,6 +1,4 @@
-use Rattle.std.proofs.Common.{◌≡◌, ◌∙◌, ◌||◌, List, Bool, filter, map, subst}
-use Rattle.std.specs.BTreeSet.{BTreeSet}
-use Rattle.rotor_base.specs.declared.place.Place.{Place}
+use Rattle.std.proofs.Common.{◌≡◌, ◌∙◌, ◌||◌, List, filter, map, subst}
 use Rattle.ml_syntax.specs.View.{view_project}
 use Rattle.rename_parts.specs.declared.checks.Hit.{Hit}
 use Rattle.rename_parts.specs.Members.{HasPlaces}

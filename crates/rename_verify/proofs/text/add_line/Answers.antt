@@ -1,4 +1,4 @@
-use Rattle.std.proofs.Common.{◌≡◌, ◌++◌, ◌∷◌, [], ◌+◌, ◌<◌, List, ℕ, Bor, append_assoc, ap, refl, sym, ◌∙◌, get_or, length, map, take, arith}
+use Rattle.std.proofs.Common.{◌≡◌, ◌++◌, ◌∷◌, [], ◌+◌, ◌<◌, List, ℕ, Bor, append_assoc, ap, refl, ◌∙◌, get_or, length, map, take, arith}
 use Rattle.std.specs.List.{concat}
 use Rattle.report.specs.Pieces.{join}
 use Rattle.report.proofs.Joins.{join_all, join_more}
