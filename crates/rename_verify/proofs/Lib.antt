@@ -15,3 +15,4 @@ pub mod One
 pub mod Unchanged
 pub mod Decided
 pub mod Valid
+pub mod Respelt
