@@ -71,14 +71,22 @@ each_filtered P test (x ∷ L) h = by (test x) refl (each_filtered P test L h.1)
 abbrev pub is_other : List UnitTree → Place × Name → Bool
 is_other us e = not (bytes_eq e.1 (name_of us e.0))
 
-other_name : (us : List UnitTree) (d : Place) (y : Name) → is_other us (d, y) ≡ true → y ≢ name_of us d
+pub other_name : (us : List UnitTree) (d : Place) (y : Name) → is_other us (d, y) ≡ true → y ≢ name_of us d
 other_name us d y t e = let same : bytes_eq y (name_of us d) ≡ true = (bytes_eq-Decides y (name_of us d)).1 e in let wrong : false ≡ true = ap not (sym same) ∙ t in cc
 
-is_other_name : (us : List UnitTree) (d : Place) (y : Name) → y ≢ name_of us d → is_other us (d, y) ≡ true
+pub is_other_name : (us : List UnitTree) (d : Place) (y : Name) → y ≢ name_of us d → is_other us (d, y) ≡ true
 is_other_name us d y n = by (bytes_eq y (name_of us d)) refl where
   by : (b : Bool) → bytes_eq y (name_of us d) ≡ b → not b ≡ true
   by true e = absurd (n ((bytes_eq-Decides y (name_of us d)).0 e))
   by false e = refl
+
+-- what is changed takes another name
+pub changed_other : (us : List UnitTree) (r : Renaming) → Each (λ e. is_other us e ≡ true) (changed us r)
+changed_other us [] = tt
+changed_other us (x ∷ r) = by (is_other us x) refl (changed_other us r) where
+  by : (b : Bool) → is_other us x ≡ b → Each (λ e. is_other us e ≡ true) (changed us r) → Each (λ e. is_other us e ≡ true) (cond b (x ∷ changed us r) (changed us r))
+  by true t k = (t, k)
+  by false t k = k
 
 -- a binder that a map gives another name takes it
 pub changes_are_changed : (us : List UnitTree) (r : Renaming) (d : Place) (y : Name) → Changes us r d y → at_place (changed us r) d ≡ Some y
@@ -226,7 +234,7 @@ module _ (us : List UnitTree) (sound : IsSound us) where
         let same : g.site ≡ h.site = cc in
         g.is ∙ (ap (λ (x : Site). given_name lists (binder_of (d, x))) same ∙ sym h.is)
 
-    in_changed : (d : Place) (y : Name) → at_place (changed us r) d ≡ Some y → IsGiven (d, y) × (y ≢ name_of us d)
+    pub in_changed : (d : Place) (y : Name) → at_place (changed us r) d ≡ Some y → IsGiven (d, y) × (y ≢ name_of us d)
     in_changed d y e =
         let k = entry_in (λ x. IsGiven x × (is_other us x ≡ true)) (changed us r) d y (each_filtered IsGiven (is_other us) r given) e in
         (k.0, other_name us d y k.1)

@@ -16,3 +16,5 @@ pub mod Unchanged
 pub mod Decided
 pub mod Valid
 pub mod Respelt
+pub mod Unrepeated
+pub mod Complete

@@ -82,7 +82,7 @@ module _ (us : List UnitTree) (sound : IsSound us) (lists : List (List Lexeme)) 
   own_name : (b : Binder) → Contains bs b → b.name ≡ name_of us b.at
   own_name b c = let l = each_in (IsListed us sound) bs b (listed us sound) c in ap (λ (x : Binder). x.name) l.is ∙ sym (ap site_name l.at)
 
-  entry_is : (b : Binder) → Contains bs b → at_place r b.at ≡ Some (given_name lists b)
+  pub entry_is : (b : Binder) → Contains bs b → at_place r b.at ≡ Some (given_name lists b)
   entry_is b c =
       let z = has_entry lists bs b c in
       let f = contained_has (IsFrom lists b.at z.0) bs (from_entry lists bs b.at z.0 z.1) in

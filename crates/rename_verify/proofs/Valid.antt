@@ -34,7 +34,7 @@ use Rattle.rename_survey.specs.Survey.{binders_of}
 use Rattle.rename_verify.specs.declared.verdict.Why.TheVariants as why
 use Rattle.rename_verify.specs.Candidate.{AreLexemesOf, candidate, changes}
 use Rattle.rename_verify.specs.Differ.{source, manifest}
-use Rattle.rename_verify.specs.Laws.{AreRespelledBy, IsListedChange, YesIsValid, YesKeepsRuns}
+use Rattle.rename_verify.specs.Laws.{AreRespelledBy, IsListedChange, YesIsValid, YesKeepsRuns, ChangesAll}
 use Rattle.rename_verify.specs.Scans.{first_alone}
 use Rattle.rename_verify.specs.Verdict.{IsSources, IsBytes, IsFixed, IsFixedAt, IsBroken, ForCandidate, reasons}
 use Rattle.rename_verify.proofs.Alone.{IsToldAlone, told}
@@ -195,6 +195,9 @@ module _ (old new : FileSet) (us : List UnitTree) (p : IsProject old) (q : IsPro
     same = facts_same;
   }
 
+  pub all_other : ChangesAll us R
+  all_other d y c = given.other_name us d y (each_in (λ e. given.is_other us e ≡ true) R (d, y) (given.changed_other us r) c)
+
   pub is_respelled : AreRespelledBy old new us R
   is_respelled = record {
     names = names;
@@ -224,6 +227,7 @@ yes_is_valid old new list p q h =
       reads = h.1.reads;
       renaming = changed us (candidate lists (binders_of us));
       valid = valid old new us p q h.1 lists cut h.2.0;
+      other = all_other old new us p q h.1 lists cut h.2.0;
       respelled = is_respelled old new us p q h.1 lists cut h.2.0;
       listed = λ d y. (
         λ c. subst (λ l. IsListedChange l d y) (sym h.2.1.2) (changes_listed old new us p q h.1 lists cut h.2.0 d y c),

@@ -1,19 +1,21 @@
 -- The laws of verdicts.
-use Rattle.std.specs.Prelude.{◌≡◌, ◌↔◌, List, Result, Ok, Err, Contains, map}
+use Rattle.std.specs.Prelude.{◌≡◌, ◌≢◌, ◌↔◌, List, Result, Ok, Err, Contains, map}
 use Rattle.std.specs.Global.{Vec}
 use Rattle.rotor_base.specs.declared.place.Place.{Place}
 use Rattle.rotor_base.specs.declared.refusal.Refusal.{Refusal}
 use Rattle.rotor_base.specs.Files.{FileSet, IsProject, names_of}
 use Rattle.ml_syntax.specs.Tree.{UnitTree}
 use Rattle.shape_core.specs.Shape.{Name}
-use Rattle.binding_model.specs.Renaming.{Renaming, Changes, IsValid}
+use Rattle.binding_model.specs.Renaming.{Renaming, Changes, IsValid, name_of}
 use Rattle.project_reading.specs.Reads.{Reads}
+use Rattle.capture_check.specs.Fault.{IsMet}
+use Rattle.rename_files.specs.Answer.{Accepts}
 use Rattle.rename_laws.specs.Laws.{KeepsRuns}
 use Rattle.rename_respell.specs.Respelled.{AreRespelledBytes, mapped_words}
 use Rattle.rename_verify.specs.Changed.{Changed}
 use Rattle.rename_verify.specs.declared.verdict.Verdict.{Verdict}
 use Rattle.rename_verify.specs.declared.verdict.Verdict.TheVariants.{Yes, No}
-use Rattle.rename_verify.specs.Verdict.{Verdicts}
+use Rattle.rename_verify.specs.Verdict.{AreChanges, Verdicts, reasons}
 
 -- two verdicts say the same
 abbrev pub AreSame : Verdict → Verdict → Type 0
@@ -37,6 +39,10 @@ pub record AreRespelledBy (old new : FileSet) (us : List UnitTree) (r : Renaming
   pub manifest : old.manifest ≡ new.manifest
   pub bytes : AreRespelledBytes (mapped_words us r) 0 old.entries (map (λ s. s.bytes) new.entries)
 
+-- each entry of the renaming gives a binder another name
+abbrev pub ChangesAll : List UnitTree → Renaming → Type 0
+ChangesAll us r = (d : Place) (y : Name) → Contains r (d, y) → y ≢ name_of us d
+
 -- a binder takes another name, and this is listed
 pub record IsListedChange (list : List Changed) (d : Place) (y : Name) : Type 0 where
   pub change : Changed
@@ -50,6 +56,7 @@ pub record AreValidlyRespelled (old new : FileSet) (list : List Changed) : Type 
   pub reads : Reads old project
   pub renaming : Renaming
   pub valid : IsValid project renaming
+  pub other : ChangesAll project renaming
   pub respelled : AreRespelledBy old new project renaming
   pub listed : (d : Place) (y : Name) → Changes project renaming d y ↔ IsListedChange list d y
 
@@ -60,3 +67,15 @@ YesIsValid = (old new : FileSet) (list : Vec Changed) → IsProject old → IsPr
 -- Law: then every bounded run is the same
 abbrev pub YesKeepsRuns : Type 0
 YesKeepsRuns = (old new : FileSet) (list : Vec Changed) → IsProject old → IsProject new → Verdicts old new (Ok (Yes list)) → KeepsRuns old new
+
+-- the verdict is yes: there is no reason against it, and this is what is changed
+pub record IsYes (old new : FileSet) (us : List UnitTree) : Type 0 where
+  pub none : IsMet (reasons us old new) → ⊥
+  pub list : List Changed
+  pub changes : AreChanges us new list
+
+-- Law: the verdict on a valid respelling is yes
+abbrev pub ValidIsYes : Type 0
+ValidIsYes =
+    (old new : FileSet) (us : List UnitTree) (r : Renaming) → IsProject old → IsProject new → Accepts old us → IsValid us r → ChangesAll us r → AreRespelledBy old new us r
+    → IsYes old new us

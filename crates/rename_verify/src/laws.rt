@@ -1,15 +1,16 @@
 //! The laws of verdicts, each as the contract of a function.
 
-ghost use Rattle.rename_verify.specs.Laws.{VerdictsAreOne, YesIsValid, YesKeepsRuns};
+ghost use Rattle.rename_verify.specs.Laws.{ValidIsYes, VerdictsAreOne, YesIsValid, YesKeepsRuns};
 
 /// Two projects have at most one verdict.
 pub fn verdicts_are_one()
     ensures { VerdictsAreOne }
 {}
 
-/// The verdict is yes only for a valid respelling, by the renaming whose changes are reported. Then every bounded run of
+/// The verdict is yes exactly for a valid respelling, and the renaming's changes are reported. Then every bounded run of
 /// the project is kept.
 pub fn yes_is_valid()
     ensures valid { YesIsValid }
+    ensures yes { ValidIsYes }
     ensures runs { YesKeepsRuns }
 {}
