@@ -1,5 +1,5 @@
 -- The verdict on a valid respelling is yes.
-use Rattle.std.proofs.Common.{◌≡◌, ◌≢◌, ◌||◌, ◌⊎◌, inl, inr, ℕ, List, [], ◌∷◌, Bool, true, false, cond, Option, Some, None, map, filter, Contains, slice_get, refl, ap, sym, subst, ◌∙◌, unwrap_or, arith}
+use Rattle.std.proofs.Common.{◌≡◌, ◌||◌, ◌⊎◌, inl, inr, ℕ, List, [], ◌∷◌, Bool, true, false, cond, Option, Some, None, map, filter, Contains, slice_get, refl, ap, sym, subst, ◌∙◌, unwrap_or, arith}
 use Rattle.rotor_base.specs.Files.{FileSet, IsProject}
 use Rattle.rotor_base.specs.Place.{same_place}
 use Rattle.rotor_base.specs.declared.place.Goal.{Goal}
@@ -10,36 +10,32 @@ use Rattle.rotor_base.specs.declared.place.Place.{Place}
 use Rattle.rotor_base.specs.declared.place.Ref.{Ref}
 use Rattle.rotor_base.specs.declared.source.SourceFile.{SourceFile}
 use Rattle.ml_lexer.specs.Lexed.{Lexeme}
-use Rattle.ml_syntax.specs.Each.{Each}
 use Rattle.ml_syntax.specs.Places.{Site}
 use Rattle.ml_syntax.specs.Sound.{IsSound}
 use Rattle.ml_syntax.specs.Tree.{UnitTree}
 use Rattle.shape_core.specs.Shape.{Name, or_else, some_if, or_value}
 use Rattle.binding_model.specs.Facts.{facts, is_before, put, in_order}
-use Rattle.binding_model.specs.Laws.{KeepsFixed}
 use Rattle.binding_model.specs.Renaming.{Renaming, places, at_place, name_of, site_name, goal_at, new_word, words_of, respell, Changes, IsFixedSite, IsFree, IsValid}
 use Rattle.binding_model.proofs.LastEntries.{same_is}
 use Rattle.binding_model.proofs.Leasts.{place_in}
 use Rattle.binding_model.proofs.Telltale.{apart_of, no_goal}
 use Rattle.capture_check.specs.declared.fault.Fault.{Fault}
 use Rattle.capture_check.specs.declared.fault.Fault.TheVariants.{Clash, Capture, Mislink}
-use Rattle.capture_check.specs.Fault.{IsMet, IsClash, IsCapture, IsMislink, IsFirstDiffering, before, faults, of_ref, of_link}
+use Rattle.capture_check.specs.Fault.{IsMet, IsClash, IsCapture, IsMislink, IsFirstDiffering, faults, of_ref, of_link}
 use Rattle.project_reading.specs.Reads.{Reads}
 use Rattle.project_reading.specs.Respelled.{respelled_lists}
 use Rattle.project_reading.proofs.RespellingKept.{respelling_keeps_the_reading}
 use Rattle.project_reading.proofs.Soundness.{read_is_sound}
-use Rattle.respelled_reading.specs.Renamed.{AreRenamed, GivesValueNames, renamed_words}
+use Rattle.respelled_reading.specs.Renamed.{AreRenamed, GivesValueNames}
 use Rattle.respelled_reading.proofs.Renamed.{changes_places, renamed_files_are_cut, renamed_files_are_read}
 use Rattle.rename_files.specs.Answer.{Accepts}
 use Rattle.rename_parts.specs.Binders.{binding}
 use Rattle.rename_respell.specs.Respelled.{AreRespelledBytes, changed, mapped_words}
 use Rattle.rename_respell.proofs.Given.{bytes_same}
 use Rattle.rename_steps.proofs.Having.{Has, has_as, has_mapped, has_filtered, contained_has}
-use Rattle.rename_survey.specs.declared.answer.Binder.{Binder}
 use Rattle.rename_survey.specs.Survey.{binder_of, binders_of}
 use Rattle.rename_verify.specs.Candidate.{AreLexemesOf, candidate, changes, given_name, word_at}
 use Rattle.rename_verify.specs.Laws.{AreRespelledBy, ChangesAll, IsYes, ValidIsYes}
-use Rattle.rename_verify.specs.Verdict.{IsSources, reasons}
 use Rattle.rename_verify.proofs.Alone.{more_in}
 use Rattle.rename_verify.proofs.Fixing.{site_found}
 use Rattle.rename_verify.proofs.Given.{changed_is, changed_word, changes_are_changed, in_changed, is_other, is_other_name, keeps_fixed}

@@ -95,8 +95,8 @@ module _ (us : List UnitTree) (sound : IsSound us) (refs : List Ref) (ps : List 
       let x = fixed_site (at_place L r.at) h in
       let In : Place × Site → Type 0 = λ z. At r.at (hit_of z) × (contains place_cmp all z.0 ≡ true) in
       let place : Contains ps r.at = subst (λ l. Contains l r.at) (sym ps_are)
-          (let m = contained_has (λ q. q ≡ r.at) (map (λ (s : Ref). s.at) refs) (has_mapped (λ (s : Ref). s.at) (λ q. q ≡ r.at) refs (has_contained (λ (s : Ref). s.at ≡ r.at) refs r c refl)) in
-          subst (Contains (map (λ (s : Ref). s.at) refs)) m.2 m.1) in
+      (let m = contained_has (λ q. q ≡ r.at) (map (λ (s : Ref). s.at) refs) (has_mapped (λ (s : Ref). s.at) (λ q. q ≡ r.at) refs (has_contained (λ (s : Ref). s.at ≡ r.at) refs r c refl)) in
+      subst (Contains (map (λ (s : Ref). s.at) refs)) m.2 m.1) in
       let asked : contains place_cmp all r.at ≡ true = has_set ps all r.at all_has place in
       let there : Has In L =
       has_as (λ z. (z.0 ≡ r.at) × (z.1 ≡ x.0)) In L

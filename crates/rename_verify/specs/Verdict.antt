@@ -58,9 +58,9 @@ abbrev pub reasons : List UnitTree → FileSet → FileSet → Why → Type 0
 reasons us old new =
     before (IsSources old new)
     (ForCandidate us new (λ r.
-      before (IsBytes us r old new)
-      (before (IsFixedAt us r)
-      (IsBroken us new))))
+    before (IsBytes us r old new)
+    (before (IsFixedAt us r)
+    (IsBroken us new))))
 
 -- the binders that the candidate changes
 abbrev pub AreChanges : List UnitTree → FileSet → List Changed → Type 0

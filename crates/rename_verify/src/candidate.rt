@@ -13,10 +13,7 @@ use rotor_base::{Class, Memory, Name, Place, SourceFile, Token};
 use std::alloc::Global;
 
 /// The lexemes of each source: none for a source that is not cut into lexemes. `Memory` is the only error.
-pub fn lex_all<'a>(
-    alloc: Global,
-    sources: &'a [SourceFile],
-) -> Result<Vec<Vec<Token<'a>>>, Memory>
+pub fn lex_all<'a>(alloc: Global, sources: &'a [SourceFile]) -> Result<Vec<Vec<Token<'a>>>, Memory>
     requires { All (λ file. length file.bytes ≤ max_file_bytes) sources.now }
     ensures { IfOk result (λ lists. AreLexemesOf sources.now (map (λ list. view_tokens list.items) lists.items)) }
 {

@@ -92,11 +92,7 @@ fn fixed_binders(
 }
 
 /// Adds the binders that a reference fixes.
-fn add_by_ref(
-    list: &mut Vec<Place>,
-    reference: Ref,
-    uses: &BTreeSet<Place>,
-) -> Result<(), Memory>
+fn add_by_ref(list: &mut Vec<Place>, reference: Ref, uses: &BTreeSet<Place>) -> Result<(), Memory>
     ensures { OnOk result (list.new.items ≡ list.old.items ++ fixed_by_ref uses.now reference) }
 {
     match reference.goal {
