@@ -20,7 +20,8 @@ use Rattle.rename_verify.specs.Scans.{by_order, first_alone}
 
 pub alone_step : (olds news : List SourceFile) (n : ℕ) (d e : SourceFile) → n < length olds → n < length news
     → first_alone (names_of (drop n olds)) (names_of (drop n news))
-    ≡ by_order (slice_cmp nat_cmp (get_or olds n d).name (get_or news n e).name) (get_or olds n d).name (get_or news n e).name (first_alone (names_of (drop (n + 1) olds)) (names_of (drop (n + 1) news)))
+    ≡ by_order (slice_cmp nat_cmp (get_or olds n d).name (get_or news n e).name) (get_or olds n d).name (get_or news n e).name
+    (first_alone (names_of (drop (n + 1) olds)) (names_of (drop (n + 1) news)))
 alone_step olds news n d e v w =
     ap (λ l. first_alone (names_of l) (names_of (drop n news))) (drop_more olds n d v)
     ∙ ap (λ l. first_alone (names_of (get_or olds n d ∷ drop (n + 1) olds)) (names_of l)) (drop_more news n e w)
@@ -101,10 +102,13 @@ alone_behind x xs ys z (inr a) = inr (
 )
 
 alone_before : (x : Name) (xs ys : List Name) (z : Name) → Sorted (x ∷ xs) → Sorted (x ∷ ys) → IsAlone xs ys z → IsAlone (x ∷ xs) (x ∷ ys) z
-alone_before x xs ys z s t (inl a) = inl (more_in x xs z a.0, λ c. a.1 (other_in x ys z (below_in x xs z (sorted_head (slice_cmp nat_cmp) x xs s) a.0) c))
-alone_before x xs ys z s t (inr a) = inr (more_in x ys z a.0, λ c. a.1 (other_in x xs z (below_in x ys z (sorted_head (slice_cmp nat_cmp) x ys t) a.0) c))
+alone_before x xs ys z s t (inl a) = inl
+    (more_in x xs z a.0, λ c. a.1 (other_in x ys z (below_in x xs z (sorted_head (slice_cmp nat_cmp) x xs s) a.0) c))
+alone_before x xs ys z s t (inr a) = inr
+    (more_in x ys z a.0, λ c. a.1 (other_in x xs z (below_in x ys z (sorted_head (slice_cmp nat_cmp) x ys t) a.0) c))
 
-behind : (x : Name) (xs ys : List Name) → Sorted (x ∷ xs) → Sorted (x ∷ ys) → (o : Option Name) → IsToldAlone xs ys o → IsToldAlone (x ∷ xs) (x ∷ ys) o
+behind : (x : Name) (xs ys : List Name) → Sorted (x ∷ xs) → Sorted (x ∷ ys) → (o : Option Name) → IsToldAlone xs ys o
+    → IsToldAlone (x ∷ xs) (x ∷ ys) o
 behind x xs ys s t None h = ap (λ l. x ∷ l) h
 behind x xs ys s t (Some z) h = record { alone = alone_before x xs ys z s t h.alone; first = λ y k. h.first y (alone_behind x xs ys y k) }
 
@@ -118,19 +122,24 @@ told (x ∷ xs) [] s t = record {
   alone = inl (first_in x xs, none_in x);
   first = λ z k. elim k [ inl a ↦ first_before x xs z s a.0 | inr b ↦ absurd (none_in z b.0) ];
 }
-told (x ∷ xs) (y ∷ ys) s t = by (slice_cmp nat_cmp x y) refl (told xs ys (sorted_tail (slice_cmp nat_cmp) x xs s) (sorted_tail (slice_cmp nat_cmp) y ys t)) where
-  by : (r : Ordering) → slice_cmp nat_cmp x y ≡ r → IsToldAlone xs ys (first_alone xs ys) → IsToldAlone (x ∷ xs) (y ∷ ys) (by_order r x y (first_alone xs ys))
-  by Less e h = lesser_left x y xs ys s t e
-  by Greater e h = lesser_right x y xs ys s t (nat_list_cmp_total.antisymm y x ∙ ap ordering_reverse e)
-  by Equal e h =
-      let same : x ≡ y = exact_bytes x y e in
-      subst (λ z. IsToldAlone (x ∷ xs) (z ∷ ys) (first_alone xs ys)) same (behind x xs ys s (subst (λ z. Sorted (z ∷ ys)) (sym same) t) (first_alone xs ys) h)
+told (x ∷ xs) (y ∷ ys) s t = by (slice_cmp nat_cmp x y) refl
+    (told xs ys (sorted_tail (slice_cmp nat_cmp) x xs s) (sorted_tail (slice_cmp nat_cmp) y ys t)) where
+      by : (r : Ordering) → slice_cmp nat_cmp x y ≡ r → IsToldAlone xs ys (first_alone xs ys)
+          → IsToldAlone (x ∷ xs) (y ∷ ys) (by_order r x y (first_alone xs ys))
+      by Less e h = lesser_left x y xs ys s t e
+      by Greater e h = lesser_right x y xs ys s t (nat_list_cmp_total.antisymm y x ∙ ap ordering_reverse e)
+      by Equal e h =
+          let same : x ≡ y = exact_bytes x y e in
+          subst (λ z. IsToldAlone (x ∷ xs) (z ∷ ys) (first_alone xs ys)) same
+          (behind x xs ys s (subst (λ z. Sorted (z ∷ ys)) (sym same) t) (first_alone xs ys) h)
 
 -- ---- of the files of two projects
 
-module _ (old new : FileSet) (p : IsProject old) (q : IsProject new) (o : Option Name) (e : o ≡ first_alone (names_of old.entries) (names_of new.entries)) where
+module _ (old new : FileSet) (p : IsProject old) (q : IsProject new) (o : Option Name)
+    (e : o ≡ first_alone (names_of old.entries) (names_of new.entries)) where
   is : IsToldAlone (names_of old.entries) (names_of new.entries) o
-  is = subst (IsToldAlone (names_of old.entries) (names_of new.entries)) (sym e) (told (names_of old.entries) (names_of new.entries) p.sources.ordered q.sources.ordered)
+  is = subst (IsToldAlone (names_of old.entries) (names_of new.entries)) (sym e)
+      (told (names_of old.entries) (names_of new.entries) p.sources.ordered q.sources.ordered)
 
   pub found : (x : Name) → o ≡ Some x → HasOtherSources old new x
   found x h = source x (subst (IsToldAlone (names_of old.entries) (names_of new.entries)) h is)

@@ -50,12 +50,14 @@ use Rattle.rename_verify.proofs.Unrepeated.{good_repeats_none}
 all_kept : {A : Type 0} (test : A → Bool) (xs : List A) → ((x : A) → Contains xs x → test x ≡ true) → filter test xs ≡ xs
 all_kept test [] h = refl
 all_kept test (x ∷ xs) h =
-    ap (λ b. cond b (x ∷ filter test xs) (filter test xs)) (h x (0, omega arith, refl)) ∙ ap (λ l. x ∷ l) (all_kept test xs (λ y c. h y (more_in x xs y c)))
+    ap (λ b. cond b (x ∷ filter test xs) (filter test xs)) (h x (0, omega arith, refl))
+    ∙ ap (λ l. x ∷ l) (all_kept test xs (λ y c. h y (more_in x xs y c)))
 
 at_contains : (r : Renaming) (d : Place) (y : Name) → at_place r d ≡ Some y → Contains r (d, y)
 at_contains [] d y e = let wrong : None ≡ Some y = e in absurd cc
 at_contains (x ∷ r) d y e = by (same_place x.0 d) refl e (at_contains r d y) where
-  by : (b : Bool) → same_place x.0 d ≡ b → or_else (some_if b x.1) (at_place r d) ≡ Some y → (at_place r d ≡ Some y → Contains r (d, y)) → Contains (x ∷ r) (d, y)
+  by : (b : Bool) → same_place x.0 d ≡ b → or_else (some_if b x.1) (at_place r d) ≡ Some y → (at_place r d ≡ Some y → Contains r (d, y))
+      → Contains (x ∷ r) (d, y)
   by true s f rest = let name : x.1 ≡ y = cc in (0, omega arith, ap (λ p. (p, x.1)) (same_is x.0 d s) ∙ ap (λ z. (d, z)) name)
   by false s f rest = more_in x r (d, y) (rest f)
 
@@ -76,15 +78,18 @@ has_ordered P at (x ∷ xs) (inl h) = has_put P at x (in_order at xs) (inl h)
 has_ordered P at (x ∷ xs) (inr h) = has_put P at x (in_order at xs) (inr (has_ordered P at xs h))
 
 -- a binder is listed
-is_listed : (us : List UnitTree) (d : Place) (x : Site) → at_place (places us) d ≡ Some x → x.binds ≡ true → Contains (binders_of us) (binder_of (d, x))
+is_listed : (us : List UnitTree) (d : Place) (x : Site) → at_place (places us) d ≡ Some x → x.binds ≡ true
+    → Contains (binders_of us) (binder_of (d, x))
 is_listed us d x at binds =
     let L = places us in
     let b = binder_of (d, x) in
     let here : Has (λ e. (binder_of e ≡ b) × (e.1.binds ≡ true)) L =
     has_as (λ e. (e.0 ≡ d) × (e.1 ≡ x)) (λ e. (binder_of e ≡ b) × (e.1.binds ≡ true)) L
-    (λ e k. (ap (λ p. binder_of (p, e.1)) k.0 ∙ ap (λ (s : Site). binder_of (d, s)) k.1, ap (λ (s : Site). s.binds) k.1 ∙ binds)) (site_found L d x at) in
+    (λ e k. (ap (λ p. binder_of (p, e.1)) k.0 ∙ ap (λ (s : Site). binder_of (d, s)) k.1, ap (λ (s : Site). s.binds) k.1 ∙ binds))
+    (site_found L d x at) in
     let listed : Has (λ z. z ≡ b) (binders_of us) =
-    has_ordered (λ z. z ≡ b) (λ z. z.at) (map binder_of (binding L)) (has_mapped binder_of (λ z. z ≡ b) (binding L) (has_filtered (λ (e : Place × Site). e.1.binds) (λ e. binder_of e ≡ b) L here)) in
+    has_ordered (λ z. z ≡ b) (λ z. z.at) (map binder_of (binding L))
+    (has_mapped binder_of (λ z. z ≡ b) (binding L) (has_filtered (λ (e : Place × Site). e.1.binds) (λ e. binder_of e ≡ b) L here)) in
     let k = contained_has (λ z. z ≡ b) (binders_of us) listed in
     subst (Contains (binders_of us)) k.2 k.1
 
@@ -101,12 +106,14 @@ some_is : {A : Type 0} (x y : A) → Some x ≡ Some y → x ≡ y
 some_is x y e = cc
 
 -- equal lists do not differ
-none_differing : {A : Type 0} (make : Place → Goal → A) → ((p : Place) (g h : Goal) → make p g ≡ make p h → g ≡ h) → (old new : List A) → new ≡ old → (p : Place) (w v : Goal) → IsFirstDiffering make old new p w v → ⊥
+none_differing : {A : Type 0} (make : Place → Goal → A) → ((p : Place) (g h : Goal) → make p g ≡ make p h → g ≡ h) → (old new : List A) → new ≡ old
+    → (p : Place) (w v : Goal) → IsFirstDiffering make old new p w v → ⊥
 none_differing make keeps old new e p w v h =
     let both : Some (make p w) ≡ Some (make p v) = sym h.differs.old_one ∙ (ap (λ l. slice_get l h.number) (sym e) ∙ h.differs.new_one) in
     h.differs.differ (keeps p w v (some_is (make p w) (make p v) both))
 
-module _ (old new : FileSet) (us : List UnitTree) (r : Renaming) (p : IsProject old) (q : IsProject new) (accepts : Accepts old us) (valid : IsValid us r) (only : ChangesAll us r) (by : AreRespelledBy old new us r) where
+module _ (old new : FileSet) (us : List UnitTree) (r : Renaming) (p : IsProject old) (q : IsProject new) (accepts : Accepts old us)
+    (valid : IsValid us r) (only : ChangesAll us r) (by : AreRespelledBy old new us r) where
   sound : IsSound us
   sound = read_is_sound old us p accepts.reads
 
@@ -132,7 +139,8 @@ module _ (old new : FileSet) (us : List UnitTree) (r : Renaming) (p : IsProject 
 
   renamed : AreRenamed us r old new
   renamed = record {
-    sources = sources_are_renamed old us p accepts.reads (words_of r (facts us).refs) (changes_places us r sound gives) (keeps_fixed us r gives sound) new.entries bytes by.names;
+    sources = sources_are_renamed old us p accepts.reads (words_of r (facts us).refs) (changes_places us r sound gives)
+        (keeps_fixed us r gives sound) new.entries bytes by.names;
     manifest = sym by.manifest;
   }
 
@@ -152,9 +160,11 @@ module _ (old new : FileSet) (us : List UnitTree) (r : Renaming) (p : IsProject 
     cand = candidate lists (binders_of us)
 
     -- the word of a binder in the new sources
-    new_at : (d : Place) (x : Site) → at_place (places us) d ≡ Some x → x.binds ≡ true → x.operator ≡ false → x.pun ≡ false → word_at lists d ≡ Some (or_value (at_place r d) x.name)
+    new_at : (d : Place) (x : Site) → at_place (places us) d ≡ Some x → x.binds ≡ true → x.operator ≡ false → x.pun ≡ false
+        → word_at lists d ≡ Some (or_value (at_place r d) x.name)
     new_at d x at binds operator pun =
-        let alone : goal_at (facts us).refs d ≡ None = place_in (λ e. e.1.binds ≡ true → goal_at (facts us).refs e.0 ≡ None) (places us) d x (no_goal us (apart_of us sound)) at binds in
+        let alone : goal_at (facts us).refs d ≡ None = place_in (λ e. e.1.binds ≡ true → goal_at (facts us).refs e.0 ≡ None) (places us) d x
+        (no_goal us (apart_of us sound)) at binds in
         word_is old new us r p accepts.reads gives renamed lists cut d x at operator pun ∙ ap (λ o. Some (new_word r o d x.name)) alone
 
     -- the candidate gives it to a binder that the renaming changes
@@ -169,7 +179,8 @@ module _ (old new : FileSet) (us : List UnitTree) (r : Renaming) (p : IsProject 
         let name : given_name lists (binder_of (d, x)) ≡ y =
         ap (λ v. cond (v || x.pun) x.name (unwrap_or (word_at lists d) x.name)) operator
         ∙ (ap (λ v. cond v x.name (unwrap_or (word_at lists d) x.name)) pun ∙ ap (λ o. unwrap_or o x.name) word) in
-        let entry : at_place cand d ≡ Some y = entry_is us sound lists (binder_of (d, x)) (is_listed us d x b.1 b.2) ∙ ap (λ (z : Name). Some z) name in
+        let entry : at_place cand d ≡ Some y = entry_is us sound lists (binder_of (d, x)) (is_listed us d x b.1 b.2)
+        ∙ ap (λ (z : Name). Some z) name in
         changes_are_changed us cand d y (entry, only d y (at_contains r d y e))
 
     -- and to no other binder
@@ -183,7 +194,8 @@ module _ (old new : FileSet) (us : List UnitTree) (r : Renaming) (p : IsProject 
         let site : g.0.site ≡ x = some_is g.0.site x both in
         let binds : x.binds ≡ true = ap (λ (s : Site). s.binds) (sym site) ∙ g.0.binds in
         let free : (x.operator || x.pun) ≡ true → ⊥ = λ t. (let wrong : true ≡ false = sym t ∙ k.2.free in cc) in
-        let word : word_at lists d ≡ Some x.name = new_at d x k.1 binds (or_first x.operator x.pun free) (or_second x.operator x.pun free) ∙ ap (λ o. Some (or_value o x.name)) e in
+        let word : word_at lists d ≡ Some x.name = new_at d x k.1 binds (or_first x.operator x.pun free) (or_second x.operator x.pun free)
+        ∙ ap (λ o. Some (or_value o x.name)) e in
         let own : z ≡ x.name = some_is z x.name (sym k.2.word ∙ word) in
         c.1 (own ∙ sym (ap site_name k.1))
 
@@ -221,14 +233,16 @@ module _ (old new : FileSet) (us : List UnitTree) (r : Renaming) (p : IsProject 
   capture : (f : Fault) → IsCapture (facts us).refs (facts vs).refs f → ⊥
   capture (Clash first again) k = k
   capture (Capture at was would) k =
-      none_differing of_ref (λ d g h e. ap (λ (x : Ref). x.goal) e) (facts us).refs (facts vs).refs (ap (λ (x : Facts). x.refs) valid.same) at was would k
+      none_differing of_ref (λ d g h e. ap (λ (x : Ref). x.goal) e) (facts us).refs (facts vs).refs
+      (ap (λ (x : Facts). x.refs) valid.same) at was would k
   capture (Mislink item was would) k = k
 
   mislink : (f : Fault) → IsMislink (facts us).links (facts vs).links f → ⊥
   mislink (Clash first again) k = k
   mislink (Capture at was would) k = k
   mislink (Mislink (Decl item) was would) k =
-      none_differing of_link (λ d g h e. ap (λ (x : Link). x.source) e) (facts us).links (facts vs).links (ap (λ (x : Facts). x.links) valid.same) item was would k
+      none_differing of_link (λ d g h e. ap (λ (x : Link). x.source) e) (facts us).links (facts vs).links
+      (ap (λ (x : Facts). x.links) valid.same) item was would k
   mislink (Mislink Outside was would) k = k
   mislink (Mislink Missing was would) k = k
   mislink (Mislink Hidden was would) k = k
@@ -245,7 +259,8 @@ module _ (old new : FileSet) (us : List UnitTree) (r : Renaming) (p : IsProject 
       let cut = lexemes.1 in
       record {
         none =
-            no_reason us old new lists cut (no_sources old new by.names by.manifest) (no_bytes us (cand lists cut) old new (given_bytes lists cut)) (no_fixed us (cand lists cut) old new (all_free lists cut))
+            no_reason us old new lists cut (no_sources old new by.names by.manifest) (no_bytes us (cand lists cut) old new (given_bytes lists cut))
+            (no_fixed us (cand lists cut) old new (all_free lists cut))
             (no_broken us (cand lists cut) old new vs still no_fault);
         list = changes lists (binders_of us);
         changes = (lists, cut, refl);

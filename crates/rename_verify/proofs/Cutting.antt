@@ -14,13 +14,15 @@ pub fault_is_uncut : (bytes : List ℕ) (fault : Fault) → LexFault bytes fault
 fault_is_uncut bytes fault h = inr ((λ ys k. not_both k h), refl)
 
 -- one more source
-lexemes_push : (front : List SourceFile) (outs : List (List Lexeme)) (x : SourceFile) (out : List Lexeme) → AreLexemesOf front outs → AreLexemes x.bytes out → AreLexemesOf (front ++ x ∷ []) (outs ++ out ∷ [])
+lexemes_push : (front : List SourceFile) (outs : List (List Lexeme)) (x : SourceFile) (out : List Lexeme) → AreLexemesOf front outs
+    → AreLexemes x.bytes out → AreLexemesOf (front ++ x ∷ []) (outs ++ out ∷ [])
 lexemes_push [] [] x out h i = (i, tt)
 lexemes_push [] (o ∷ outs) x out h i = absurd h
 lexemes_push (a ∷ front) [] x out h i = absurd h
 lexemes_push (a ∷ front) (o ∷ outs) x out h i = (h.0, lexemes_push front outs x out h.1 i)
 
-pub lexemes_more : {A : Type 0} (view : A → List Lexeme) (xs : List SourceFile) (n : ℕ) (d : SourceFile) (outs all : List A) (out : A) → n < length xs → AreLexemesOf (take n xs) (map view outs)
+pub lexemes_more : {A : Type 0} (view : A → List Lexeme) (xs : List SourceFile) (n : ℕ) (d : SourceFile) (outs all : List A) (out : A)
+    → n < length xs → AreLexemesOf (take n xs) (map view outs)
     → AreLexemes (get_or xs n d).bytes (view out) → all ≡ outs ++ out ∷ [] → AreLexemesOf (take (n + 1) xs) (map view all)
 lexemes_more view xs n d outs all out less h i a =
     let x = get_or xs n d in
@@ -30,7 +32,8 @@ lexemes_more view xs n d outs all out less h i a =
 
 -- ---- the word at a place
 
-pub word_found : {A : Type 0} (view : A → List Lexeme) (lists : List A) (p : Place) (tokens : A) (before : ℕ) (x : Lexeme) → slice_get lists p.file ≡ Some tokens → p.token ≡ suc before
+pub word_found : {A : Type 0} (view : A → List Lexeme) (lists : List A) (p : Place) (tokens : A) (before : ℕ) (x : Lexeme)
+    → slice_get lists p.file ≡ Some tokens → p.token ≡ suc before
     → slice_get (view tokens) before ≡ Some x → word_at (map view lists) p ≡ lower_word (Some x)
 word_found view lists p tokens before x h i k =
     ap (λ o. lower_word (lexeme_at (unwrap_or o []) p.token)) (slice_get-map view lists p.file ∙ ap (option_map view) h)

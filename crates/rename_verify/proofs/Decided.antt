@@ -25,7 +25,19 @@ behind_file : (x y : List ℕ) (xs ys : List (List ℕ)) → x ≡ y → (xs ≡
 behind_file x y xs ys e (inl s) = inl (ap (λ z. z ∷ xs) e ∙ ap (λ l. y ∷ l) s)
 behind_file x y xs ys e (inr p) =
     let h = p.2 in
-    inr (suc p.0, p.1, record { old = h.old; new = h.new; same = ap (λ z. z ∷ take p.0 xs) e ∙ ap (λ l. y ∷ l) h.same; here = h.here; there = h.there; part = h.part })
+    inr (
+      suc p.0,
+      p.1,
+      record {
+        old = h.old;
+        new = h.new;
+        same = ap (λ z. z ∷ take p.0 xs) e
+            ∙ ap (λ l. y ∷ l) h.same;
+        here = h.here;
+        there = h.there;
+        part = h.part;
+      },
+    )
 
 pub files_part_or_same : (xs ys : List (List ℕ)) → length xs ≡ length ys → (xs ≡ ys) ⊎ SomePart xs ys
 files_part_or_same [] [] e = inl refl

@@ -55,7 +55,8 @@ here_in x z e = subst (Contains (x ∷ [])) e (first_in x [])
 abbrev is_fixed : Hit → Bool
 is_fixed h = h.operator || h.pun
 
-site_case : (z : Place × Site) (L : List (Place × Site)) (p : Place) (x : Site) (b : Bool) → same_place z.0 p ≡ b → (at_place L p ≡ Some x → Has (λ e. (e.0 ≡ p) × (e.1 ≡ x)) L) → or_else (some_if b z.1) (at_place L p) ≡ Some x
+site_case : (z : Place × Site) (L : List (Place × Site)) (p : Place) (x : Site) (b : Bool) → same_place z.0 p ≡ b
+    → (at_place L p ≡ Some x → Has (λ e. (e.0 ≡ p) × (e.1 ≡ x)) L) → or_else (some_if b z.1) (at_place L p) ≡ Some x
     → Has (λ e. (e.0 ≡ p) × (e.1 ≡ x)) (z ∷ L)
 site_case z L p x true s f h = inl (same_is z.0 p s, (let q : z.1 ≡ x = cc in q))
 site_case z L p x false s f h = inr (f h)
@@ -68,7 +69,8 @@ fixed_site : (o : Option Site) → IsFixedSite o → (x : Site) × (o ≡ Some x
 fixed_site None h = absurd h
 fixed_site (Some x) h = (x, refl, h)
 
-module _ (us : List UnitTree) (sound : IsSound us) (refs : List Ref) (ps : List Place) (all uses : BTreeSet Place) (marks : List Hit) (fixed : List Place)
+module _ (us : List UnitTree) (sound : IsSound us) (refs : List Ref) (ps : List Place) (all uses : BTreeSet Place) (marks : List Hit)
+    (fixed : List Place)
     (ps_are : ps ≡ map (λ r. r.at) refs) (all_has : HasPlaces ps all) (marks_are : marks ≡ all_hits all us)
     (fixed_are : fixed ≡ map (λ h. h.place) (filter is_fixed marks)) (uses_has : HasPlaces fixed uses) where
   At : Place → Hit → Type 0
@@ -79,12 +81,15 @@ module _ (us : List UnitTree) (sound : IsSound us) (refs : List Ref) (ps : List 
   down p e =
       let L = places us in
       let Q : Place × Site → Type 0 = λ z. (z.0 ≡ p) × (z.1.operator || z.1.pun ≡ true) in
-      let listed : Contains (map (λ (h : Hit). h.place) (filter is_fixed marks)) p = subst (λ l. Contains l p) fixed_are (set_has fixed uses p uses_has e) in
+      let listed : Contains (map (λ (h : Hit). h.place) (filter is_fixed marks)) p = subst (λ l. Contains l p) fixed_are
+      (set_has fixed uses p uses_has e) in
       let hit : Has (λ (h : Hit). h.place ≡ p) (filter is_fixed marks) =
-      has_unmapped (λ (h : Hit). h.place) (λ q. q ≡ p) (filter is_fixed marks) (has_contained (λ q. q ≡ p) (map (λ (h : Hit). h.place) (filter is_fixed marks)) p listed refl) in
+      has_unmapped (λ (h : Hit). h.place) (λ q. q ≡ p) (filter is_fixed marks)
+      (has_contained (λ q. q ≡ p) (map (λ (h : Hit). h.place) (filter is_fixed marks)) p listed refl) in
       let among : Has (At p) (all_hits all us) = subst (Has (At p)) marks_are (has_unfiltered is_fixed (λ (h : Hit). h.place ≡ p) marks hit) in
       let placed : Has Q L = has_as (λ z. At p (hit_of z) × (contains place_cmp all z.0 ≡ true)) Q L (λ z k. k.0) (hits_down all (At p) us among) in
-      let k = contained_has (λ z. Q z × (at_place L z.0 ≡ Some z.1)) L (has_each Q (λ z. at_place L z.0 ≡ Some z.1) L (found_all L (apart_of us sound)) placed) in
+      let k = contained_has (λ z. Q z × (at_place L z.0 ≡ Some z.1)) L
+      (has_each Q (λ z. at_place L z.0 ≡ Some z.1) L (found_all L (apart_of us sound)) placed) in
       let site : at_place L p ≡ Some k.0.1 = subst (λ q. at_place L q ≡ Some k.0.1) k.2.0.0 k.2.1 in
       subst IsFixedSite (sym site) k.2.0.1
 
@@ -95,7 +100,8 @@ module _ (us : List UnitTree) (sound : IsSound us) (refs : List Ref) (ps : List 
       let x = fixed_site (at_place L r.at) h in
       let In : Place × Site → Type 0 = λ z. At r.at (hit_of z) × (contains place_cmp all z.0 ≡ true) in
       let place : Contains ps r.at = subst (λ l. Contains l r.at) (sym ps_are)
-      (let m = contained_has (λ q. q ≡ r.at) (map (λ (s : Ref). s.at) refs) (has_mapped (λ (s : Ref). s.at) (λ q. q ≡ r.at) refs (has_contained (λ (s : Ref). s.at ≡ r.at) refs r c refl)) in
+      (let m = contained_has (λ q. q ≡ r.at) (map (λ (s : Ref). s.at) refs)
+      (has_mapped (λ (s : Ref). s.at) (λ q. q ≡ r.at) refs (has_contained (λ (s : Ref). s.at ≡ r.at) refs r c refl)) in
       subst (Contains (map (λ (s : Ref). s.at) refs)) m.2 m.1) in
       let asked : contains place_cmp all r.at ≡ true = has_set ps all r.at all_has place in
       let there : Has In L =
@@ -104,8 +110,10 @@ module _ (us : List UnitTree) (sound : IsSound us) (refs : List Ref) (ps : List 
       (site_found L r.at x.0 x.1) in
       let among : Has (At r.at) marks = subst (Has (At r.at)) (sym marks_are) (hits_up all (At r.at) us there) in
       let hit : Has (λ (h : Hit). h.place ≡ r.at) (filter is_fixed marks) = has_filtered is_fixed (λ (h : Hit). h.place ≡ r.at) marks among in
-      let m = contained_has (λ q. q ≡ r.at) (map (λ (h : Hit). h.place) (filter is_fixed marks)) (has_mapped (λ (h : Hit). h.place) (λ q. q ≡ r.at) (filter is_fixed marks) hit) in
-      has_set fixed uses r.at uses_has (subst (λ l. Contains l r.at) (sym fixed_are) (subst (Contains (map (λ (h : Hit). h.place) (filter is_fixed marks))) m.2 m.1))
+      let m = contained_has (λ q. q ≡ r.at) (map (λ (h : Hit). h.place) (filter is_fixed marks))
+      (has_mapped (λ (h : Hit). h.place) (λ q. q ≡ r.at) (filter is_fixed marks) hit) in
+      has_set fixed uses r.at uses_has
+      (subst (λ l. Contains l r.at) (sym fixed_are) (subst (Contains (map (λ (h : Hit). h.place) (filter is_fixed marks))) m.2 m.1))
 
   pub has_fixed_uses : HasFixedUses us refs uses
   has_fixed_uses r c = (down r.at, up r c)
@@ -137,7 +145,8 @@ use_down b Missing d c = absurd (none_in d c)
 use_down b Hidden d c = absurd (none_in d c)
 
 use_decl : (b : Bool) (g : Goal) (d : Place) → g ≡ Decl d → b ≡ true → Contains (fixed_by_use b g) d
-use_decl b g d e t = subst (λ (h : Goal). Contains (fixed_by_use b h) d) (sym e) (subst (λ (v : Bool). Contains (fixed_by_use v (Decl d)) d) (sym t) (first_in d []))
+use_decl b g d e t = subst (λ (h : Goal). Contains (fixed_by_use b h) d) (sym e)
+    (subst (λ (v : Bool). Contains (fixed_by_use v (Decl d)) d) (sym t) (first_in d []))
 
 use_behind : (b : Bool) (g : Goal) (d : Place) → HasBehind d g → Contains (fixed_by_use b g) d
 use_behind b (Blur by n o) d h = behind_up (Blur by n o) d h
@@ -169,10 +178,12 @@ join_down Hidden s d c = absurd (none_in d c)
 join_down (Blur by n o) s d c = absurd (none_in d c)
 
 join_out : (i s : Goal) (d : Place) → i ≡ Decl d → s ≡ Outside → Contains (joined i s) d
-join_out i s d e f = subst (λ (g : Goal). Contains (joined g s) d) (sym e) (subst (λ (g : Goal). Contains (joined (Decl d) g) d) (sym f) (first_in d []))
+join_out i s d e f = subst (λ (g : Goal). Contains (joined g s) d) (sym e)
+    (subst (λ (g : Goal). Contains (joined (Decl d) g) d) (sym f) (first_in d []))
 
 join_in : (i s : Goal) (d : Place) → i ≡ Outside → s ≡ Decl d → Contains (joined i s) d
-join_in i s d e f = subst (λ (g : Goal). Contains (joined g s) d) (sym e) (subst (λ (g : Goal). Contains (joined Outside g) d) (sym f) (first_in d []))
+join_in i s d e f = subst (λ (g : Goal). Contains (joined g s) d) (sym e)
+    (subst (λ (g : Goal). Contains (joined Outside g) d) (sym f) (first_in d []))
 
 blur_at : (s : Goal) (d : Place) → IsBlur s → Contains (joined (Decl d) s) d
 blur_at (Blur by n o) d h = first_in d []
@@ -190,7 +201,8 @@ module _ (us : List UnitTree) (uses : BTreeSet Place) (has : HasFixedUses us (fa
   abbrev Fs : Facts
   Fs = facts us
 
-  by_ref : (d : Place) (r : Ref) → Contains Fs.refs r → ((r.goal ≡ Decl d) × (contains place_cmp uses r.at ≡ true)) ⊎ HasBehind d r.goal → IsFree us d → ⊥
+  by_ref : (d : Place) (r : Ref) → Contains Fs.refs r → ((r.goal ≡ Decl d) × (contains place_cmp uses r.at ≡ true)) ⊎ HasBehind d r.goal
+      → IsFree us d → ⊥
   by_ref d r c (inl h) f = f.uses r c h.0 ((has r c).0 h.1)
   by_ref d r c (inr h) f = f.refs_seen r c h
 
@@ -206,15 +218,18 @@ module _ (us : List UnitTree) (uses : BTreeSet Place) (has : HasFixedUses us (fa
   pub held : (d : Place) → Contains (fixed_by uses Fs) d → IsFree us d → ⊥
   held d c f = elim (Contains-append_cases (flat_map (fixed_by_ref uses) Fs.refs) (flat_map fixed_by_link Fs.links) d c) [
     | inl a ↦ (let k = in_some (fixed_by_ref uses) Fs.refs d a in by_ref d k.0 k.1 (use_down (contains place_cmp uses k.0.at) k.0.goal d k.2) f)
-    | inr b ↦ (let k = in_some fixed_by_link Fs.links d b in by_link d k.0 k.1 (Contains-append_cases (joined k.0.item k.0.source) (behind k.0.source) d k.2) f)
+    | inr b ↦ (let k = in_some fixed_by_link Fs.links d b in by_link d k.0 k.1
+        (Contains-append_cases (joined k.0.item k.0.source) (behind k.0.source) d k.2) f)
   ]
 
   module _ (d : Place) (none : Contains (fixed_by uses Fs) d → ⊥) where
     no_ref : (r : Ref) → Contains Fs.refs r → Contains (fixed_by_ref uses r) d → ⊥
-    no_ref r c h = none (Contains-append_left (flat_map (fixed_by_ref uses) Fs.refs) (flat_map fixed_by_link Fs.links) d (in_all (fixed_by_ref uses) Fs.refs r d c h))
+    no_ref r c h = none (Contains-append_left (flat_map (fixed_by_ref uses) Fs.refs) (flat_map fixed_by_link Fs.links) d
+        (in_all (fixed_by_ref uses) Fs.refs r d c h))
 
     no_link : (l : Link) → Contains Fs.links l → Contains (fixed_by_link l) d → ⊥
-    no_link l c h = none (Contains-append_right (flat_map (fixed_by_ref uses) Fs.refs) (flat_map fixed_by_link Fs.links) d (in_all fixed_by_link Fs.links l d c h))
+    no_link l c h = none
+        (Contains-append_right (flat_map (fixed_by_ref uses) Fs.refs) (flat_map fixed_by_link Fs.links) d (in_all fixed_by_link Fs.links l d c h))
 
     no_join : (l : Link) → Contains Fs.links l → Contains (joined l.item l.source) d → ⊥
     no_join l c h = no_link l c (Contains-append_left (joined l.item l.source) (behind l.source) d h)
@@ -241,7 +256,8 @@ module _ (us : List UnitTree) (uses : BTreeSet Place) (has : HasFixedUses us (fa
 abbrev pub Among : List Changed → BTreeSet Place → Place → Type 0
 Among list fixed p = (c : Changed) × Contains list c × (c.0 ≡ p) × (contains place_cmp fixed p ≡ true)
 
-module _ (us : List UnitTree) (uses fixed : BTreeSet Place) (has : HasFixedUses us (facts us).refs uses) (all : HasPlaces (fixed_by uses (facts us)) fixed) (list : List Changed)
+module _ (us : List UnitTree) (uses fixed : BTreeSet Place) (has : HasFixedUses us (facts us).refs uses)
+    (all : HasPlaces (fixed_by uses (facts us)) fixed) (list : List Changed)
     (words : (c : Changed) → Contains list c → IsFixedSite (at_place (places us) c.0) → ⊥) where
   free_if : (p : Place) (b : Bool) → contains place_cmp fixed p ≡ b → (IsFixedSite (at_place (places us) p) → ⊥) → (IsFree us p → ⊥) → b ≡ true
   free_if p true e w h = refl

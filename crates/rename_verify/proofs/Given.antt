@@ -50,21 +50,25 @@ entry_in P (x ∷ L) d y h e = by (same_place x.0 d) refl e (entry_in P L d y h.
   by true s f rest = let same : x.1 ≡ y = cc in subst (λ p. P (p, y)) (same_is x.0 d s) (subst (λ z. P (x.0, z)) same h.0)
   by false s f rest = rest f
 
-at_filtered : (test : Place × Name → Bool) (L : Renaming) (d : Place) (y : Name) → at_place (filter test L) d ≡ Some y → (z : Name) × (at_place L d ≡ Some z)
+at_filtered : (test : Place × Name → Bool) (L : Renaming) (d : Place) (y : Name) → at_place (filter test L) d ≡ Some y → (z : Name)
+    × (at_place L d ≡ Some z)
 at_filtered test [] d y e = let wrong : None ≡ Some y = e in absurd cc
 at_filtered test (x ∷ L) d y e = by (same_place x.0 d) refl (test x) refl (at_filtered test L d y) where
-  there : (b : Bool) → at_place (cond b (x ∷ filter test L) (filter test L)) d ≡ Some y → same_place x.0 d ≡ false → at_place (filter test L) d ≡ Some y
+  there : (b : Bool) → at_place (cond b (x ∷ filter test L) (filter test L)) d ≡ Some y → same_place x.0 d ≡ false
+      → at_place (filter test L) d ≡ Some y
   there true f s = ap (λ v. or_else (some_if v x.1) (at_place (filter test L) d)) (sym s) ∙ f
   there false f s = f
 
-  by : (b : Bool) → same_place x.0 d ≡ b → (t : Bool) → test x ≡ t → (at_place (filter test L) d ≡ Some y → (z : Name) × (at_place L d ≡ Some z)) → (z : Name) × (or_else (some_if (same_place x.0 d) x.1) (at_place L d) ≡ Some z)
+  by : (b : Bool) → same_place x.0 d ≡ b → (t : Bool) → test x ≡ t → (at_place (filter test L) d ≡ Some y → (z : Name) × (at_place L d ≡ Some z))
+      → (z : Name) × (or_else (some_if (same_place x.0 d) x.1) (at_place L d) ≡ Some z)
   by true s t u rest = (x.1, ap (λ v. or_else (some_if v x.1) (at_place L d)) s)
   by false s t u rest = let k = rest (there (test x) e s) in (k.0, ap (λ v. or_else (some_if v x.1) (at_place L d)) s ∙ k.1)
 
 each_filtered : (P : Place × Name → Type 0) (test : Place × Name → Bool) (L : Renaming) → Each P L → Each (λ e. P e × (test e ≡ true)) (filter test L)
 each_filtered P test [] h = tt
 each_filtered P test (x ∷ L) h = by (test x) refl (each_filtered P test L h.1) where
-  by : (b : Bool) → test x ≡ b → Each (λ e. P e × (test e ≡ true)) (filter test L) → Each (λ e. P e × (test e ≡ true)) (cond b (x ∷ filter test L) (filter test L))
+  by : (b : Bool) → test x ≡ b → Each (λ e. P e × (test e ≡ true)) (filter test L)
+      → Each (λ e. P e × (test e ≡ true)) (cond b (x ∷ filter test L) (filter test L))
   by true t k = ((h.0, t), k)
   by false t k = k
 
@@ -72,7 +76,8 @@ abbrev pub is_other : List UnitTree → Place × Name → Bool
 is_other us e = not (bytes_eq e.1 (name_of us e.0))
 
 pub other_name : (us : List UnitTree) (d : Place) (y : Name) → is_other us (d, y) ≡ true → y ≢ name_of us d
-other_name us d y t e = let same : bytes_eq y (name_of us d) ≡ true = (bytes_eq-Decides y (name_of us d)).1 e in let wrong : false ≡ true = ap not (sym same) ∙ t in cc
+other_name us d y t e = let same : bytes_eq y (name_of us d) ≡ true = (bytes_eq-Decides y (name_of us d)).1 e in let wrong : false ≡ true = ap not
+    (sym same) ∙ t in cc
 
 pub is_other_name : (us : List UnitTree) (d : Place) (y : Name) → y ≢ name_of us d → is_other us (d, y) ≡ true
 is_other_name us d y n = by (bytes_eq y (name_of us d)) refl where
@@ -84,7 +89,8 @@ is_other_name us d y n = by (bytes_eq y (name_of us d)) refl where
 pub changed_other : (us : List UnitTree) (r : Renaming) → Each (λ e. is_other us e ≡ true) (changed us r)
 changed_other us [] = tt
 changed_other us (x ∷ r) = by (is_other us x) refl (changed_other us r) where
-  by : (b : Bool) → is_other us x ≡ b → Each (λ e. is_other us e ≡ true) (changed us r) → Each (λ e. is_other us e ≡ true) (cond b (x ∷ changed us r) (changed us r))
+  by : (b : Bool) → is_other us x ≡ b → Each (λ e. is_other us e ≡ true) (changed us r)
+      → Each (λ e. is_other us e ≡ true) (cond b (x ∷ changed us r) (changed us r))
   by true t k = (t, k)
   by false t k = k
 
@@ -104,7 +110,8 @@ changes_are_changed us (x ∷ r) d y c = by (same_place x.0 d) refl c.0 (λ k. c
   passed true s e = ap (λ v. or_else (some_if v x.1) (at_place (changed us r) d)) s ∙ e
   passed false s e = e
 
-  by : (b : Bool) → same_place x.0 d ≡ b → or_else (some_if (same_place x.0 d) x.1) (at_place r d) ≡ Some y → (Changes us r d y → at_place (changed us r) d ≡ Some y)
+  by : (b : Bool) → same_place x.0 d ≡ b → or_else (some_if (same_place x.0 d) x.1) (at_place r d) ≡ Some y
+      → (Changes us r d y → at_place (changed us r) d ≡ Some y)
       → at_place (cond (is_other us x) (x ∷ changed us r) (changed us r)) d ≡ Some y
   by true s f rest = kept (is_other us x) refl s (let g : Some x.1 ≡ Some y = ap (λ v. or_else (some_if v x.1) (at_place r d)) (sym s) ∙ f in cc)
   by false s f rest = passed (is_other us x) s (rest (ap (λ v. or_else (some_if v x.1) (at_place r d)) (sym s) ∙ f, c.1))
@@ -160,7 +167,8 @@ whole_at (s ∷ ss) [] n h = absurd h
 whole_at (s ∷ ss) (xs ∷ lists) zero h = lexemes_whole s.bytes xs h.0
 whole_at (s ∷ ss) (xs ∷ lists) (suc n) h = whole_at ss lists n h.1
 
-word_is_name : (ss : List SourceFile) (lists : List (List Lexeme)) (p : Place) (y : Name) → AreLexemesOf ss lists → word_at lists p ≡ Some y → is_value_name y ≡ true
+word_is_name : (ss : List SourceFile) (lists : List (List Lexeme)) (p : Place) (y : Name) → AreLexemesOf ss lists → word_at lists p ≡ Some y
+    → is_value_name y ≡ true
 word_is_name ss lists p y h e = at_name (unwrap_or (slice_get lists p.file) []) p.token y (whole_at ss lists p.file h) e
 
 -- a name that is not the binder's own
@@ -170,7 +178,8 @@ pub record IsNewWord (lists : List (List Lexeme)) (b : Binder) (y : Name) : Type
 
 new_word_is : (lists : List (List Lexeme)) (b : Binder) → given_name lists b ≢ b.name → IsNewWord lists b (given_name lists b)
 new_word_is lists b n = by (b.operator || b.pun) refl (word_at lists b.at) refl n where
-  by : (v : Bool) → (b.operator || b.pun) ≡ v → (o : Option Name) → word_at lists b.at ≡ o → cond v b.name (unwrap_or o b.name) ≢ b.name → IsNewWord lists b (cond v b.name (unwrap_or o b.name))
+  by : (v : Bool) → (b.operator || b.pun) ≡ v → (o : Option Name) → word_at lists b.at ≡ o → cond v b.name (unwrap_or o b.name) ≢ b.name
+      → IsNewWord lists b (cond v b.name (unwrap_or o b.name))
   by true e o f m = absurd (m refl)
   by false e None f m = absurd (m refl)
   by false e (Some y) f m = record { free = e; word = f }
@@ -221,7 +230,8 @@ module _ (us : List UnitTree) (sound : IsSound us) where
     kept_in : (L : Renaming) → Each IsGiven L → Each (λ e. IsBinder us e.0) (filter (is_other us) L)
     kept_in [] h = tt
     kept_in (e ∷ L) h = by (is_other us e) (kept_in L h.1) where
-      by : (b : Bool) → Each (λ z. IsBinder us z.0) (filter (is_other us) L) → Each (λ z. IsBinder us z.0) (cond b (e ∷ filter (is_other us) L) (filter (is_other us) L))
+      by : (b : Bool) → Each (λ z. IsBinder us z.0) (filter (is_other us) L)
+          → Each (λ z. IsBinder us z.0) (cond b (e ∷ filter (is_other us) L) (filter (is_other us) L))
       by true k = ((h.0.site, h.0.at, h.0.binds), k)
       by false k = k
 
@@ -247,14 +257,16 @@ module _ (us : List UnitTree) (sound : IsSound us) where
         (z.1 ∙ ap (λ (x : Name). Some x) (one_given d z.0 y (entry_in IsGiven r d z.0 given z.1) k.0), k.1)
 
     -- a binder that is changed takes a lower-case word, and is no operator and no pun
-    pub changed_word : (d : Place) (y : Name) → Changes us r d y → (x : Site) × (at_place (places us) d ≡ Some x) × IsNewWord lists (binder_of (d, x)) y
+    pub changed_word : (d : Place) (y : Name) → Changes us r d y → (x : Site) × (at_place (places us) d ≡ Some x)
+        × IsNewWord lists (binder_of (d, x)) y
     changed_word d y c =
         let g = entry_in IsGiven r d y given c.0 in
         let own : name_of us d ≡ g.site.name = ap site_name g.at in
         let other : given_name lists (binder_of (d, g.site)) ≢ g.site.name = λ e. c.1 (g.is ∙ (e ∙ sym own)) in
         (g.site, g.at, subst (IsNewWord lists (binder_of (d, g.site))) (sym g.is) (new_word_is lists (binder_of (d, g.site)) other))
 
-    pub gives : (ss : List SourceFile) → AreLexemesOf ss lists → ((d : Place) (y : Name) → Changes us r d y → IsFree us d) → GivesValueNames us (changed us r)
+    pub gives : (ss : List SourceFile) → AreLexemesOf ss lists → ((d : Place) (y : Name) → Changes us r d y → IsFree us d)
+        → GivesValueNames us (changed us r)
     gives ss cut free = record {
       word = λ d y e. let k = changed_word d y (changed_is d y e) in word_is_name ss lists d y cut k.2.word;
       place = λ d y e. let k = in_changed d y e in (k.0.site, k.0.at);
@@ -267,7 +279,8 @@ module _ (us : List UnitTree) (sound : IsSound us) where
 goal_there : (rs : List Ref) (p : Place) (g : Goal) → goal_at rs p ≡ Some g → Contains rs (record { at = p; goal = g })
 goal_there [] p g h = let wrong : None ≡ Some g = h in absurd cc
 goal_there (x ∷ rs) p g h = by (same_place x.at p) refl h (goal_there rs p g) where
-  by : (b : Bool) → same_place x.at p ≡ b → or_else (some_if b x.goal) (goal_at rs p) ≡ Some g → (goal_at rs p ≡ Some g → Contains rs (record { at = p; goal = g })) → Contains (x ∷ rs) (record { at = p; goal = g })
+  by : (b : Bool) → same_place x.at p ≡ b → or_else (some_if b x.goal) (goal_at rs p) ≡ Some g
+      → (goal_at rs p ≡ Some g → Contains rs (record { at = p; goal = g })) → Contains (x ∷ rs) (record { at = p; goal = g })
   by true e q rest =
       let goal : x.goal ≡ g = cc in
       (0, omega arith, ap (λ z. record { at = z; goal = x.goal }) (same_is x.at p e) ∙ ap (λ z. record { at = p; goal = z }) goal)
@@ -284,7 +297,8 @@ module _ (us : List UnitTree) (R : Renaming) (h : GivesValueNames us R) where
   kept_binder p x f None e = refl
   kept_binder p x f (Some y) e = absurd (h.free p y e f)
 
-  kept_use : (p d : Place) (x : Name) → IsFixedSite (at_place (places us) p) → goal_at (facts us).refs p ≡ Some (Decl d) → (o : Option Name) → at_place R d ≡ o → or_value o x ≡ x
+  kept_use : (p d : Place) (x : Name) → IsFixedSite (at_place (places us) p) → goal_at (facts us).refs p ≡ Some (Decl d) → (o : Option Name)
+      → at_place R d ≡ o → or_value o x ≡ x
   kept_use p d x f g None e = refl
   kept_use p d x f g (Some y) e = absurd (h.uses d y (record { at = p; goal = Decl d }) e (goal_there (facts us).refs p (Decl d) g) refl f)
 
@@ -296,10 +310,14 @@ module _ (us : List UnitTree) (R : Renaming) (h : GivesValueNames us R) where
   kept_word p x f (Some Hidden) e = refl
   kept_word p x f (Some (Blur by n b)) e = refl
 
-  kept_all : (L : List (Place × Site)) → Each (λ e. at_place (places us) e.0 ≡ Some e.1) L → Each (λ e. IsTrue (e.1.pun || e.1.operator) → words_of R (facts us).refs e.0 e.1.name ≡ e.1.name) L
+  kept_all : (L : List (Place × Site)) → Each (λ e. at_place (places us) e.0 ≡ Some e.1) L
+      → Each (λ e. IsTrue (e.1.pun || e.1.operator) → words_of R (facts us).refs e.0 e.1.name ≡ e.1.name) L
   kept_all [] k = tt
-  kept_all (e ∷ L) k =
-      ((λ t. kept_word e.0 e.1.name (subst IsFixedSite (sym k.0) (or_turned e.1.pun e.1.operator t)) (goal_at (facts us).refs e.0) refl), kept_all L k.1)
+  kept_all (e ∷ L) k = (
+    (λ t. kept_word e.0 e.1.name (subst IsFixedSite (sym k.0) (or_turned e.1.pun e.1.operator t))
+        (goal_at (facts us).refs e.0) refl),
+    kept_all L k.1,
+  )
 
   pub keeps_fixed : IsSound us → KeepsFixed (words_of R (facts us).refs) us
   keeps_fixed sound = kept_all (places us) (found_all (places us) (apart_of us sound))

@@ -31,19 +31,23 @@ use Rattle.rename_verify.proofs.Listing.{all_free, least_fixed}
 use Rattle.rename_verify.proofs.Reasons.{as_many, no_broken, no_bytes, no_fixed, no_reason, no_sources, then_broken, then_bytes, then_fixed}
 use Rattle.rename_verify.proofs.Renamed.{AreRespelling, stays, still}
 
-pub map_is : {A : Type 0} (view : A → List Lexeme) (ls ks : List A) (bs cs : List Binder) (m : Renaming) → m ≡ candidate (map view ks) cs → ks ≡ ls → cs ≡ bs → m ≡ candidate (map view ls) bs
+pub map_is : {A : Type 0} (view : A → List Lexeme) (ls ks : List A) (bs cs : List Binder) (m : Renaming) → m ≡ candidate (map view ks) cs → ks ≡ ls
+    → cs ≡ bs → m ≡ candidate (map view ls) bs
 map_is view ls ks bs cs m h e f = h ∙ (ap (λ l. candidate (map view l) cs) e ∙ ap (candidate (map view ls)) f)
 
-pub changes_are : {A : Type 0} (view : A → List Lexeme) (ls ks : List A) (bs cs : List Binder) (m : List Changed) → m ≡ changes (map view ks) cs → ks ≡ ls → cs ≡ bs → m ≡ changes (map view ls) bs
+pub changes_are : {A : Type 0} (view : A → List Lexeme) (ls ks : List A) (bs cs : List Binder) (m : List Changed) → m ≡ changes (map view ks) cs
+    → ks ≡ ls → cs ≡ bs → m ≡ changes (map view ls) bs
 changes_are view ls ks bs cs m h e f = h ∙ (ap (λ l. changes (map view l) cs) e ∙ ap (changes (map view ls)) f)
 
-pub as_many_sources : {A : Type 0} (f : A → List ℕ) (w : Words) (olds news : List SourceFile) (outs : List A) → names_of olds ≡ names_of news → AreRespelledBytes w 0 olds (map f outs) → length outs ≡ length news
+pub as_many_sources : {A : Type 0} (f : A → List ℕ) (w : Words) (olds news : List SourceFile) (outs : List A) → names_of olds ≡ names_of news
+    → AreRespelledBytes w 0 olds (map f outs) → length outs ≡ length news
 as_many_sources f w olds news outs names h =
     sym (length-map outs f)
     ∙ (sym (as_many w 0 olds (map f outs) h)
     ∙ (sym (length-map olds (λ s. s.name)) ∙ (ap (λ (l : List (List ℕ)). length l) names ∙ length-map news (λ s. s.name))))
 
-module _ (old new : FileSet) (us : List UnitTree) (p : IsProject old) (reads : Reads old us) (light : heavy us ≡ None) (names : names_of old.entries ≡ names_of new.entries) (manifest : old.manifest ≡ new.manifest)
+module _ (old new : FileSet) (us : List UnitTree) (p : IsProject old) (reads : Reads old us) (light : heavy us ≡ None)
+    (names : names_of old.entries ≡ names_of new.entries) (manifest : old.manifest ≡ new.manifest)
     (lists : List (List Lexeme)) (cut : AreLexemesOf new.entries lists) where
   abbrev r : Renaming
   r = candidate lists (binders_of us)
@@ -57,7 +61,8 @@ module _ (old new : FileSet) (us : List UnitTree) (p : IsProject old) (reads : R
   no_other : IsMet (IsSources old new) → ⊥
   no_other = no_sources old new names manifest
 
-  pub bytes_part : (sources : List (List ℕ)) → AreRespelledBytes (mapped_words us r) 0 old.entries sources → (file offset : ℕ) → FilesPartAt sources news file offset → reasons us old new (why.Bytes file offset)
+  pub bytes_part : (sources : List (List ℕ)) → AreRespelledBytes (mapped_words us r) 0 old.entries sources → (file offset : ℕ)
+      → FilesPartAt sources news file offset → reasons us old new (why.Bytes file offset)
   bytes_part sources i file offset h = then_bytes us old new lists cut no_other file offset (sources, i, h)
 
   module _ (sources : List (List ℕ)) (i : AreRespelledBytes (mapped_words us r) 0 old.entries sources) (same : sources ≡ news) where
@@ -91,7 +96,8 @@ module _ (old new : FileSet) (us : List UnitTree) (p : IsProject old) (reads : R
           }
 
       pub has_shape : (fs : Facts) → fs ≡ facts us → (vs : List UnitTree) → Reads new vs → IsSameShape fs vs
-      has_shape fs e vs k = subst (IsSameShape fs) (one_project new (respell us (changed us r)) vs (still old new us lists respelling) k) (shape_of fs e)
+      has_shape fs e vs k = subst (IsSameShape fs) (one_project new (respell us (changed us r)) vs (still old new us lists respelling) k)
+          (shape_of fs e)
 
       pub is_broken : (fs : Facts) → fs ≡ facts us → (fault : Fault) → HasFirstFault new fs (Some fault) → reasons us old new (why.Broken fault)
       is_broken fs e fault h =

@@ -31,7 +31,11 @@ module _ (fixed : BTreeSet Place) (list : List Changed) where
     by : (b : Bool) → contains place_cmp fixed c.0 ≡ b → IsLeastOrNone (AmongBelow (n + 1)) (cond b (earlier best c.0) best)
     by true t =
         least_more (AmongBelow n) (AmongBelow (n + 1)) best c.0 up (c, found_last n list c is, refl, t)
-        (λ q z. elim (found_split n list z.0 c within is z.1) [ inl b ↦ inl (z.0, b, z.2, z.3) | inr e ↦ inr (ap (λ (x : Changed). x.0) (sym e) ∙ z.2) ]) h
+        (λ q z. elim (found_split n list z.0 c within is z.1) [
+          | inl b ↦ inl (z.0, b, z.2, z.3)
+          | inr e ↦ inr
+              (ap (λ (x : Changed). x.0) (sym e) ∙ z.2)
+        ]) h
     by false t =
         least_same (AmongBelow n) (AmongBelow (n + 1)) best up
         (λ q z. elim (found_split n list z.0 c within is z.1) [
@@ -42,6 +46,8 @@ module _ (fixed : BTreeSet Place) (list : List Changed) where
     pub step : (new : Option Place) → new ≡ cond (contains place_cmp fixed c.0) (earlier best c.0) best → IsLeastOrNone (AmongBelow (n + 1)) new
     step new e = subst (IsLeastOrNone (AmongBelow (n + 1))) (sym e) (by (contains place_cmp fixed c.0) refl)
 
-  pub all : (n : ℕ) (best : Option Place) → n ≤ length list → length list ≤ n → IsLeastOrNone (AmongBelow n) best → IsLeastOrNone (Among list fixed) best
+  pub all : (n : ℕ) (best : Option Place) → n ≤ length list → length list ≤ n → IsLeastOrNone (AmongBelow n) best
+      → IsLeastOrNone (Among list fixed) best
   all n best le ge h =
-      least_same (AmongBelow n) (Among list fixed) best (λ q z. (z.0, found_within n list z.0 le z.1, z.2, z.3)) (λ q z. (z.0, found_all n list z.0 ge z.1, z.2, z.3)) h
+      least_same (AmongBelow n) (Among list fixed) best (λ q z. (z.0, found_within n list z.0 le z.1, z.2, z.3))
+      (λ q z. (z.0, found_all n list z.0 ge z.1, z.2, z.3)) h

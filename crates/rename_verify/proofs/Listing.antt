@@ -32,7 +32,8 @@ has_entry lists [] b c = absurd (none b c) where
   none : (b : Binder) → Contains [] b → ⊥
   none b c = omega (arith, c.1)
 has_entry lists (x ∷ bs) b c = by (same_place x.at b.at) refl (has_entry lists bs b) where
-  by : (v : Bool) → same_place x.at b.at ≡ v → (Contains bs b → (z : Name) × (at_place (candidate lists bs) b.at ≡ Some z)) → (z : Name) × (or_else (some_if (same_place x.at b.at) (given_name lists x)) (at_place (candidate lists bs) b.at) ≡ Some z)
+  by : (v : Bool) → same_place x.at b.at ≡ v → (Contains bs b → (z : Name) × (at_place (candidate lists bs) b.at ≡ Some z)) → (z : Name)
+      × (or_else (some_if (same_place x.at b.at) (given_name lists x)) (at_place (candidate lists bs) b.at) ≡ Some z)
   by true s rest = (given_name lists x, ap (λ v. or_else (some_if v (given_name lists x)) (at_place (candidate lists bs) b.at)) s)
   by false s rest = elim (split_in x bs b c) [
     | inl e ↦ (let wrong : true ≡ false = sym (same_self b.at) ∙ (ap (λ (y : Binder). same_place y.at b.at) (sym e) ∙ s) in absurd cc)
@@ -43,10 +44,12 @@ has_entry lists (x ∷ bs) b c = by (same_place x.at b.at) refl (has_entry lists
 abbrev IsFrom : List (List Lexeme) → Place → Name → Binder → Type 0
 IsFrom lists d y b = (b.at ≡ d) × (given_name lists b ≡ y)
 
-from_entry : (lists : List (List Lexeme)) (bs : List Binder) (d : Place) (y : Name) → at_place (candidate lists bs) d ≡ Some y → Has (IsFrom lists d y) bs
+from_entry : (lists : List (List Lexeme)) (bs : List Binder) (d : Place) (y : Name) → at_place (candidate lists bs) d ≡ Some y
+    → Has (IsFrom lists d y) bs
 from_entry lists [] d y e = let wrong : None ≡ Some y = e in absurd cc
 from_entry lists (x ∷ bs) d y e = by (same_place x.at d) refl e (from_entry lists bs d y) where
-  by : (v : Bool) → same_place x.at d ≡ v → or_else (some_if v (given_name lists x)) (at_place (candidate lists bs) d) ≡ Some y → (at_place (candidate lists bs) d ≡ Some y → Has (IsFrom lists d y) bs)
+  by : (v : Bool) → same_place x.at d ≡ v → or_else (some_if v (given_name lists x)) (at_place (candidate lists bs) d) ≡ Some y
+      → (at_place (candidate lists bs) d ≡ Some y → Has (IsFrom lists d y) bs)
       → Has (IsFrom lists d y) (x ∷ bs)
   by true s f rest = inl (same_is x.at d s, (let g : given_name lists x ≡ y = cc in g))
   by false s f rest = inr (rest f)
@@ -97,8 +100,10 @@ module _ (us : List UnitTree) (sound : IsSound us) (lists : List (List Lexeme)) 
   pub in_changes : (c : Changed) → Contains list c → Changes us r c.0 c.2
   in_changes c k =
       let at : Has (λ z. z ≡ c) (filter is_change (map (change_of lists) bs)) = has_contained (λ z. z ≡ c) list c k refl in
-      let kept : Has (λ z. (z ≡ c) × (is_change z ≡ true)) (map (change_of lists) bs) = has_unfiltered is_change (λ z. z ≡ c) (map (change_of lists) bs) at in
-      let f = contained_has (λ b. (change_of lists b ≡ c) × (is_change (change_of lists b) ≡ true)) bs (has_unmapped (change_of lists) (λ z. (z ≡ c) × (is_change z ≡ true)) bs kept) in
+      let kept : Has (λ z. (z ≡ c) × (is_change z ≡ true)) (map (change_of lists) bs) = has_unfiltered is_change (λ z. z ≡ c)
+      (map (change_of lists) bs) at in
+      let f = contained_has (λ b. (change_of lists b ≡ c) × (is_change (change_of lists b) ≡ true)) bs
+      (has_unmapped (change_of lists) (λ z. (z ≡ c) × (is_change z ≡ true)) bs kept) in
       let b = f.0 in
       let here : Changes us r b.at (given_name lists b) = (entry_is b f.1, λ e. other (change_of lists b) f.2.1 (own_name b f.1 ∙ sym e)) in
       subst (λ (z : Changed). Changes us r z.0 z.2) f.2.0 here
@@ -112,7 +117,8 @@ module _ (us : List UnitTree) (sound : IsSound us) (lists : List (List Lexeme)) 
       let mapped : Has (λ z. (z ≡ c) × (is_change z ≡ true)) (map (change_of lists) bs) =
       has_mapped (change_of lists) (λ z. (z ≡ c) × (is_change z ≡ true)) bs
       (has_as (λ x. x ≡ b) (λ x. (change_of lists x ≡ c) × (is_change (change_of lists x) ≡ true)) bs
-      (λ x e. (ap (change_of lists) e, subst (λ z. is_change (change_of lists z) ≡ true) (sym e) (is_other c differs))) (has_contained (λ x. x ≡ b) bs b f.1 refl)) in
+      (λ x e. (ap (change_of lists) e, subst (λ z. is_change (change_of lists z) ≡ true) (sym e) (is_other c differs)))
+      (has_contained (λ x. x ≡ b) bs b f.1 refl)) in
       let k = contained_has (λ z. z ≡ c) list (has_filtered is_change (λ z. z ≡ c) (map (change_of lists) bs) mapped) in
       (k.0, k.1, ap (λ (z : Changed). z.0) k.2 ∙ f.2.0, ap (λ (z : Changed). z.2) k.2 ∙ f.2.1)
 

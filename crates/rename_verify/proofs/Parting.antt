@@ -5,8 +5,10 @@ use Rattle.std.proofs.lemmas.Option.{slice_get-get_or, slice_get_past}
 use Rattle.std.proofs.lemmas.Grind.{common_steps}
 use Rattle.rename_verify.specs.Differ.{PartAt}
 
-pub same_more : {A : Type 0} (xs ys : List A) (n : ℕ) (d e : A) → n < length xs → n < length ys → get_or xs n d ≡ get_or ys n e → take n xs ≡ take n ys → take (n + 1) xs ≡ take (n + 1) ys
-same_more xs ys n d e v w x h = take_more xs n d v ∙ (ap (λ l. l ++ get_or xs n d ∷ []) h ∙ (ap (λ y. take n ys ++ y ∷ []) x ∙ sym (take_more ys n e w)))
+pub same_more : {A : Type 0} (xs ys : List A) (n : ℕ) (d e : A) → n < length xs → n < length ys → get_or xs n d ≡ get_or ys n e
+    → take n xs ≡ take n ys → take (n + 1) xs ≡ take (n + 1) ys
+same_more xs ys n d e v w x h = take_more xs n d v
+    ∙ (ap (λ l. l ++ get_or xs n d ∷ []) h ∙ (ap (λ y. take n ys ++ y ∷ []) x ∙ sym (take_more ys n e w)))
 
 some_is : {A : Type 0} (x y : A) → Some x ≡ Some y → x ≡ y
 some_is x y e = cc
@@ -32,7 +34,8 @@ parts_begun xs ys n v w h = record {
   other = λ k. let wrong : Some (get_or ys n 0) ≡ None = sym (slice_get-get_or ys n 0 w) ∙ (sym k ∙ slice_get_past xs n v) in cc;
 }
 
-pub mapped_more : {A B C : Type 0} (f : A → C) (g : B → C) (xs : List A) (ys : List B) (n : ℕ) (d : A) (e : B) → n < length xs → n < length ys → f (get_or xs n d) ≡ g (get_or ys n e)
+pub mapped_more : {A B C : Type 0} (f : A → C) (g : B → C) (xs : List A) (ys : List B) (n : ℕ) (d : A) (e : B) → n < length xs → n < length ys
+    → f (get_or xs n d) ≡ g (get_or ys n e)
     → take n (map f xs) ≡ take n (map g ys) → take (n + 1) (map f xs) ≡ take (n + 1) (map g ys)
 mapped_more f g xs ys n d e v w x h =
     let a : n < length (map f xs) = subst (λ m. n < m) (sym (length-map xs f)) v in

@@ -28,15 +28,18 @@ use Rattle.rename_verify.specs.Verdict.{IsSources, IsBytes, IsFixed, IsFixedAt, 
 -- ---- respelled bytes are one
 
 one_bytes_of : (w : Words) (n : ℕ) (old a b : List ℕ) → IsRespelledBytes w n old a → IsRespelledBytes w n old b → a ≡ b
-one_bytes_of w n old a b h k = h.bytes ∙ (ap (λ (xs : List Lexeme). respelled old xs (new_texts (in_file w n) 1 xs)) (one_lexed h.cut k.cut) ∙ sym k.bytes)
+one_bytes_of w n old a b h k = h.bytes
+    ∙ (ap (λ (xs : List Lexeme). respelled old xs (new_texts (in_file w n) 1 xs)) (one_lexed h.cut k.cut) ∙ sym k.bytes)
 
-pub one_bytes : (w : Words) (n : ℕ) (olds : List SourceFile) (a b : List (List ℕ)) → AreRespelledBytes w n olds a → AreRespelledBytes w n olds b → a ≡ b
+pub one_bytes : (w : Words) (n : ℕ) (olds : List SourceFile) (a b : List (List ℕ)) → AreRespelledBytes w n olds a → AreRespelledBytes w n olds b
+    → a ≡ b
 one_bytes w n [] [] [] h k = refl
 one_bytes w n [] [] (y ∷ b) h k = absurd k
 one_bytes w n [] (x ∷ a) b h k = absurd h
 one_bytes w n (o ∷ olds) [] b h k = absurd h
 one_bytes w n (o ∷ olds) (x ∷ a) [] h k = absurd k
-one_bytes w n (o ∷ olds) (x ∷ a) (y ∷ b) h k = ap (λ z. z ∷ a) (one_bytes_of w n o.bytes x y h.0 k.0) ∙ ap (λ l. y ∷ l) (one_bytes w (suc n) olds a b h.1 k.1)
+one_bytes w n (o ∷ olds) (x ∷ a) (y ∷ b) h k = ap (λ z. z ∷ a) (one_bytes_of w n o.bytes x y h.0 k.0)
+    ∙ ap (λ l. y ∷ l) (one_bytes w (suc n) olds a b h.1 k.1)
 
 pub as_many : (w : Words) (n : ℕ) (olds : List SourceFile) (a : List (List ℕ)) → AreRespelledBytes w n olds a → length olds ≡ length a
 as_many w n [] [] h = refl
@@ -50,7 +53,8 @@ pub not_alone : (olds news : List Name) (x : Name) → olds ≡ news → IsAlone
 not_alone olds news x e (inl a) = a.1 (subst (λ l. Contains l x) e a.0)
 not_alone olds news x e (inr a) = a.1 (subst (λ l. Contains l x) (sym e) a.0)
 
-same_sources : (old new : FileSet) (x : Name) → names_of old.entries ≡ names_of new.entries → old.manifest ≡ new.manifest → HasOtherSources old new x → ⊥
+same_sources : (old new : FileSet) (x : Name) → names_of old.entries ≡ names_of new.entries → old.manifest ≡ new.manifest → HasOtherSources old new x
+    → ⊥
 same_sources old new x e m (source y a) = not_alone (names_of old.entries) (names_of new.entries) y e a.alone
 same_sources old new x e m (manifest f n) = n m
 
@@ -92,7 +96,8 @@ module _ (us : List UnitTree) (r : Renaming) (old new : FileSet) where
 abbrev pub Rest : List UnitTree → FileSet → FileSet → Renaming → Why → Type 0
 Rest us old new r = before (IsBytes us r old new) (before (IsFixedAt us r) (IsBroken us new))
 
-module _ (us : List UnitTree) (old new : FileSet) (lists : List (List Lexeme)) (cut : AreLexemesOf new.entries lists) (sources : IsMet (IsSources old new) → ⊥) where
+module _ (us : List UnitTree) (old new : FileSet) (lists : List (List Lexeme)) (cut : AreLexemesOf new.entries lists)
+    (sources : IsMet (IsSources old new) → ⊥) where
   abbrev r : Renaming
   r = candidate lists (binders_of us)
 
@@ -105,7 +110,8 @@ module _ (us : List UnitTree) (old new : FileSet) (lists : List (List Lexeme)) (
   pub then_fixed : (IsMet (IsBytes us r old new) → ⊥) → (at : Place) → IsLeast (IsFixed us r) at → reasons us old new (why.Fixed at)
   then_fixed b at h = for_it (why.Fixed at) (inr (b, inl h))
 
-  pub then_broken : (IsMet (IsBytes us r old new) → ⊥) → (IsMet (IsFixedAt us r) → ⊥) → (fault : Fault) → IsBroken us new (why.Broken fault) → reasons us old new (why.Broken fault)
+  pub then_broken : (IsMet (IsBytes us r old new) → ⊥) → (IsMet (IsFixedAt us r) → ⊥) → (fault : Fault) → IsBroken us new (why.Broken fault)
+      → reasons us old new (why.Broken fault)
   then_broken b f fault h = for_it (why.Broken fault) (inr (b, inr (f, h)))
 
   no_rest : (IsMet (IsBytes us r old new) → ⊥) → (IsMet (IsFixedAt us r) → ⊥) → (IsMet (IsBroken us new) → ⊥) → (w : Why) → Rest us old new r w → ⊥

@@ -46,7 +46,8 @@ module _ (old new : FileSet) (us : List UnitTree) (lists : List (List Lexeme)) (
 
   pub renamed : AreRenamed us (changed us r) old new
   renamed = record {
-    sources = sources_are_renamed old us h.project h.reads (mapped_words us r) (changes_places us (changed us r) sound gives) keeps new.entries h.bytes h.names;
+    sources = sources_are_renamed old us h.project h.reads (mapped_words us r)
+        (changes_places us (changed us r) sound gives) keeps new.entries h.bytes h.names;
     manifest = sym h.manifest;
   }
 

@@ -53,7 +53,8 @@ cut_is (s ∷ ss) (xs ∷ lists) h = (inl h.0, cut_is ss lists h.1)
 some_is : {A : Type 0} (x y : A) → Some x ≡ Some y → x ≡ y
 some_is x y e = cc
 
-cut_at : (ss : List SourceFile) (lists : List (List Lexeme)) (k : ℕ) (s : SourceFile) (xs : List Lexeme) → AreCut ss lists → slice_get ss k ≡ Some s → Lexed s.bytes xs → slice_get lists k ≡ Some xs
+cut_at : (ss : List SourceFile) (lists : List (List Lexeme)) (k : ℕ) (s : SourceFile) (xs : List Lexeme) → AreCut ss lists → slice_get ss k ≡ Some s
+    → Lexed s.bytes xs → slice_get lists k ≡ Some xs
 cut_at [] [] k s xs h e cut = let wrong : None ≡ Some s = e in absurd cc
 cut_at [] (ys ∷ lists) k s xs h e cut = absurd h
 cut_at (x ∷ ss) [] k s xs h e cut = absurd h
@@ -86,7 +87,8 @@ lower_tok c at text y e =
     same_class c k x y e = cc
 
 -- the new word of a lower-case lexeme
-new_lower : (v : Spelling) (at old now : ℕ) (xs : List Lexeme) (y : Name) (k : ℕ) → k < length (lexeme_toks at xs) → get_or (lexeme_toks at xs) k (word class.Lower y) ≡ word class.Lower y
+new_lower : (v : Spelling) (at old now : ℕ) (xs : List Lexeme) (y : Name) (k : ℕ) → k < length (lexeme_toks at xs)
+    → get_or (lexeme_toks at xs) k (word class.Lower y) ≡ word class.Lower y
     → lower_word (slice_get (respelled_lexemes_from old now xs (new_words v at xs)) k) ≡ Some (v (at + k) y.text)
 new_lower v at old now [] y k less e = absurd (omega (arith, less))
 new_lower v at old now (x ∷ xs) y zero less e =
@@ -106,13 +108,16 @@ file_is kind.Body n (Face a is) h = absurd h
 file_is kind.Face n (Face a is) h = h
 file_is kind.Face n (Body a is) h = absurd h
 
-module _ (old new : FileSet) (us : List UnitTree) (r : Renaming) (p : IsProject old) (reads : Reads old us) (gives : GivesValueNames us r) (renamed : AreRenamed us r old new) (lists : List (List Lexeme)) (cut : AreLexemesOf new.entries lists) where
-  pub word_is : (d : Place) (x : Site) → at_place (places us) d ≡ Some x → x.operator ≡ false → x.pun ≡ false → word_at lists d ≡ Some (renamed_words us r d x.name)
+module _ (old new : FileSet) (us : List UnitTree) (r : Renaming) (p : IsProject old) (reads : Reads old us) (gives : GivesValueNames us r)
+    (renamed : AreRenamed us r old new) (lists : List (List Lexeme)) (cut : AreLexemesOf new.entries lists) where
+  pub word_is : (d : Place) (x : Site) → at_place (places us) d ≡ Some x → x.operator ≡ false → x.pun ≡ false
+      → word_at lists d ≡ Some (renamed_words us r d x.name)
   word_is d x at operator pun =
       let w : Spellings = in_file (renamed_words us r) in
       let olds = lists_of 0 old.entries reads.trees reads.read in
       let news = respelled_lists w 0 olds.0 in
-      let same_lists : news ≡ lists = one_lexemes new.entries news lists (cut_is new.entries news (renamed_files_are_cut us r old new olds.0 p reads gives renamed olds.1)) cut in
+      let same_lists : news ≡ lists = one_lexemes new.entries news lists
+      (cut_is new.entries news (renamed_files_are_cut us r old new olds.0 p reads gives renamed olds.1)) cut in
       let has = place_in (IsFrom us) (places us) d x (of_units us us (λ v c. c)) at in
       let t = has.0 in
       let from = parts_are_trees old us p reads has.1.0 t has.1.1 has.1.2 in

@@ -40,7 +40,8 @@ module _ (w : Words) where
   abbrev Kept : Place × Site → Type 0
   Kept e = IsTrue (e.1.pun || e.1.operator) → w e.0 e.1.name ≡ e.1.name
 
-  unit_kept : (us : List UnitTree) (u : UnitTree) → Each Kept (places us) → Contains us u → Each Kept (file_places u.body) × Each Kept (file_places u.face)
+  unit_kept : (us : List UnitTree) (u : UnitTree) → Each Kept (places us) → Contains us u → Each Kept (file_places u.body)
+      × Each Kept (file_places u.face)
   unit_kept [] u h c = absurd (omega (arith, c.1))
   unit_kept (v ∷ us) u h c =
       let a = each_parted Kept (file_places v.body) (file_places v.face ++ places us) h in
@@ -67,14 +68,16 @@ module _ (w : Words) where
     pub changes : ChangesNames (in_file w n) (sites t)
     pub keeps : Each (KeepsOwn (in_file w n)) (sites t)
 
-  one_source : (n : ℕ) (old new : SourceFile) (t : FileTree) → ReadsAs n old t → IsApt n t → IsRespelledBytes w n old.bytes new.bytes → new.name ≡ old.name → IsRespelled (in_file w n) old new
+  one_source : (n : ℕ) (old new : SourceFile) (t : FileTree) → ReadsAs n old t → IsApt n t → IsRespelledBytes w n old.bytes new.bytes
+      → new.name ≡ old.name → IsRespelled (in_file w n) old new
   one_source n old new t r a i name =
       let same : lexeme_toks 1 i.lexemes ≡ words t = ap (lexeme_toks 1) (one_lexed i.cut r.plain.cut) ∙ r.parsed.reads in
       record {
         lexemes = i.lexemes;
         cut = i.cut;
         name = name;
-        bytes = i.bytes ∙ ap (respelled old.bytes i.lexemes) (tree_texts (in_file w n) t old.bytes i.lexemes r.parsed.wf i.cut same a.changes a.keeps);
+        bytes = i.bytes ∙ ap (respelled old.bytes i.lexemes)
+            (tree_texts (in_file w n) t old.bytes i.lexemes r.parsed.wf i.cut same a.changes a.keeps);
       }
 
   -- ---- all sources
@@ -91,19 +94,22 @@ module _ (w : Words) where
   further : (n k : ℕ) → n + suc k ≡ suc n + k
   further n k = omega arith
 
-  all_sources : (n : ℕ) (olds news : List SourceFile) (ts : List FileTree) → ReadAll n olds ts → ((k : ℕ) → k < length olds → IsApt (n + k) (tree_at ts k))
+  all_sources : (n : ℕ) (olds news : List SourceFile) (ts : List FileTree) → ReadAll n olds ts
+      → ((k : ℕ) → k < length olds → IsApt (n + k) (tree_at ts k))
       → AreRespelledBytes w n olds (map (λ s. s.bytes) news) → names_of olds ≡ names_of news → AreRespelled (in_file w) n olds news
   all_sources n [] [] ts h a i names = tt
   all_sources n [] (x ∷ news) ts h a i names = absurd i
   all_sources n (o ∷ olds) [] ts h a i names = absurd i
   all_sources n (o ∷ olds) (x ∷ news) [] h a i names = absurd h
   all_sources n (o ∷ olds) (x ∷ news) (t ∷ ts) h a i names = (
-    one_source n o x t h.0 (subst (λ m. IsApt m t) (alone n) (a 0 (omega arith))) i.0 (sym (name_head o.name x.name (names_of olds) (names_of news) names)),
+    one_source n o x t h.0 (subst (λ m. IsApt m t) (alone n) (a 0 (omega arith))) i.0
+        (sym (name_head o.name x.name (names_of olds) (names_of news) names)),
     all_sources (suc n) olds news ts h.1 (λ k less. subst (λ m. IsApt m (tree_at ts k)) (further n k) (a (suc k) (omega (arith, less)))) i.1
         (name_tail o.name x.name (names_of olds) (names_of news) names),
   )
 
-module _ (old : FileSet) (us : List UnitTree) (p : IsProject old) (reads : Reads old us) (w : Words) (changes : ChangesPlaces us w) (keeps : KeepsFixed w us) where
+module _ (old : FileSet) (us : List UnitTree) (p : IsProject old) (reads : Reads old us) (w : Words) (changes : ChangesPlaces us w)
+    (keeps : KeepsFixed w us) where
   from_zero : (k : ℕ) → 0 + k ≡ k
   from_zero k = omega arith
 
@@ -115,13 +121,16 @@ module _ (old : FileSet) (us : List UnitTree) (p : IsProject old) (reads : Reads
       let part = trees_are_parts old us p reads k s t (slice_get-get_or old.entries k _ less) read in
       let kept = unit_kept w us part.0 keeps part.1 in
       record {
-        changes = changes_by (kind_of_source s.name) k (in_file w) t read.parsed.of_file (changes_at (in_file w) old us p reads (changes_all old us p reads w changes) k less);
+        changes = changes_by (kind_of_source s.name) k (in_file w) t read.parsed.of_file
+            (changes_at (in_file w) old us p reads (changes_all old us p reads w changes) k less);
         keeps = tree_kept w (kind_of_source s.name) k t read.parsed.of_file (elim part.2 [
           | inl e ↦ subst (λ o. Each (Kept w) (file_places o)) e kept.0
           | inr e ↦ subst (λ o. Each (Kept w) (file_places o)) e kept.1
         ]);
       }
 
-  pub sources_are_renamed : (news : List SourceFile) → AreRespelledBytes w 0 old.entries (map (λ s. s.bytes) news) → names_of old.entries ≡ names_of news → AreRespelled (in_file w) 0 old.entries news
+  pub sources_are_renamed : (news : List SourceFile) → AreRespelledBytes w 0 old.entries (map (λ s. s.bytes) news)
+      → names_of old.entries ≡ names_of news → AreRespelled (in_file w) 0 old.entries news
   sources_are_renamed news i names =
-      all_sources w 0 old.entries news reads.trees reads.read (λ k less. subst (λ n. IsApt w n (tree_at reads.trees k)) (sym (from_zero k)) (apt k less)) i names
+      all_sources w 0 old.entries news reads.trees reads.read
+      (λ k less. subst (λ n. IsApt w n (tree_at reads.trees k)) (sym (from_zero k)) (apt k less)) i names

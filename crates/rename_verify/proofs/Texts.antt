@@ -53,7 +53,8 @@ named_word s t (a_sign c x a n q) o = let wrong : true ≡ false = sym q ∙ o i
 named_word s t (a_minus x a n q) o = let wrong : true ≡ false = sym q ∙ o in cc
 
 -- the place with the number of a token is at that token
-stands_at : (ts : List Tok) (ss : List Site) → AreNumberedBy ts 0 ss → (s : Site) → Contains ss s → (past : List Tok) (here : Tok) (rest : List Tok) (at : ℕ) → ts ≡ past ++ here ∷ rest → suc (length past) ≡ at → s.at ≡ at
+stands_at : (ts : List Tok) (ss : List Site) → AreNumberedBy ts 0 ss → (s : Site) → Contains ss s
+    → (past : List Tok) (here : Tok) (rest : List Tok) (at : ℕ) → ts ≡ past ++ here ∷ rest → suc (length past) ≡ at → s.at ≡ at
     → IsWordOf s here
 stands_at ts ss numbers s c past here rest at whole size is_at =
     let f = find ts 0 ss s numbers c.0 c.1 c.2 in
@@ -81,33 +82,42 @@ mark_is_not (Some f) at x = fixed_is_not (is_placed f) f at
 
 -- ---- the texts
 
-module _ (w : Spelling) (ts : List Tok) (ss : List Site) (numbers : AreNumberedBy ts 0 ss) (changes : ChangesNames w ss) (keeps : Each (KeepsOwn w) ss) where
-  kept_word : (past : List Tok) (c : Class) (text : List ℕ) (rest : List Tok) (at : ℕ) → ts ≡ past ++ tok c at text ∷ rest → suc (length past) ≡ at → is_named (tok c at text) ≡ false → w at text ≡ text
+module _ (w : Spelling) (ts : List Tok) (ss : List Site) (numbers : AreNumberedBy ts 0 ss) (changes : ChangesNames w ss)
+    (keeps : Each (KeepsOwn w) ss) where
+  kept_word : (past : List Tok) (c : Class) (text : List ℕ) (rest : List Tok) (at : ℕ) → ts ≡ past ++ tok c at text ∷ rest → suc (length past) ≡ at
+      → is_named (tok c at text) ≡ false → w at text ≡ text
   kept_word past c text rest at whole size other = elim (changes at text) [
     | inl e ↦ e
     | inr n ↦
-        let named : is_named (tok c at text) ≡ true = named_word n.1 (tok c at text) (stands_at ts ss numbers n.1 n.2 past (tok c at text) rest at whole size n.3) n.4 in
+        let named : is_named (tok c at text) ≡ true = named_word n.1 (tok c at text)
+        (stands_at ts ss numbers n.1 n.2 past (tok c at text) rest at whole size n.3) n.4 in
         let wrong : true ≡ false = sym named ∙ other in
         cc
   ]
 
-  kept_label : (past : List Tok) (text : List ℕ) (rest : List Tok) (at : ℕ) → ts ≡ past ++ tok class.Label at text ∷ rest → suc (length past) ≡ at → w at (label_name text) ≡ label_name text
+  kept_label : (past : List Tok) (text : List ℕ) (rest : List Tok) (at : ℕ) → ts ≡ past ++ tok class.Label at text ∷ rest → suc (length past) ≡ at
+      → w at (label_name text) ≡ label_name text
   kept_label past text rest at whole size = elim (changes at (label_name text)) [
     | inl e ↦ e
     | inr n ↦
-        let l = label_text n.1 (record { at = at; text = text }) (stands_at ts ss numbers n.1 n.2 past (tok class.Label at text) rest at whole size n.3) n.4 in
+        let l = label_text n.1 (record { at = at; text = text })
+        (stands_at ts ss numbers n.1 n.2 past (tok class.Label at text) rest at whole size n.3) n.4 in
         let own : w n.1.at n.1.name ≡ n.1.name = each_in (KeepsOwn w) ss n.1 keeps n.2 (ap (λ b. b || n.1.operator) l.0) in
         subst (λ x. w at x ≡ x) l.1 (subst (λ k. w k n.1.name ≡ n.1.name) n.3 own)
   ]
 
-  one_text : (past : List Tok) (c : Class) (text : List ℕ) (rest : List Tok) (at : ℕ) → ts ≡ past ++ tok c at text ∷ rest → suc (length past) ≡ at → new_text (w at) c text ≡ (spelled w c (record { at = at; text = text })).text
+  one_text : (past : List Tok) (c : Class) (text : List ℕ) (rest : List Tok) (at : ℕ) → ts ≡ past ++ tok c at text ∷ rest → suc (length past) ≡ at
+      → new_text (w at) c text ≡ (spelled w c (record { at = at; text = text })).text
   one_text past class.Lower text rest at whole size = refl
   one_text past class.Label text rest at whole size = ap (label_with text) (kept_label past text rest at whole size) ∙ label_kept text
-  one_text past class.Keyword text rest at whole size = kept_word past class.Keyword text rest at whole size (keyword_is_not (fixed_of text) at (record { at = at; text = text }))
-  one_text past class.Mark text rest at whole size = kept_word past class.Mark text rest at whole size (mark_is_not (fixed_of text) at (record { at = at; text = text }))
+  one_text past class.Keyword text rest at whole size = kept_word past class.Keyword text rest at whole size
+      (keyword_is_not (fixed_of text) at (record { at = at; text = text }))
+  one_text past class.Mark text rest at whole size = kept_word past class.Mark text rest at whole size
+      (mark_is_not (fixed_of text) at (record { at = at; text = text }))
   one_text past c text rest at whole size = kept_word past c text rest at whole size refl
 
-  all_texts : (past : List Tok) (xs : List Lexeme) (at : ℕ) → ts ≡ past ++ lexeme_toks at xs → suc (length past) ≡ at → new_texts w at xs ≡ new_words w at xs
+  all_texts : (past : List Tok) (xs : List Lexeme) (at : ℕ) → ts ≡ past ++ lexeme_toks at xs → suc (length past) ≡ at
+      → new_texts w at xs ≡ new_words w at xs
   all_texts past [] at whole size = refl
   all_texts past (x ∷ xs) at whole size =
       let t = tok x.class at x.bytes in
@@ -116,7 +126,8 @@ module _ (w : Spelling) (ts : List Tok) (ss : List Site) (numbers : AreNumberedB
       ap (λ y. y ∷ new_texts w (suc at) xs) (one_text past x.class x.bytes (lexeme_toks (suc at) xs) at whole size)
       ∙ ap (λ l. (spelled w x.class (record { at = at; text = x.bytes })).text ∷ l) (all_texts (past ++ t ∷ []) xs (suc at) more longer)
 
-pub tree_texts : (w : Spelling) (t : FileTree) (bytes : List ℕ) (xs : List Lexeme) → WfFile t → Lexed bytes xs → lexeme_toks 1 xs ≡ words t → ChangesNames w (sites t) → Each (KeepsOwn w) (sites t)
+pub tree_texts : (w : Spelling) (t : FileTree) (bytes : List ℕ) (xs : List Lexeme) → WfFile t → Lexed bytes xs → lexeme_toks 1 xs ≡ words t
+    → ChangesNames w (sites t) → Each (KeepsOwn w) (sites t)
     → new_texts w 1 xs ≡ new_words w 1 xs
 tree_texts w t bytes xs wf cut same changes keeps =
     let numbered = sites_are_numbered t wf (subst (AreNumbered 1) same (lexemes_are_numbered bytes xs cut)) in

@@ -78,9 +78,15 @@ module _ {A : Type 0} (make : Place → Goal → A) (old new : List A) (none : (
   none_below : (p : Place) → IsLeast At p → (n k : ℕ) → k < n → (w v : Goal) → Differs make old new k p w v → ⊥
   none_below p l zero k less w v d = omega (arith, less)
   none_below p l (suc n) k less w v d =
-      none p w v (record { number = k; differs = d; least = λ j q x y e. order j q x y e (l.least q (j, x, y, e)) (λ f i. none_below p l n j f x y i) })
+      none p w v (record {
+        number = k;
+        differs = d;
+        least = λ j q x y e. order j q x y e (l.least q (j, x, y, e))
+            (λ f i. none_below p l n j f x y i);
+      })
     where
-      order : (j : ℕ) (q : Place) (x y : Goal) → Differs make old new j q x y → (p ≡ q) ⊎ IsBefore p q → (j < n → Differs make old new j p x y → ⊥) → IsBefore p q ⊎ ((p ≡ q) × (k ≤ j))
+      order : (j : ℕ) (q : Place) (x y : Goal) → Differs make old new j q x y → (p ≡ q) ⊎ IsBefore p q → (j < n → Differs make old new j p x y → ⊥)
+          → IsBefore p q ⊎ ((p ≡ q) × (k ≤ j))
       order j q x y e (inr b) more = inl b
       order j q x y e (inl s) more = elim (which j k) [
         | inl i ↦ inr (s, omega (arith, i))
@@ -110,11 +116,13 @@ goal_head a b u v e = cc
 goal_tail : (a b : Goal) (u v : List Goal) → a ∷ u ≡ b ∷ v → u ≡ v
 goal_tail a b u v e = cc
 
-behind_one : {A : Type 0} (make : Place → Goal → A) (x y : A) (xs ys : List A) → ((k : ℕ) (p : Place) (w v : Goal) → Differs make (x ∷ xs) (y ∷ ys) k p w v → ⊥)
+behind_one : {A : Type 0} (make : Place → Goal → A) (x y : A) (xs ys : List A)
+    → ((k : ℕ) (p : Place) (w v : Goal) → Differs make (x ∷ xs) (y ∷ ys) k p w v → ⊥)
     → (k : ℕ) (p : Place) (w v : Goal) → Differs make xs ys k p w v → ⊥
 behind_one make x y xs ys none k p w v d = none (suc k) p w v (record { old_one = d.old_one; new_one = d.new_one; differ = d.differ })
 
-refs_equal : (rs ss : List Ref) → map (λ r. r.at) rs ≡ map (λ r. r.at) ss → ((k : ℕ) (p : Place) (w v : Goal) → Differs of_ref rs ss k p w v → ⊥) → rs ≡ ss
+refs_equal : (rs ss : List Ref) → map (λ r. r.at) rs ≡ map (λ r. r.at) ss → ((k : ℕ) (p : Place) (w v : Goal) → Differs of_ref rs ss k p w v → ⊥)
+    → rs ≡ ss
 refs_equal [] [] e none = refl
 refs_equal [] (s ∷ ss) e none = cc
 refs_equal (r ∷ rs) [] e none = cc
@@ -123,19 +131,22 @@ refs_equal (r ∷ rs) (s ∷ ss) e none =
     let rest : rs ≡ ss = refs_equal rs ss (place_tail r.at s.at (map (λ x. x.at) rs) (map (λ x. x.at) ss) e) (behind_one of_ref r s rs ss none) in
     elim (equal_or r.goal s.goal) [
       | inl g ↦ ap (λ l. r ∷ l) rest ∙ ap (λ (x : Ref). x ∷ ss) (ap (λ (p : Place). of_ref p r.goal) at ∙ ap (of_ref s.at) g)
-      | inr n ↦ absurd (none 0 r.at r.goal s.goal (record { old_one = refl; new_one = ap (λ (p : Place). Some (of_ref p s.goal)) (sym at); differ = n }))
+      | inr n ↦ absurd (none 0 r.at r.goal s.goal
+          (record { old_one = refl; new_one = ap (λ (p : Place). Some (of_ref p s.goal)) (sym at); differ = n }))
     ]
 
 abbrev link_of : Goal → Goal → Link
 link_of i s = record { item = i; source = s }
 
-links_equal : (ls ks : List Link) → Each IsAtDecl ls → map (λ l. l.item) ls ≡ map (λ l. l.item) ks → ((k : ℕ) (p : Place) (w v : Goal) → Differs of_link ls ks k p w v → ⊥) → ls ≡ ks
+links_equal : (ls ks : List Link) → Each IsAtDecl ls → map (λ l. l.item) ls ≡ map (λ l. l.item) ks
+    → ((k : ℕ) (p : Place) (w v : Goal) → Differs of_link ls ks k p w v → ⊥) → ls ≡ ks
 links_equal [] [] d e none = refl
 links_equal [] (k ∷ ks) d e none = cc
 links_equal (l ∷ ls) [] d e none = cc
 links_equal (l ∷ ls) (k ∷ ks) d e none =
     let item : l.item ≡ k.item = goal_head l.item k.item (map (λ x. x.item) ls) (map (λ x. x.item) ks) e in
-    let rest : ls ≡ ks = links_equal ls ks d.1 (goal_tail l.item k.item (map (λ x. x.item) ls) (map (λ x. x.item) ks) e) (behind_one of_link l k ls ks none) in
+    let rest : ls ≡ ks = links_equal ls ks d.1 (goal_tail l.item k.item (map (λ x. x.item) ls) (map (λ x. x.item) ks) e)
+    (behind_one of_link l k ls ks none) in
     elim (equal_or l.source k.source) [
       | inl g ↦ ap (λ xs. l ∷ xs) rest ∙ ap (λ (x : Link). x ∷ ks) (ap (λ (i : Goal). link_of i l.source) item ∙ ap (link_of k.item) g)
       | inr n ↦ absurd (none 0 d.0.0 l.source k.source (record {
@@ -160,12 +171,15 @@ module _ (us vs : List UnitTree) (sound : IsSound us) (stays : StaysPut us vs) (
   refs_same : (facts us).refs ≡ (facts vs).refs
   refs_same =
       refs_equal (facts us).refs (facts vs).refs (sym stays.refs)
-      (no_differs of_ref (facts us).refs (facts vs).refs (λ p w v d. not_first (IsCapture (facts us).refs (facts vs).refs) (IsMislink (facts us).links (facts vs).links) later (Capture p w v, d)))
+      (no_differs of_ref (facts us).refs (facts vs).refs
+      (λ p w v d. not_first (IsCapture (facts us).refs (facts vs).refs) (IsMislink (facts us).links (facts vs).links) later (Capture p w v, d)))
 
   links_same : (facts us).links ≡ (facts vs).links
   links_same =
       links_equal (facts us).links (facts vs).links (items_decl us sound) (sym stays.items)
-      (no_differs of_link (facts us).links (facts vs).links (λ p w v d. not_rest (IsCapture (facts us).refs (facts vs).refs) (IsMislink (facts us).links (facts vs).links) later (Mislink (Decl p) w v, d)))
+      (no_differs of_link (facts us).links (facts vs).links
+      (λ p w v d. not_rest (IsCapture (facts us).refs (facts vs).refs) (IsMislink (facts us).links (facts vs).links) later
+      (Mislink (Decl p) w v, d)))
 
   pub same_facts : facts vs ≡ facts us
   same_facts =

@@ -73,10 +73,12 @@ module _ (us : List UnitTree) where
   decl_same : (a b : Place) (g : Goal) → g ≡ Decl a → g ≡ Decl b → a ≡ b
   decl_same a b g e f = let both : ◌≡◌ {A = Goal} (Decl a) (Decl b) = sym e ∙ f in cc
 
-  one_of_name : (vs : List (Name × Goal)) → AreNamedApart vs → Each IsOwn vs → (a b : Place) → Contains (decls_of vs) a → Contains (decls_of vs) b → name_of us a ≡ name_of us b → a ≡ b
+  one_of_name : (vs : List (Name × Goal)) → AreNamedApart vs → Each IsOwn vs → (a b : Place) → Contains (decls_of vs) a → Contains (decls_of vs) b
+      → name_of us a ≡ name_of us b → a ≡ b
   one_of_name [] h o a b c k e = absurd (none_in a c)
   one_of_name (v ∷ vs) h o a b c k e =
-      by (Contains-append_cases (decl_list v.1) (decls_of vs) a c) (Contains-append_cases (decl_list v.1) (decls_of vs) b k) (one_of_name vs h.1 o.1 a b)
+      by (Contains-append_cases (decl_list v.1) (decls_of vs) a c) (Contains-append_cases (decl_list v.1) (decls_of vs) b k)
+      (one_of_name vs h.1 o.1 a b)
     where
       not_behind : (d z : Place) → Contains (decl_list v.1) d → Contains (decls_of vs) z → name_of us d ≡ name_of us z → ⊥
       not_behind d z i j s =
@@ -105,5 +107,6 @@ good_repeats_none us sound good first again h =
     let apart = each_in (λ x. AreNamedApart (vals x)) (groups_of (steps us)) es good.apart g.1 in
     let named = each_in (Named (Own us)) (groups_of (steps us)) es all g.1 in
     let one : first ≡ again =
-    one_of_name us (vals es) apart (vals_own us es named) first again (subst (λ l. Contains l first) (sym g.2) h.here) (subst (λ l. Contains l again) (sym g.2) h.there) h.same in
+    one_of_name us (vals es) apart (vals_own us es named) first again (subst (λ l. Contains l first) (sym g.2) h.here)
+    (subst (λ l. Contains l again) (sym g.2) h.there) h.same in
     not_before again (subst (λ p. IsBefore p again) one h.order)

@@ -72,14 +72,16 @@ same_manifest (Some x) (Some y) h = by (bytes_eq x y) refl where
   by false e = absurd (h (λ k. let yes : bytes_eq x y ≡ true = (bytes_eq-Decides x y).1 (some_is k) in let wrong : true ≡ false = sym yes ∙ e in cc))
 
 same_names : (old new : FileSet) → IsProject old → IsProject new → (IsMet (IsSources old new) → ⊥) → names_of old.entries ≡ names_of new.entries
-same_names old new p q none = by (first_alone (names_of old.entries) (names_of new.entries)) (told (names_of old.entries) (names_of new.entries) p.sources.ordered q.sources.ordered) where
-  by : (o : Option Name) → IsToldAlone (names_of old.entries) (names_of new.entries) o → names_of old.entries ≡ names_of new.entries
-  by None h = h
-  by (Some x) h = absurd (none (why.Sources x, source x h))
+same_names old new p q none = by (first_alone (names_of old.entries) (names_of new.entries))
+    (told (names_of old.entries) (names_of new.entries) p.sources.ordered q.sources.ordered) where
+      by : (o : Option Name) → IsToldAlone (names_of old.entries) (names_of new.entries) o → names_of old.entries ≡ names_of new.entries
+      by None h = h
+      by (Some x) h = absurd (none (why.Sources x, source x h))
 
 -- ---- the bytes
 
-respelled_all : (w : Words) (n : ℕ) (olds : List SourceFile) (ts : List FileTree) → ReadAll n olds ts → (outs : List (List ℕ)) × AreRespelledBytes w n olds outs
+respelled_all : (w : Words) (n : ℕ) (olds : List SourceFile) (ts : List FileTree) → ReadAll n olds ts → (outs : List (List ℕ))
+    × AreRespelledBytes w n olds outs
 respelled_all w n [] [] h = ([], tt)
 respelled_all w n [] (t ∷ ts) h = absurd h
 respelled_all w n (o ∷ olds) [] h = absurd h
@@ -95,15 +97,18 @@ respelled_all w n (o ∷ olds) (t ∷ ts) h =
 filtered_again : {A : Type 0} (test : A → Bool) (xs : List A) → filter test (filter test xs) ≡ filter test xs
 filtered_again test [] = refl
 filtered_again test (x ∷ xs) = by (test x) refl (filtered_again test xs) where
-  kept : (b : Bool) → b ≡ true → filter test (filter test xs) ≡ filter test xs → cond b (x ∷ filter test (filter test xs)) (filter test (filter test xs)) ≡ x ∷ filter test xs
+  kept : (b : Bool) → b ≡ true → filter test (filter test xs) ≡ filter test xs
+      → cond b (x ∷ filter test (filter test xs)) (filter test (filter test xs)) ≡ x ∷ filter test xs
   kept true e h = ap (λ l. x ∷ l) h
   kept false e h = cc
 
-  by : (b : Bool) → test x ≡ b → filter test (filter test xs) ≡ filter test xs → filter test (cond b (x ∷ filter test xs) (filter test xs)) ≡ cond b (x ∷ filter test xs) (filter test xs)
+  by : (b : Bool) → test x ≡ b → filter test (filter test xs) ≡ filter test xs
+      → filter test (cond b (x ∷ filter test xs) (filter test xs)) ≡ cond b (x ∷ filter test xs) (filter test xs)
   by true e h = kept (test x) e h
   by false e h = h
 
-module _ (old new : FileSet) (us : List UnitTree) (p : IsProject old) (q : IsProject new) (accepts : Accepts old us) (lists : List (List Lexeme)) (cut : AreLexemesOf new.entries lists) (none : IsMet (reasons us old new) → ⊥) where
+module _ (old new : FileSet) (us : List UnitTree) (p : IsProject old) (q : IsProject new) (accepts : Accepts old us) (lists : List (List Lexeme))
+    (cut : AreLexemesOf new.entries lists) (none : IsMet (reasons us old new) → ⊥) where
   abbrev r : Renaming
   r = candidate lists (binders_of us)
 
@@ -141,7 +146,8 @@ module _ (old new : FileSet) (us : List UnitTree) (p : IsProject old) (q : IsPro
   manifests = same_manifest old.manifest new.manifest (λ n. no_sources (why.Sources _, manifest names n))
 
   free : (d : Place) (y : Name) → Changes us r d y → IsFree us d
-  free d y c = free_if us d (λ n. no_least_is_none (IsFixed us r) (λ at l. no_fixed (why.Fixed at, l)) d (record { name = y; changes = c; fixed = n }))
+  free d y c = free_if us d
+      (λ n. no_least_is_none (IsFixed us r) (λ at l. no_fixed (why.Fixed at, l)) d (record { name = y; changes = c; fixed = n }))
 
   abbrev news : List (List ℕ)
   news = map (λ (s : SourceFile). s.bytes) new.entries
@@ -151,7 +157,9 @@ module _ (old new : FileSet) (us : List UnitTree) (p : IsProject old) (q : IsPro
       let made = respelled_all (mapped_words us r) 0 old.entries accepts.reads.trees accepts.reads.read in
       let many : length made.0 ≡ length news =
       sym (as_many (mapped_words us r) 0 old.entries made.0 made.1)
-      ∙ (sym (length-map old.entries (λ s. s.name)) ∙ (ap (λ (l : List (List ℕ)). length l) names ∙ (length-map new.entries (λ s. s.name) ∙ sym (length-map new.entries (λ (s : SourceFile). s.bytes))))) in
+      ∙ (sym (length-map old.entries (λ s. s.name))
+      ∙ (ap (λ (l : List (List ℕ)). length l) names
+      ∙ (length-map new.entries (λ s. s.name) ∙ sym (length-map new.entries (λ (s : SourceFile). s.bytes))))) in
       elim (files_part_or_same made.0 news many) [
         | inl e ↦ subst (AreRespelledBytes (mapped_words us r) 0 old.entries) e made.1
         | inr s ↦ absurd (no_bytes (why.Bytes s.0 s.1, (made.0, made.1, s.2)))
@@ -202,7 +210,8 @@ module _ (old new : FileSet) (us : List UnitTree) (p : IsProject old) (q : IsPro
   is_respelled = record {
     names = names;
     manifest = manifests;
-    bytes = subst (λ (m : Renaming). AreRespelledBytes (words_of m (facts us).refs) 0 old.entries news) (sym (filtered_again (given.is_other us) r)) bytes;
+    bytes = subst (λ (m : Renaming). AreRespelledBytes (words_of m (facts us).refs) 0 old.entries news)
+        (sym (filtered_again (given.is_other us) r)) bytes;
   }
 
   pub runs : KeepsRuns old new

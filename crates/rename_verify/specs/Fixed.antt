@@ -46,7 +46,8 @@ fixed_by uses fs = flat_map (fixed_by_ref uses) fs.refs ++ flat_map fixed_by_lin
 abbrev pub HasFixedUses : List UnitTree → List Ref → BTreeSet Place → Type 0
 HasFixedUses us refs uses =
     (r : Ref) → Contains refs r
-    → (contains place_cmp uses r.at ≡ true → IsFixedSite (at_place (places us) r.at)) × (IsFixedSite (at_place (places us) r.at) → contains place_cmp uses r.at ≡ true)
+    → (contains place_cmp uses r.at ≡ true → IsFixedSite (at_place (places us) r.at))
+    × (IsFixedSite (at_place (places us) r.at) → contains place_cmp uses r.at ≡ true)
 
 -- one of the changed binders is at this place, and may not take another name
 pub record IsHeld (us : List UnitTree) (list : List Changed) (d : Place) : Type 0 where

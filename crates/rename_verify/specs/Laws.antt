@@ -62,7 +62,8 @@ pub record AreValidlyRespelled (old new : FileSet) (list : List Changed) : Type 
 
 -- Law: yes comes only for a valid respelling, by the renaming whose changes are reported
 abbrev pub YesIsValid : Type 0
-YesIsValid = (old new : FileSet) (list : Vec Changed) → IsProject old → IsProject new → Verdicts old new (Ok (Yes list)) → AreValidlyRespelled old new list.items
+YesIsValid = (old new : FileSet) (list : Vec Changed) → IsProject old → IsProject new → Verdicts old new (Ok (Yes list))
+    → AreValidlyRespelled old new list.items
 
 -- Law: then every bounded run is the same
 abbrev pub YesKeepsRuns : Type 0
@@ -77,5 +78,6 @@ pub record IsYes (old new : FileSet) (us : List UnitTree) : Type 0 where
 -- Law: the verdict on a valid respelling is yes
 abbrev pub ValidIsYes : Type 0
 ValidIsYes =
-    (old new : FileSet) (us : List UnitTree) (r : Renaming) → IsProject old → IsProject new → Accepts old us → IsValid us r → ChangesAll us r → AreRespelledBy old new us r
+    (old new : FileSet) (us : List UnitTree) (r : Renaming) → IsProject old → IsProject new → Accepts old us → IsValid us r → ChangesAll us r
+    → AreRespelledBy old new us r
     → IsYes old new us

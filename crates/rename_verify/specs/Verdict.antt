@@ -30,7 +30,8 @@ IsSources old new _ = ⊥
 -- 24: the bytes of the respelled old sources and of the new ones differ: in the first file, and there at the least offset
 abbrev pub IsBytes : List UnitTree → Renaming → FileSet → FileSet → Why → Type 0
 IsBytes us r old new (why.Bytes file offset) =
-    (sources : List (List ℕ)) × AreRespelledBytes (mapped_words us r) 0 old.entries sources × FilesPartAt sources (map (λ s. s.bytes) new.entries) file offset
+    (sources : List (List ℕ)) × AreRespelledBytes (mapped_words us r) 0 old.entries sources
+    × FilesPartAt sources (map (λ s. s.bytes) new.entries) file offset
 IsBytes us r old new _ = ⊥
 
 -- a binder takes another name, and may not

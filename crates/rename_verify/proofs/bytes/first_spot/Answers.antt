@@ -10,7 +10,9 @@ loop-at-preserved c =
     let olds = c.args.olds.now in
     let news = c.args.news.now in
     let within : n < length olds = omega (arith, c.requires.same) in
-    let here : c.as_slice.result.now ≡ (get_or olds n c.index-olds-at.result).items = c.as_slice.ensures.value ∙ ap (λ (v : Vec ℕ). v.items) c.index-olds-at.is in
+    let here : c.as_slice.result.now ≡ (get_or olds n c.index-olds-at.result).items = c.as_slice.ensures.value
+    ∙ ap (λ (v : Vec ℕ). v.items) c.index-olds-at.is in
     let part = c.in_default.ensures in
-    mapped_more (λ (b : Vec ℕ). b.items) (λ (s : SourceFile). s.bytes) olds news n c.index-olds-at.result c.index-news-at.result within c.loop-at-test.true
+    mapped_more (λ (b : Vec ℕ). b.items)
+    (λ (s : SourceFile). s.bytes) olds news n c.index-olds-at.result c.index-news-at.result within c.loop-at-test.true
     (sym here ∙ (part.part ∙ c.as_slice-in-loop-at.ensures)) c.loop-at.invariant

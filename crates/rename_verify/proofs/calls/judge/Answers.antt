@@ -40,7 +40,9 @@ respell_read-requires-clause-binders c =
     let lists = map view c.in_ok-lists.lists.items in
     let names : c.deref-3.result.now ≡ candidate lists (binders_of us) =
     c.deref-3.ensures.value
-    ∙ map_is view c.in_ok-lists.lists.items c.deref-2.result.now (binders_of us) c.deref.result.now c.in_ok-map.map.items c.in_ok-map.ensures c.deref-2.ensures.value (c.deref.ensures.value ∙ c.in_ok-binders.ensures) in
+    ∙ map_is view c.in_ok-lists.lists.items c.deref-2.result.now
+    (binders_of us) c.deref.result.now c.in_ok-map.map.items c.in_ok-map.ensures c.deref-2.ensures.value
+    (c.deref.ensures.value ∙ c.in_ok-binders.ensures) in
     let is = read_is_sound old us c.requires.project c.requires.reads in
     subst (λ (m : Renaming). Each (λ e. IsBinder us e.0) m) (sym names) (are_binders us is lists)
 
@@ -52,12 +54,15 @@ first_spot-requires-clause-same c =
     let lists = map view c.in_ok-lists.lists.items in
     let names : c.deref-3.result.now ≡ candidate lists (binders_of us) =
     c.deref-3.ensures.value
-    ∙ map_is view c.in_ok-lists.lists.items c.deref-2.result.now (binders_of us) c.deref.result.now c.in_ok-map.map.items c.in_ok-map.ensures c.deref-2.ensures.value (c.deref.ensures.value ∙ c.in_ok-binders.ensures) in
+    ∙ map_is view c.in_ok-lists.lists.items c.deref-2.result.now
+    (binders_of us) c.deref.result.now c.in_ok-map.map.items c.in_ok-map.ensures c.deref-2.ensures.value
+    (c.deref.ensures.value ∙ c.in_ok-binders.ensures) in
     let sources = map bytes_of c.in_ok-sources.sources.items in
     let made : AreRespelledBytes (mapped_words us (candidate lists (binders_of us))) 0 old.entries sources =
     subst (λ (m : Renaming). AreRespelledBytes (mapped_words us m) 0 old.entries sources) names c.in_ok-sources.ensures in
     ap (λ (l : List (Vec ℕ)). length l) c.deref-4.ensures.value
-    ∙ (as_many_sources bytes_of (mapped_words us (candidate lists (binders_of us))) old.entries new.entries c.in_ok-sources.sources.items c.requires.names made
+    ∙ (as_many_sources bytes_of
+    (mapped_words us (candidate lists (binders_of us))) old.entries new.entries c.in_ok-sources.sources.items c.requires.names made
     ∙ ap (λ (l : List SourceFile). length l) (sym c.entries-2.ensures.entries))
 
 pub returns-in-Some-clause-verdict : goal.returns-in-Some-clause-verdict
@@ -66,17 +71,21 @@ returns-in-Some-clause-verdict c =
     let new = c.args.new.now in
     let us = view_project c.args.read.now.project in
     let lists = map view c.in_ok-lists.lists.items in
-    let cut : AreLexemesOf new.entries lists = subst (λ (l : List SourceFile). AreLexemesOf l lists) c.entries.ensures.entries c.in_ok-lists.ensures in
+    let cut : AreLexemesOf new.entries lists = subst
+    (λ (l : List SourceFile). AreLexemesOf l lists) c.entries.ensures.entries c.in_ok-lists.ensures in
     let names : c.deref-3.result.now ≡ candidate lists (binders_of us) =
     c.deref-3.ensures.value
-    ∙ map_is view c.in_ok-lists.lists.items c.deref-2.result.now (binders_of us) c.deref.result.now c.in_ok-map.map.items c.in_ok-map.ensures c.deref-2.ensures.value (c.deref.ensures.value ∙ c.in_ok-binders.ensures) in
+    ∙ map_is view c.in_ok-lists.lists.items c.deref-2.result.now
+    (binders_of us) c.deref.result.now c.in_ok-map.map.items c.in_ok-map.ensures c.deref-2.ensures.value
+    (c.deref.ensures.value ∙ c.in_ok-binders.ensures) in
     let sources = map bytes_of c.in_ok-sources.sources.items in
     let made : AreRespelledBytes (mapped_words us (candidate lists (binders_of us))) 0 old.entries sources =
     subst (λ (m : Renaming). AreRespelledBytes (mapped_words us m) 0 old.entries sources) names c.in_ok-sources.ensures in
     let spot = c.in-Some.spot in
     let here : FilesPartAt sources (map source_bytes new.entries) spot.file spot.offset =
     subst (λ (l : List SourceFile). FilesPartAt sources (map source_bytes l) spot.file spot.offset) c.entries-2.ensures.entries
-    (subst (λ (l : List (Vec ℕ)). FilesPartAt (map bytes_of l) (map source_bytes c.entries-2.result.now) spot.file spot.offset) c.deref-4.ensures.value c.in-Some.ensures) in
+    (subst (λ (l : List (Vec ℕ)). FilesPartAt (map bytes_of l)
+    (map source_bytes c.entries-2.result.now) spot.file spot.offset) c.deref-4.ensures.value c.in-Some.ensures) in
     bytes_part old new us c.requires.project c.requires.reads c.requires.light c.requires.names c.requires.manifest lists cut sources made spot.file spot.offset here
 
 pub least_fixed-requires-clause-sound : goal.least_fixed-requires-clause-sound
@@ -90,7 +99,8 @@ least_fixed-requires-clause-words c =
     let lists = map view c.in_ok-lists.lists.items in
     let list : c.deref-7.result.now ≡ changes lists (binders_of us) =
     c.deref-7.ensures.value
-    ∙ changes_are view c.in_ok-lists.lists.items c.deref-6.result.now (binders_of us) c.deref-5.result.now c.in_ok-changes.changes.items c.in_ok-changes.ensures c.deref-6.ensures.value
+    ∙ changes_are view c.in_ok-lists.lists.items c.deref-6.result.now
+    (binders_of us) c.deref-5.result.now c.in_ok-changes.changes.items c.in_ok-changes.ensures c.deref-6.ensures.value
     (c.deref-5.ensures.value ∙ c.in_ok-binders.ensures) in
     let is = read_is_sound old us c.requires.project c.requires.reads in
     λ k among. not_fixed us is lists k (subst (λ (l : List Changed). Contains l k) list among)
@@ -101,10 +111,13 @@ returns-in-Some-2-clause-verdict c =
     let new = c.args.new.now in
     let us = view_project c.args.read.now.project in
     let lists = map view c.in_ok-lists.lists.items in
-    let cut : AreLexemesOf new.entries lists = subst (λ (l : List SourceFile). AreLexemesOf l lists) c.entries.ensures.entries c.in_ok-lists.ensures in
+    let cut : AreLexemesOf new.entries lists = subst
+    (λ (l : List SourceFile). AreLexemesOf l lists) c.entries.ensures.entries c.in_ok-lists.ensures in
     let names : c.deref-3.result.now ≡ candidate lists (binders_of us) =
     c.deref-3.ensures.value
-    ∙ map_is view c.in_ok-lists.lists.items c.deref-2.result.now (binders_of us) c.deref.result.now c.in_ok-map.map.items c.in_ok-map.ensures c.deref-2.ensures.value (c.deref.ensures.value ∙ c.in_ok-binders.ensures) in
+    ∙ map_is view c.in_ok-lists.lists.items c.deref-2.result.now
+    (binders_of us) c.deref.result.now c.in_ok-map.map.items c.in_ok-map.ensures c.deref-2.ensures.value
+    (c.deref.ensures.value ∙ c.in_ok-binders.ensures) in
     let sources = map bytes_of c.in_ok-sources.sources.items in
     let made : AreRespelledBytes (mapped_words us (candidate lists (binders_of us))) 0 old.entries sources =
     subst (λ (m : Renaming). AreRespelledBytes (mapped_words us m) 0 old.entries sources) names c.in_ok-sources.ensures in
@@ -113,11 +126,14 @@ returns-in-Some-2-clause-verdict c =
     ap (map bytes_of) (sym c.deref-4.ensures.value) ∙ (c.in_default.ensures ∙ ap (map source_bytes) c.entries-2.ensures.entries) in
     let list : c.deref-7.result.now ≡ changes lists (binders_of us) =
     c.deref-7.ensures.value
-    ∙ changes_are view c.in_ok-lists.lists.items c.deref-6.result.now (binders_of us) c.deref-5.result.now c.in_ok-changes.changes.items c.in_ok-changes.ensures c.deref-6.ensures.value
+    ∙ changes_are view c.in_ok-lists.lists.items c.deref-6.result.now
+    (binders_of us) c.deref-5.result.now c.in_ok-changes.changes.items c.in_ok-changes.ensures c.deref-6.ensures.value
     (c.deref-5.ensures.value ∙ c.in_ok-binders.ensures) in
-    let held : IsLeastHeld us (changes lists (binders_of us)) c.in_ok-at.field-0 = subst (λ (l : List Changed). IsLeastHeld us l c.in_ok-at.field-0) list c.in_ok-at.ensures in
+    let held : IsLeastHeld us (changes lists (binders_of us)) c.in_ok-at.field-0 = subst
+    (λ (l : List Changed). IsLeastHeld us l c.in_ok-at.field-0) list c.in_ok-at.ensures in
     let at = c.in-Some-2.at in
-    one_is_fixed old new us c.requires.project c.requires.reads c.requires.light c.requires.names c.requires.manifest lists cut sources made same at (subst (IsLeastHeld us (changes lists (binders_of us))) c.in-Some-2.is held)
+    one_is_fixed old new us c.requires.project c.requires.reads c.requires.light c.requires.names c.requires.manifest lists cut sources made same at
+    (subst (IsLeastHeld us (changes lists (binders_of us))) c.in-Some-2.is held)
 
 pub broken-requires-clause-read : goal.broken-requires-clause-read
 broken-requires-clause-read c =
@@ -125,10 +141,13 @@ broken-requires-clause-read c =
     let new = c.args.new.now in
     let us = view_project c.args.read.now.project in
     let lists = map view c.in_ok-lists.lists.items in
-    let cut : AreLexemesOf new.entries lists = subst (λ (l : List SourceFile). AreLexemesOf l lists) c.entries.ensures.entries c.in_ok-lists.ensures in
+    let cut : AreLexemesOf new.entries lists = subst
+    (λ (l : List SourceFile). AreLexemesOf l lists) c.entries.ensures.entries c.in_ok-lists.ensures in
     let names : c.deref-3.result.now ≡ candidate lists (binders_of us) =
     c.deref-3.ensures.value
-    ∙ map_is view c.in_ok-lists.lists.items c.deref-2.result.now (binders_of us) c.deref.result.now c.in_ok-map.map.items c.in_ok-map.ensures c.deref-2.ensures.value (c.deref.ensures.value ∙ c.in_ok-binders.ensures) in
+    ∙ map_is view c.in_ok-lists.lists.items c.deref-2.result.now
+    (binders_of us) c.deref.result.now c.in_ok-map.map.items c.in_ok-map.ensures c.deref-2.ensures.value
+    (c.deref.ensures.value ∙ c.in_ok-binders.ensures) in
     let sources = map bytes_of c.in_ok-sources.sources.items in
     let made : AreRespelledBytes (mapped_words us (candidate lists (binders_of us))) 0 old.entries sources =
     subst (λ (m : Renaming). AreRespelledBytes (mapped_words us m) 0 old.entries sources) names c.in_ok-sources.ensures in
@@ -137,9 +156,11 @@ broken-requires-clause-read c =
     ap (map bytes_of) (sym c.deref-4.ensures.value) ∙ (c.in_default.ensures ∙ ap (map source_bytes) c.entries-2.ensures.entries) in
     let list : c.deref-7.result.now ≡ changes lists (binders_of us) =
     c.deref-7.ensures.value
-    ∙ changes_are view c.in_ok-lists.lists.items c.deref-6.result.now (binders_of us) c.deref-5.result.now c.in_ok-changes.changes.items c.in_ok-changes.ensures c.deref-6.ensures.value
+    ∙ changes_are view c.in_ok-lists.lists.items c.deref-6.result.now
+    (binders_of us) c.deref-5.result.now c.in_ok-changes.changes.items c.in_ok-changes.ensures c.deref-6.ensures.value
     (c.deref-5.ensures.value ∙ c.in_ok-binders.ensures) in
-    let held : IsLeastHeld us (changes lists (binders_of us)) c.in_ok-at.field-0 = subst (λ (l : List Changed). IsLeastHeld us l c.in_ok-at.field-0) list c.in_ok-at.ensures in
+    let held : IsLeastHeld us (changes lists (binders_of us)) c.in_ok-at.field-0 = subst
+    (λ (l : List Changed). IsLeastHeld us l c.in_ok-at.field-0) list c.in_ok-at.ensures in
     let none : IsLeastHeld us (changes lists (binders_of us)) None = subst (IsLeastHeld us (changes lists (binders_of us))) c.in_default-2.is held in
     is_read old new us c.requires.project c.requires.reads c.requires.light c.requires.names c.requires.manifest lists cut sources made same none
 
@@ -149,10 +170,13 @@ broken-requires-clause-same c =
     let new = c.args.new.now in
     let us = view_project c.args.read.now.project in
     let lists = map view c.in_ok-lists.lists.items in
-    let cut : AreLexemesOf new.entries lists = subst (λ (l : List SourceFile). AreLexemesOf l lists) c.entries.ensures.entries c.in_ok-lists.ensures in
+    let cut : AreLexemesOf new.entries lists = subst
+    (λ (l : List SourceFile). AreLexemesOf l lists) c.entries.ensures.entries c.in_ok-lists.ensures in
     let names : c.deref-3.result.now ≡ candidate lists (binders_of us) =
     c.deref-3.ensures.value
-    ∙ map_is view c.in_ok-lists.lists.items c.deref-2.result.now (binders_of us) c.deref.result.now c.in_ok-map.map.items c.in_ok-map.ensures c.deref-2.ensures.value (c.deref.ensures.value ∙ c.in_ok-binders.ensures) in
+    ∙ map_is view c.in_ok-lists.lists.items c.deref-2.result.now
+    (binders_of us) c.deref.result.now c.in_ok-map.map.items c.in_ok-map.ensures c.deref-2.ensures.value
+    (c.deref.ensures.value ∙ c.in_ok-binders.ensures) in
     let sources = map bytes_of c.in_ok-sources.sources.items in
     let made : AreRespelledBytes (mapped_words us (candidate lists (binders_of us))) 0 old.entries sources =
     subst (λ (m : Renaming). AreRespelledBytes (mapped_words us m) 0 old.entries sources) names c.in_ok-sources.ensures in
@@ -161,9 +185,11 @@ broken-requires-clause-same c =
     ap (map bytes_of) (sym c.deref-4.ensures.value) ∙ (c.in_default.ensures ∙ ap (map source_bytes) c.entries-2.ensures.entries) in
     let list : c.deref-7.result.now ≡ changes lists (binders_of us) =
     c.deref-7.ensures.value
-    ∙ changes_are view c.in_ok-lists.lists.items c.deref-6.result.now (binders_of us) c.deref-5.result.now c.in_ok-changes.changes.items c.in_ok-changes.ensures c.deref-6.ensures.value
+    ∙ changes_are view c.in_ok-lists.lists.items c.deref-6.result.now
+    (binders_of us) c.deref-5.result.now c.in_ok-changes.changes.items c.in_ok-changes.ensures c.deref-6.ensures.value
     (c.deref-5.ensures.value ∙ c.in_ok-binders.ensures) in
-    let held : IsLeastHeld us (changes lists (binders_of us)) c.in_ok-at.field-0 = subst (λ (l : List Changed). IsLeastHeld us l c.in_ok-at.field-0) list c.in_ok-at.ensures in
+    let held : IsLeastHeld us (changes lists (binders_of us)) c.in_ok-at.field-0 = subst
+    (λ (l : List Changed). IsLeastHeld us l c.in_ok-at.field-0) list c.in_ok-at.ensures in
     let none : IsLeastHeld us (changes lists (binders_of us)) None = subst (IsLeastHeld us (changes lists (binders_of us))) c.in_default-2.is held in
     has_shape old new us c.requires.project c.requires.reads c.requires.light c.requires.names c.requires.manifest lists cut sources made same none c.args.facts.now c.requires.facts
 
@@ -173,10 +199,13 @@ returns-in-Some-3-clause-verdict c =
     let new = c.args.new.now in
     let us = view_project c.args.read.now.project in
     let lists = map view c.in_ok-lists.lists.items in
-    let cut : AreLexemesOf new.entries lists = subst (λ (l : List SourceFile). AreLexemesOf l lists) c.entries.ensures.entries c.in_ok-lists.ensures in
+    let cut : AreLexemesOf new.entries lists = subst
+    (λ (l : List SourceFile). AreLexemesOf l lists) c.entries.ensures.entries c.in_ok-lists.ensures in
     let names : c.deref-3.result.now ≡ candidate lists (binders_of us) =
     c.deref-3.ensures.value
-    ∙ map_is view c.in_ok-lists.lists.items c.deref-2.result.now (binders_of us) c.deref.result.now c.in_ok-map.map.items c.in_ok-map.ensures c.deref-2.ensures.value (c.deref.ensures.value ∙ c.in_ok-binders.ensures) in
+    ∙ map_is view c.in_ok-lists.lists.items c.deref-2.result.now
+    (binders_of us) c.deref.result.now c.in_ok-map.map.items c.in_ok-map.ensures c.deref-2.ensures.value
+    (c.deref.ensures.value ∙ c.in_ok-binders.ensures) in
     let sources = map bytes_of c.in_ok-sources.sources.items in
     let made : AreRespelledBytes (mapped_words us (candidate lists (binders_of us))) 0 old.entries sources =
     subst (λ (m : Renaming). AreRespelledBytes (mapped_words us m) 0 old.entries sources) names c.in_ok-sources.ensures in
@@ -185,9 +214,11 @@ returns-in-Some-3-clause-verdict c =
     ap (map bytes_of) (sym c.deref-4.ensures.value) ∙ (c.in_default.ensures ∙ ap (map source_bytes) c.entries-2.ensures.entries) in
     let list : c.deref-7.result.now ≡ changes lists (binders_of us) =
     c.deref-7.ensures.value
-    ∙ changes_are view c.in_ok-lists.lists.items c.deref-6.result.now (binders_of us) c.deref-5.result.now c.in_ok-changes.changes.items c.in_ok-changes.ensures c.deref-6.ensures.value
+    ∙ changes_are view c.in_ok-lists.lists.items c.deref-6.result.now
+    (binders_of us) c.deref-5.result.now c.in_ok-changes.changes.items c.in_ok-changes.ensures c.deref-6.ensures.value
     (c.deref-5.ensures.value ∙ c.in_ok-binders.ensures) in
-    let held : IsLeastHeld us (changes lists (binders_of us)) c.in_ok-at.field-0 = subst (λ (l : List Changed). IsLeastHeld us l c.in_ok-at.field-0) list c.in_ok-at.ensures in
+    let held : IsLeastHeld us (changes lists (binders_of us)) c.in_ok-at.field-0 = subst
+    (λ (l : List Changed). IsLeastHeld us l c.in_ok-at.field-0) list c.in_ok-at.ensures in
     let none : IsLeastHeld us (changes lists (binders_of us)) None = subst (IsLeastHeld us (changes lists (binders_of us))) c.in_default-2.is held in
     let fault = c.in-Some-3.fault in
     is_broken old new us c.requires.project c.requires.reads c.requires.light c.requires.names c.requires.manifest lists cut sources made same none c.args.facts.now c.requires.facts fault (subst (HasFirstFault new c.args.facts.now) c.in-Some-3.is c.in_ok-fault.ensures.fault)
@@ -198,10 +229,13 @@ returns-clause-verdict c =
     let new = c.args.new.now in
     let us = view_project c.args.read.now.project in
     let lists = map view c.in_ok-lists.lists.items in
-    let cut : AreLexemesOf new.entries lists = subst (λ (l : List SourceFile). AreLexemesOf l lists) c.entries.ensures.entries c.in_ok-lists.ensures in
+    let cut : AreLexemesOf new.entries lists = subst
+    (λ (l : List SourceFile). AreLexemesOf l lists) c.entries.ensures.entries c.in_ok-lists.ensures in
     let names : c.deref-3.result.now ≡ candidate lists (binders_of us) =
     c.deref-3.ensures.value
-    ∙ map_is view c.in_ok-lists.lists.items c.deref-2.result.now (binders_of us) c.deref.result.now c.in_ok-map.map.items c.in_ok-map.ensures c.deref-2.ensures.value (c.deref.ensures.value ∙ c.in_ok-binders.ensures) in
+    ∙ map_is view c.in_ok-lists.lists.items c.deref-2.result.now
+    (binders_of us) c.deref.result.now c.in_ok-map.map.items c.in_ok-map.ensures c.deref-2.ensures.value
+    (c.deref.ensures.value ∙ c.in_ok-binders.ensures) in
     let sources = map bytes_of c.in_ok-sources.sources.items in
     let made : AreRespelledBytes (mapped_words us (candidate lists (binders_of us))) 0 old.entries sources =
     subst (λ (m : Renaming). AreRespelledBytes (mapped_words us m) 0 old.entries sources) names c.in_ok-sources.ensures in
@@ -210,9 +244,11 @@ returns-clause-verdict c =
     ap (map bytes_of) (sym c.deref-4.ensures.value) ∙ (c.in_default.ensures ∙ ap (map source_bytes) c.entries-2.ensures.entries) in
     let list : c.deref-7.result.now ≡ changes lists (binders_of us) =
     c.deref-7.ensures.value
-    ∙ changes_are view c.in_ok-lists.lists.items c.deref-6.result.now (binders_of us) c.deref-5.result.now c.in_ok-changes.changes.items c.in_ok-changes.ensures c.deref-6.ensures.value
+    ∙ changes_are view c.in_ok-lists.lists.items c.deref-6.result.now
+    (binders_of us) c.deref-5.result.now c.in_ok-changes.changes.items c.in_ok-changes.ensures c.deref-6.ensures.value
     (c.deref-5.ensures.value ∙ c.in_ok-binders.ensures) in
-    let held : IsLeastHeld us (changes lists (binders_of us)) c.in_ok-at.field-0 = subst (λ (l : List Changed). IsLeastHeld us l c.in_ok-at.field-0) list c.in_ok-at.ensures in
+    let held : IsLeastHeld us (changes lists (binders_of us)) c.in_ok-at.field-0 = subst
+    (λ (l : List Changed). IsLeastHeld us l c.in_ok-at.field-0) list c.in_ok-at.ensures in
     let none : IsLeastHeld us (changes lists (binders_of us)) None = subst (IsLeastHeld us (changes lists (binders_of us))) c.in_default-2.is held in
     let listed : c.in_ok-changes.changes.items ≡ changes lists (binders_of us) = sym c.deref-7.ensures.value ∙ list in (
       no_reason_is old new us c.requires.project c.requires.reads c.requires.light c.requires.names c.requires.manifest lists cut sources made same none c.args.facts.now c.requires.facts (subst (HasFirstFault new c.args.facts.now) c.in-None.is c.in_ok-fault.ensures.fault),

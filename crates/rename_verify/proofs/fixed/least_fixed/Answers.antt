@@ -11,6 +11,7 @@ returns c =
     let us = view_project c.args.project.now in
     let uses = c.in_ok-uses.uses in
     let fixed = c.in_ok-fixed.fixed in
-    least_is us uses fixed (subst (λ refs. HasFixedUses us refs uses) (c.as_slice.ensures ∙ ap (λ (f : Facts). f.refs) c.requires.facts) c.in_ok-uses.ensures)
+    least_is us uses fixed
+    (subst (λ refs. HasFixedUses us refs uses) (c.as_slice.ensures ∙ ap (λ (f : Facts). f.refs) c.requires.facts) c.in_ok-uses.ensures)
     (subst (λ (f : Facts). HasPlaces (fixed_by uses f) fixed) c.requires.facts c.in_ok-fixed.ensures)
     c.args.changes.now c.requires.words c.least_among.result c.least_among.ensures

@@ -14,7 +14,8 @@ returns-in-Some-clause-name c =
     c.first_alone.ensures ∙ (ap (λ (l : List SourceFile). first_alone (names_of l) (names_of c.entries-2.result.now)) c.entries.ensures.entries
     ∙ ap (λ (l : List SourceFile). first_alone (names_of old.entries) (names_of l)) c.entries-2.ensures.entries) in
     subst (HasOtherSources old new) (sym c.in_ok-new.ensures)
-    (found old new c.entries.ensures.project c.entries-2.ensures.project (option_copied c.first_alone.result) e c.in-Some.name.now (ap option_copied c.in-Some.is))
+    (found old new c.entries.ensures.project c.entries-2.ensures.project (option_copied c.first_alone.result) e c.in-Some.name.now
+    (ap option_copied c.in-Some.is))
 
 pub returns-then-has_same_manifest-clause-name : goal.returns-then-has_same_manifest-clause-name
 returns-then-has_same_manifest-clause-name c =
@@ -22,8 +23,11 @@ returns-then-has_same_manifest-clause-name c =
     let new = c.args.new.now in
     let e : option_copied c.first_alone.result ≡ first_alone (names_of old.entries) (names_of new.entries) =
     c.first_alone.ensures ∙ (ap (λ (l : List SourceFile). first_alone (names_of l) (names_of c.entries-2.result.now)) c.entries.ensures.entries
-    ∙ ap (λ (l : List SourceFile). first_alone (names_of old.entries) (names_of l)) c.entries-2.ensures.entries) in
-    (none old new c.entries.ensures.project c.entries-2.ensures.project (option_copied c.first_alone.result) e (ap option_copied c.in_default.is), c.has_same_manifest.ensures.0 c.if-has_same_manifest.true)
+    ∙ ap (λ (l : List SourceFile). first_alone (names_of old.entries) (names_of l)) c.entries-2.ensures.entries) in (
+      none old new c.entries.ensures.project c.entries-2.ensures.project (option_copied c.first_alone.result) e
+          (ap option_copied c.in_default.is),
+      c.has_same_manifest.ensures.0 c.if-has_same_manifest.true,
+    )
 
 pub returns-clause-name : goal.returns-clause-name
 returns-clause-name c =
@@ -33,5 +37,6 @@ returns-clause-name c =
     c.first_alone.ensures ∙ (ap (λ (l : List SourceFile). first_alone (names_of l) (names_of c.entries-2.result.now)) c.entries.ensures.entries
     ∙ ap (λ (l : List SourceFile). first_alone (names_of old.entries) (names_of l)) c.entries-2.ensures.entries) in
     subst (HasOtherSources old new) (sym c.in_ok-new-2.ensures)
-    (manifest (none old new c.entries.ensures.project c.entries-2.ensures.project (option_copied c.first_alone.result) e (ap option_copied c.in_default.is))
+    (manifest (none old new c.entries.ensures.project c.entries-2.ensures.project (option_copied c.first_alone.result) e
+    (ap option_copied c.in_default.is))
     (λ same. let yes = c.has_same_manifest.ensures.1 same in let no = c.if-has_same_manifest.false in cc))

@@ -8,7 +8,8 @@ abbrev lent : List (Bor (List ℕ)) → List (List ℕ)
 lent words = map (λ word. word.now) words
 
 -- one more word
-one_more : (words : List (Bor (List ℕ))) (i : ℕ) (d : Bor (List ℕ)) (start old new : List ℕ) → i < length words → new ≡ old ++ (get_or words i d).now → old ≡ start ++ concat (lent (take i words))
+one_more : (words : List (Bor (List ℕ))) (i : ℕ) (d : Bor (List ℕ)) (start old new : List ℕ) → i < length words → new ≡ old ++ (get_or words i d).now
+    → old ≡ start ++ concat (lent (take i words))
     → new ≡ start ++ concat (lent (take (i + 1) words))
 one_more words i d start old new h n o =
     let w = (get_or words i d).now in

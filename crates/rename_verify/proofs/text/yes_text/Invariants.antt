@@ -7,4 +7,5 @@ use Rattle.rename_verify.proofs.text.yes_text.Given as goal
 
 -- the lines so far
 abbrev pub invariant-loop-change : goal.invariant-loop-change
-invariant-loop-change l = l.bytes.items ≡ flat_map ended (number_line (codes "verified") (length l.changes) ∷ map (change_line (map string_bytes l.names)) (take l.change-index l.changes))
+invariant-loop-change l = l.bytes.items ≡ flat_map ended
+    (number_line (codes "verified") (length l.changes) ∷ map (change_line (map string_bytes l.names)) (take l.change-index l.changes))
