@@ -108,6 +108,17 @@ file_is kind.Body n (Face a is) h = absurd h
 file_is kind.Face n (Face a is) h = h
 file_is kind.Face n (Body a is) h = absurd h
 
+word_there : (w : Spellings) (lists : List (List Lexeme)) (d : Place) (f k : ℕ) (xs : List Lexeme) (y : Name)
+    → slice_get lists d.file ≡ Some (respelled_lexemes xs (new_words (w f) 1 xs)) → d.token ≡ suc k → f ≡ d.file
+    → k < length (lexeme_toks 1 xs) → get_or (lexeme_toks 1 xs) k (word class.Lower y) ≡ word class.Lower y
+    → word_at lists d ≡ Some (w d.file d.token y.text)
+word_there w lists d f k xs y got number file less e =
+    let out = respelled_lexemes xs (new_words (w f) 1 xs) in
+    let place : 1 + k ≡ d.token = omega (arith, number) in
+    ap (λ o. lower_word (lexeme_at (unwrap_or o []) d.token)) got
+    ∙ (ap (λ n. lower_word (lexeme_at out n)) number
+    ∙ (new_lower (w f) 1 0 0 xs y k less e ∙ (ap (λ n. Some (w n (1 + k) y.text)) file ∙ ap (λ n. Some (w d.file n y.text)) place)))
+
 module _ (old new : FileSet) (us : List UnitTree) (r : Renaming) (p : IsProject old) (reads : Reads old us) (gives : GivesValueNames us r)
     (renamed : AreRenamed us r old new) (lists : List (List Lexeme)) (cut : AreLexemesOf new.entries lists) where
   pub word_is : (d : Place) (x : Site) → at_place (places us) d ≡ Some x → x.operator ≡ false → x.pun ≡ false
@@ -133,13 +144,9 @@ module _ (old new : FileSet) (us : List UnitTree) (r : Renaming) (p : IsProject 
       let c = subst (λ (ts : List Tok). Contains ts (word class.Lower y)) (sym same) own in
       let at_is : x.at ≡ 1 + c.0 = token_at 1 xs y c.0 c.1 c.2 in
       let number : d.token ≡ suc c.0 = omega (arith, token, at_is) in
-      let place : 1 + c.0 ≡ d.token = omega (arith, number) in
       let zeroed : 0 + from.0 ≡ d.file = omega (arith, file) in
       let there : slice_get news from.0 ≡ Some (respelled_lexemes xs (new_words (w (0 + from.0)) 1 xs)) =
       respelled_at w 0 olds.0 from.0 xs (cut_at old.entries olds.0 from.0 s xs olds.1 from.2 read.plain.cut) in
       let out = respelled_lexemes xs (new_words (w (0 + from.0)) 1 xs) in
       let got : slice_get lists d.file ≡ Some out = ap (λ l. slice_get l d.file) (sym same_lists) ∙ (ap (slice_get news) file ∙ there) in
-      ap (λ o. lower_word (lexeme_at (unwrap_or o []) d.token)) got
-      ∙ (ap (λ n. lower_word (lexeme_at out n)) number
-      ∙ (new_lower (w (0 + from.0)) 1 0 0 xs y c.0 c.1 c.2
-      ∙ (ap (λ n. Some (w n (1 + c.0) x.name)) zeroed ∙ ap (λ n. Some (w d.file n x.name)) place)))
+      word_there w lists d (0 + from.0) c.0 xs y got number zeroed c.1 c.2
