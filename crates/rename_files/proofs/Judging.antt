@@ -10,11 +10,10 @@ use Rattle.rotor_base.specs.declared.refusal.LoadError.TheVariants.{TooLarge}
 use Rattle.rotor_base.specs.declared.source.SourceFile.{SourceFile}
 use Rattle.rotor_base.specs.Files.{are_over, first_with, too_large, names_of}
 use Rattle.dependency_kernel.specs.Foot.{IsFoot}
-use Rattle.ml_syntax.specs.RespelledSource.{AreRespelled}
+use Rattle.ml_syntax.specs.RespelledSource.{AreRespelled, Spellings}
 use Rattle.ml_syntax.specs.Sound.{IsSound}
 use Rattle.ml_syntax.specs.Tree.{UnitTree}
 use Rattle.shape_core.specs.Shape.{Name}
-use Rattle.shape_core.specs.Respell.{Words}
 use Rattle.binding_model.specs.Facts.{facts}
 use Rattle.binding_model.specs.Least.{IsBinder}
 use Rattle.binding_model.specs.Local.{IsWatched}
@@ -76,7 +75,7 @@ module _ (us : List UnitTree) (d : Place) (w : Watch) (sound : IsSound us) (is :
 
 -- ---- sources that keep their names and the limits
 
-pub names_kept : (ws : Words) (n : ℕ) (olds news : List SourceFile) → AreRespelled (in_file ws) n olds news → names_of news ≡ names_of olds
+pub names_kept : (ws : Spellings) (n : ℕ) (olds news : List SourceFile) → AreRespelled ws n olds news → names_of news ≡ names_of olds
 names_kept ws n [] [] h = refl
 names_kept ws n [] (x ∷ news) h = absurd h
 names_kept ws n (o ∷ olds) [] h = absurd h

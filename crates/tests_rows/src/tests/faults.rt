@@ -9,7 +9,7 @@ use tree_io::MemSink;
 fn again_after_a_fault(rt: HostRuntime) -> Result<(), Fail> {
     let alloc = rt.alloc();
     let list = words(alloc, &["rename", "A.x", "z", "--write"])?;
-    for call in [1, 2] {
+    for call in [1, 2, 3] {
         let mut tree = folder(&rt, alloc, &[("a.ml", ONE_LINE)], &[call])?;
         let mut sink = MemSink::new(alloc, 1_000, Vec::new(alloc))?;
         assert_eq!(rt;
