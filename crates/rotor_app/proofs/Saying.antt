@@ -57,13 +57,13 @@ refusal_status (refusal.Capture at was would) = inl refl
 refusal_status (refusal.Mislink item was would) = inl refl
 refusal_status refusal.Memory = inr refl
 
-refusal_kind : (r : Refusal) → IsReply (status_of_refusal r) []
+pub refusal_kind : (r : Refusal) → IsReply (status_of_refusal r) []
 refusal_kind r = by (status_of_refusal r) (refusal_status r) where
   by : (s : Status) → (s ≡ Refused) ⊎ (s ≡ Project) → IsReply s []
   by s (inl e) = subst (λ (t : Status). IsReply t []) (sym e) refl
   by s (inr e) = subst (λ (t : Status). IsReply t []) (sym e) refl
 
-no_usage_refusal : (r : Refusal) → status_of_refusal r ≡ Usage → ⊥
+pub no_usage_refusal : (r : Refusal) → status_of_refusal r ≡ Usage → ⊥
 no_usage_refusal r u = by (status_of_refusal r) (refusal_status r) u where
   by : (s : Status) → (s ≡ Refused) ⊎ (s ≡ Project) → s ≡ Usage → ⊥
   by s (inl e) u = let no : Refused ≡ Usage = sym e ∙ u in cc
@@ -193,7 +193,7 @@ says_to (command.Shape target) held reply e h = h
 says_to (command.Rename target name write safe json) held reply e h = h
 says_to (command.Sample units) held reply e h = let no : false ≡ true = e in absurd cc
 says_to (command.Verify old new) held reply e h = let no : false ≡ true = e in absurd cc
-says_to (command.Batch file write) held reply e h = let no : false ≡ true = e in absurd cc
+says_to (command.Batch file write) held reply e h = h
 says_to command.Recover held reply e h = let no : false ≡ true = e in absurd cc
 
 pub folder_said : (c : Command) (content : Option FileMap) (reply : Reply) → is_ready c ≡ true → sampled_units c ≡ None → is_recovery c ≡ false

@@ -6,6 +6,7 @@ use Rattle.std.specs.Str.{bytes_eq}
 use Rattle.std.specs.Cmp.Lexicographic.{bytes_decides}
 use Rattle.std.specs.Option.{option_and_then}
 use Rattle.rotor_base.specs.Files.{FileSet, IsProject, names_of, load_refusal}
+use Rattle.rotor_base.specs.Lines.{feed_lines}
 use Rattle.rotor_base.specs.declared.source.SourceFile.{SourceFile}
 use Rattle.rotor_base.specs.declared.place.Place.{Place}
 use Rattle.rotor_base.specs.declared.report.Outcome.{Outcome}
@@ -31,13 +32,18 @@ use Rattle.cli_words.specs.Words.{command_of}
 use Rattle.cli_words.specs.Laws.{undo_words, UndosAreRead}
 use Rattle.rename_files.specs.Answer.{Renames}
 use Rattle.rename_laws.specs.Laws.{Rewrites, IsUndoPlace, ChangesAreListed, RenamingsRewrite, RenamingsAreUndone, RenamingsAreValid, UndosHavePlaces, RenamingsKeepFacts, RenamingsKeepRuns, FootprintsAreLeast}
+use Rattle.rename_batch.specs.declared.step.Step.{Step}
+use Rattle.rename_batch.specs.declared.step.Batched.{Batched}
+use Rattle.rename_batch.specs.Batch.{Batches}
+use Rattle.rename_batch.specs.Reading.{IsBatch}
+use Rattle.rename_batch.specs.Laws.{BatchesRewrite, BatchesAreUndone, BatchesKeepRuns}
 use Rattle.rotor_app.specs.declared.status.Status.TheVariants.{Done, Project}
 use Rattle.rotor_app.specs.declared.reply.Reply.{Reply}
 use Rattle.rotor_app.specs.Words.{command_in, if_ready}
-use Rattle.rotor_app.specs.Said.{status_of, reply_by, outcome_text, MayWrite, IsAnswer, not_loaded, answered, SaysTo, answers, pends, SaysRecovery, idle, finished, lost, Says, SomeReply}
+use Rattle.rotor_app.specs.Said.{status_of, reply_by, outcome_text, MayWrite, IsAnswer, not_loaded, answered, SaysTo, answers, pends, batches, batch_in, batched_reply, SaysSteps, stopped, batched, SaysBatch, lacks, large, unread, runs, SaysRecovery, idle, finished, lost, Says, SomeReply}
 use Rattle.rotor_app.specs.Table.{TreeStopped}
 use Rattle.rotor_app.proofs.Saying.{no_done_refusal}
-use Rattle.rotor_app.specs.Done.{rename_words, undo_of, AreSameButForPlan, GivesBack, GivesFilesBack, IsDone, IsDoneSo, IsRecoverable}
+use Rattle.rotor_app.specs.Done.{rename_words, undo_of, AreSameButForPlan, GivesBack, GivesFilesBack, IsDone, IsBatchDone, IsDoneSo, IsRecoverable}
 
 -- ---- the last line of the report
 
@@ -100,6 +106,9 @@ pub record HasLaws : Type 0 where
   pub runs : RenamingsKeepRuns
   pub least : FootprintsAreLeast
   pub changes : ChangesAreListed
+  pub batch_sources : BatchesRewrite
+  pub batch_undone : BatchesAreUndone
+  pub batch_runs : BatchesKeepRuns
 
 module _ (laws : HasLaws) where
   module _ (held : FileMap) (target : Target) (new : List ℕ) (write safe json : Bool) (old : FileSet) (done : Renamed) (loads : loaded held ≡ Ok old)
@@ -228,9 +237,9 @@ module _ (laws : HasLaws) where
     }
 
     -- a write of `--safe` failed
-    stopped : (reply : Reply) → reply ≡ reply_by (command.Rename target new write safe json) names (outcome.Done done) → safe ≡ true → (IsOpen held → ⊥) → (now : FileMap)
+    stopped_safely : (reply : Reply) → reply ≡ reply_by (command.Rename target new write safe json) names (outcome.Done done) → safe ≡ true → (IsOpen held → ⊥) → (now : FileMap)
         → StoppedWriting reply.writes (Some held) (Some now) → Recovers now (project_in held) ⊎ Recovers now (project_in (after reply.writes held))
-    stopped reply e s shut now halt =
+    stopped_safely reply e s shut now halt =
         let w : reply.writes ≡ safe_writes files = safe_files reply e s in
         let R : List SourceFile → Type 0 = λ ws. Recovers now (project_in held) ⊎ Recovers now (project_in (after ws held)) in
         subst R (sym w) (by (stopped_safe held now files plan shut (subst (λ (ws : List SourceFile). StoppedWriting ws (Some held) (Some now)) w halt)))
@@ -255,7 +264,57 @@ module _ (laws : HasLaws) where
 
     by_reply : (reply : Reply) → SaysTo (command.Rename target new write safe json) held reply → reply.status ≡ Done → P reply
     by_reply reply (answers sources o a e) d = by_answer sources o reply a e d
+    by_reply reply (batches file files b l may s) d = cc
     by_reply reply (pends p e) d = absurd (let no : Project ≡ Done = sym (ap (λ (r : Reply). r.status) e) ∙ d in cc)
+
+  -- a batch that is done
+  module _ (held : FileMap) (file : List ℕ) (write : Bool) (old : FileSet) (bytes : List ℕ) (steps : List Step) (done : Batched) (loads : loaded held ≡ Ok old) (found : batch_in held file ≡ Some bytes)
+      (reads : IsBatch (feed_lines bytes) steps) (accepted : Batches old steps (Ok done)) where
+    project_of : IsProject old
+    project_of = laws.project held old loads
+
+    abbrev batch_files : List SourceFile
+    batch_files = files_at done.files.entries done.changed
+
+    batch_loads : (w : Bool) → w ≡ true → loaded (after (if w then batch_files else []) held) ≡ Ok done.files
+    batch_loads true t =
+        let keeps = laws.batch_sources old steps done project_of accepted in
+        laws.loaded_new held old done.files done.changed loads (record { names = keeps.names; manifest = keeps.manifest }) keeps.taken keeps.covers
+    batch_loads false t = cc
+
+    batch_is_done : (reply : Reply) → reply ≡ batched_reply (command.Batch file write) (names_of old.entries) done → IsBatchDone held file write reply
+    batch_is_done reply e = record {
+      old = old;
+      bytes = bytes;
+      steps = steps;
+      done = done;
+      loads = loads;
+      found = found;
+      reads = reads;
+      batches = accepted;
+      replied = e;
+      written = λ w. subst (λ (ws : List SourceFile). loaded (after ws held) ≡ Ok done.files) (sym (ap (λ (r : Reply). r.writes) e)) (batch_loads write w);
+      undone = laws.batch_undone old steps done project_of accepted;
+      runs = λ some. laws.batch_runs old steps done project_of some accepted;
+    }
+
+  batch_so : (held : FileMap) (file : List ℕ) (write : Bool) (reply : Reply) → SaysTo (command.Batch file write) held reply → reply.status ≡ Done → IsBatchDone held file write reply
+  batch_so held file write reply (answers sources o (not_loaded error l) e) d = absurd (let no : Project ≡ Done = sym (ap (λ (r : Reply). r.status) e) ∙ d in cc)
+  batch_so held file write reply (answers sources o (answered files _ l may a) e) d = absurd a
+  batch_so held file write reply (pends p e) d = absurd (let no : Project ≡ Done = sym (ap (λ (r : Reply). r.status) e) ∙ d in cc)
+  batch_so held file write reply (batches other files b l may s) d = by (one b) s where
+    one : Some file ≡ Some other → other ≡ file
+    one b = cc
+
+    in_steps : (bytes : List ℕ) (steps : List Step) → batch_in held file ≡ Some bytes → IsBatch (feed_lines bytes) steps → SaysSteps (command.Batch file write) files steps reply → IsBatchDone held file write reply
+    in_steps bytes steps f is (stopped k why a e) = absurd (no_done_refusal why (sym (ap (λ (r : Reply). r.status) e) ∙ d))
+    in_steps bytes steps f is (batched done a e) = batch_is_done held file write files bytes steps done l f is a reply e
+
+    by : other ≡ file → SaysBatch (command.Batch file write) other (batch_in held other) files reply → IsBatchDone held file write reply
+    by same (lacks f e) = absurd (let no : Project ≡ Done = sym (ap (λ (r : Reply). r.status) e) ∙ d in cc)
+    by same (large bytes f long e) = absurd (let no : Project ≡ Done = sym (ap (λ (r : Reply). r.status) e) ∙ d in cc)
+    by same (unread bytes n f short bad e) = absurd (let no : Project ≡ Done = sym (ap (λ (r : Reply). r.status) e) ∙ d in cc)
+    by same (runs bytes steps f short is s) = in_steps bytes steps (subst (λ (name : List ℕ). batch_in held name ≡ Some bytes) same f) is s
 
   -- a recovery that is done leaves what is recovered
   recovered_so : (held : FileMap) (reply : Reply) → SaysRecovery held reply → reply.status ≡ Done → Recovers held (project_in (after reply.writes held))
@@ -272,7 +331,7 @@ module _ (laws : HasLaws) where
       by_reply held target new write safe json (IsDone held target new write safe json) (λ old done l may a r e. is_done held target new write safe json old done l may a r e) reply s d
   by_says (Some (command.Sample units)) held reply s d = tt
   by_says (Some (command.Verify old new)) held reply s d = tt
-  by_says (Some (command.Batch file write)) held reply s d = tt
+  by_says (Some (command.Batch file write)) held reply s d = batch_so held file write reply s d
   by_says (Some command.Recover) held reply s d = recovered_so held reply s d
 
   -- ---- a write that failed
@@ -295,7 +354,7 @@ module _ (laws : HasLaws) where
       → Recovers now (project_in held) ⊎ Recovers now (project_in (after reply.writes held))
   stopped_renaming held now target new write safe json s shut reply said d halt =
       by_reply held target new write safe json (λ r. StoppedWriting r.writes (Some held) (Some now) → Recovers now (project_in held) ⊎ Recovers now (project_in (after r.writes held)))
-      (λ old done l may a r e halted. stopped held target new write safe json old done l may a r e s shut now halted) reply said d halt
+      (λ old done l may a r e halted. stopped_safely held target new write safe json old done l may a r e s shut now halted) reply said d halt
 
   pub recoverable : (request : Option Command) (held now : FileMap) → TreeStopped request held (Some now) → IsRecoverable request held now
   unfolding Says

@@ -3,6 +3,7 @@
 use Rattle.std.specs.Prelude.{◌≡◌, ℕ, List, [], ◌∷◌, ◌++◌, ◌≢◌, ◌⊎◌, ◌||◌, Bool, true, false, Option, Some, None, Ok, codes}
 use Rattle.std.specs.FinMap.{get}
 use Rattle.rotor_base.specs.Files.{FileSet, names_of}
+use Rattle.rotor_base.specs.Lines.{feed_lines}
 use Rattle.rotor_base.specs.declared.report.Outcome.TheVariants as outcome
 use Rattle.rotor_base.specs.declared.report.Renamed.{Renamed}
 use Rattle.rotor_base.specs.declared.target.Target.{Target}
@@ -16,11 +17,15 @@ use Rattle.report.specs.Text.{ended}
 use Rattle.cli_words.specs.declared.command.Command.{Command}
 use Rattle.cli_words.specs.declared.command.Command.TheVariants as command
 use Rattle.rename_files.specs.Answer.{Renames}
+use Rattle.rename_batch.specs.declared.step.Step.{Step}
+use Rattle.rename_batch.specs.declared.step.Batched.{Batched}
+use Rattle.rename_batch.specs.Batch.{Batches, undo_steps}
+use Rattle.rename_batch.specs.Reading.{IsBatch}
 use Rattle.rename_laws.specs.Laws.{IsValidFor, KeepsFacts, KeepsRuns, IsLeastFor}
 use Rattle.rotor_app.specs.declared.status.Status.TheVariants.{Done}
 use Rattle.rotor_app.specs.declared.reply.Reply.{Reply}
 use Rattle.rotor_app.specs.Words.{command_in}
-use Rattle.rotor_app.specs.Said.{reply_by, SomeReply}
+use Rattle.rotor_app.specs.Said.{reply_by, batched_reply, batch_in, SomeReply}
 
 -- the words `rename PLACE NAME --write`
 abbrev pub rename_words : List ℕ → List ℕ → List (List ℕ)
@@ -62,6 +67,21 @@ pub record IsDone (held : FileMap) (target : Target) (new : List ℕ) (write saf
   pub back : write ≡ true → safe ≡ false → GivesBack (undo_of (names_of old.entries) done) held reply
   pub safe_back : safe ≡ true → GivesFilesBack (undo_of (names_of old.entries) done) held reply
 
+-- a batch over the files that a folder loads as is done, and the reply is its
+pub record IsBatchDone (held : FileMap) (file : List ℕ) (write : Bool) (reply : Reply) : Type 0 where
+  pub old : FileSet
+  pub bytes : List ℕ
+  pub steps : List Step
+  pub done : Batched
+  pub loads : loaded held ≡ Ok old
+  pub found : batch_in held file ≡ Some bytes
+  pub reads : IsBatch (feed_lines bytes) steps
+  pub batches : Batches old steps (Ok done)
+  pub replied : reply ≡ batched_reply (command.Batch file write) (names_of old.entries) done
+  pub written : write ≡ true → loaded (after reply.writes held) ≡ Ok done.files
+  pub undone : (back : Batched) × Batches done.files (undo_steps (names_of done.files.entries) done.undo) (Ok back) × (back.files ≡ old)
+  pub runs : steps ≢ [] → KeepsRuns old done.files
+
 -- of a reply that is done to what the words ask for
 abbrev pub IsDoneSo : Option Command → FileMap → Reply → Type 0
 IsDoneSo None held reply = Unit {0}
@@ -70,7 +90,7 @@ IsDoneSo (Some (command.Shape target)) held reply = Unit {0}
 IsDoneSo (Some (command.Rename target name write safe json)) held reply = IsDone held target name write safe json reply
 IsDoneSo (Some (command.Sample units)) held reply = Unit {0}
 IsDoneSo (Some (command.Verify old new)) held reply = Unit {0}
-IsDoneSo (Some (command.Batch file write)) held reply = Unit {0}
+IsDoneSo (Some (command.Batch file write)) held reply = IsBatchDone held file write reply
 IsDoneSo (Some command.Recover) held reply = Recovers held (project_in (after reply.writes held))
 
 -- What is recovered of the folder that a command left when a write failed: after `--safe` the old project or the new one,

@@ -1,8 +1,14 @@
 -- What the program answers to its words over the files of a folder, and what the folder holds after it.
-use Rattle.std.specs.Prelude.{ℕ, List, [], ◌++◌, ◌≡◌, ◌≢◌, Bool, true, false, if◌then◌else◌, Option, Some, None, Result, Ok, Err, length, codes}
+use Rattle.std.specs.Prelude.{ℕ, List, [], ◌++◌, ◌≡◌, ◌≢◌, ◌<◌, ◌≤◌, ◌||◌, Bool, true, false, if◌then◌else◌, Option, Some, None, Result, Ok, Err, length, codes}
 use Rattle.std.specs.Fmt.{decimal}
+use Rattle.std.specs.FinMap.{get}
+use Rattle.std.specs.Str.{bytes_eq}
+use Rattle.rotor_base.specs.Limits.{max_file_bytes}
+use Rattle.rotor_base.specs.Lines.{feed_lines}
+use Rattle.rotor_base.specs.Stem.{is_source_name}
 use Rattle.rotor_base.specs.Files.{FileSet, names_of}
 use Rattle.rotor_base.specs.declared.refusal.LoadError.{LoadError}
+use Rattle.rotor_base.specs.declared.refusal.LoadError.TheVariants.{TooLarge}
 use Rattle.rotor_base.specs.declared.refusal.Refusal.{Refusal}
 use Rattle.rotor_base.specs.declared.refusal.Refusal.TheVariants as refusal
 use Rattle.rotor_base.specs.declared.report.Counts.{Counts}
@@ -23,11 +29,17 @@ use Rattle.cli_words.specs.declared.command.Command.{Command}
 use Rattle.cli_words.specs.declared.command.Command.TheVariants as command
 use Rattle.rename_files.specs.Answer.{Checks, Shows, Renames}
 use Rattle.rename_laws.specs.Laws.{ListsChanges}
+use Rattle.rename_batch.specs.declared.error.BatchError.TheVariants.{At}
+use Rattle.rename_batch.specs.declared.step.Step.{Step}
+use Rattle.rename_batch.specs.declared.step.Batched.{Batched}
+use Rattle.rename_batch.specs.Batch.{Batches}
+use Rattle.rename_batch.specs.Reading.{IsBatch, IsBadLine}
+use Rattle.rename_batch.specs.Text.{batch_text}
 use Rattle.sample_project.specs.Sample.{Samples}
 use Rattle.rotor_app.specs.declared.status.Status.{Status}
 use Rattle.rotor_app.specs.declared.status.Status.TheVariants.{Done, Refused, Usage, Project, TreeFault, SinkFault, Memory}
 use Rattle.rotor_app.specs.declared.reply.Reply.{Reply}
-use Rattle.rotor_app.specs.Words.{puts_json, is_writing, is_safe, asks_gate, sampled_units}
+use Rattle.rotor_app.specs.Words.{puts_json, is_writing, is_safe, asks_gate, batch_file, sampled_units}
 
 -- ---- the reply to an outcome
 
@@ -102,6 +114,19 @@ pending_text false = codes "project: pending\n"
 abbrev pub pending_reply : Command → Reply
 pending_reply c = reply_of Project [] (pending_text (puts_json c))
 
+-- the reply to a batch whose line of this number is bad
+abbrev pub bad_batch : ℕ → Reply
+bad_batch number = reply_of Project [] (codes "project: badbatch " ++ line (decimal number))
+
+-- the reply to a batch whose step of this number is refused
+abbrev pub stopped_batch : List (List ℕ) → ℕ → Refusal → Reply
+stopped_batch names step why = reply_of (status_of_refusal why) [] (codes "step " ++ decimal step ++ codes " " ++ text_of names (outcome.Refused why))
+
+-- the reply to a batch that is done
+abbrev pub batched_reply : Command → List (List ℕ) → Batched → Reply
+batched_reply c names batched =
+    reply_of Done (if is_writing c then files_at batched.files.entries batched.changed else []) (batch_text names batched)
+
 -- the text of a recovery that wrote so many files
 abbrev pub recovered_text : ℕ → List ℕ
 recovered_text count = codes "recovered " ++ line (decimal count)
@@ -144,10 +169,29 @@ pub record IsPending (c : Command) (held : FileMap) : Type 0 where
   pub asked : asks_gate c ≡ true
   pub opened : IsOpen held
 
+-- the bytes of a batch in a folder: a source and the manifest hold none
+abbrev pub batch_in : FileMap → List ℕ → Option (List ℕ)
+batch_in held file = if is_source_name file || bytes_eq file (codes "rotor.units") then None else get held file
+
+-- a reply to a batch of these steps over the files of a project
+pub data SaysSteps (c : Command) (files : FileSet) (steps : List Step) (reply : Reply) : Type 0 where
+  stopped : (step : ℕ) (why : Refusal) → Batches files steps (Err (At step why)) → reply ≡ stopped_batch (names_of files.entries) step why → SaysSteps c files steps reply
+  batched : (done : Batched) → Batches files steps (Ok done) → reply ≡ batched_reply c (names_of files.entries) done → SaysSteps c files steps reply
+
+-- a reply to a batch in a file that holds these bytes
+pub data SaysBatch (c : Command) (file : List ℕ) (found : Option (List ℕ)) (files : FileSet) (reply : Reply) : Type 0 where
+  lacks : found ≡ None → reply ≡ bad_batch 0 → SaysBatch c file found files reply
+  large : (bytes : List ℕ) → found ≡ Some bytes → max_file_bytes < length bytes → reply ≡ reply_by c [] (outcome.NotLoaded (TooLarge file)) → SaysBatch c file found files reply
+  unread : (bytes : List ℕ) (number : ℕ) → found ≡ Some bytes → length bytes ≤ max_file_bytes → IsBadLine (feed_lines bytes) number → reply ≡ bad_batch number
+      → SaysBatch c file found files reply
+  runs : (bytes : List ℕ) (steps : List Step) → found ≡ Some bytes → length bytes ≤ max_file_bytes → IsBatch (feed_lines bytes) steps → SaysSteps c files steps reply
+      → SaysBatch c file found files reply
+
 -- a reply to a command over the files of a folder
 pub data SaysTo (c : Command) (held : FileMap) (reply : Reply) : Type 0 where
   answers : (names : List (List ℕ)) (o : Outcome) → IsAnswer held c names o → reply ≡ reply_by c names o → SaysTo c held reply
   pends : IsPending c held → reply ≡ pending_reply c → SaysTo c held reply
+  batches : (file : List ℕ) (files : FileSet) → batch_file c ≡ Some file → loaded held ≡ Ok files → MayWrite c held → SaysBatch c file (batch_in held file) files reply → SaysTo c held reply
 
 -- a reply to `recover`
 pub data SaysRecovery (held : FileMap) (reply : Reply) : Type 0 where
@@ -181,7 +225,7 @@ Says (Some (command.Shape target)) held reply = SaysTo (command.Shape target) he
 Says (Some (command.Rename target name write safe json)) held reply = SaysTo (command.Rename target name write safe json) held reply
 Says (Some (command.Sample units)) held reply = SaysSample units reply
 Says (Some (command.Verify old new)) held reply = ⊥
-Says (Some (command.Batch file write)) held reply = ⊥
+Says (Some (command.Batch file write)) held reply = SaysTo (command.Batch file write) held reply
 Says (Some command.Recover) held reply = SaysRecovery held reply
 
 -- the command of the words does not call the folder

@@ -11,7 +11,7 @@ is_ready (command.Shape target) = true
 is_ready (command.Rename target name write safe json) = true
 is_ready (command.Sample units) = true
 is_ready (command.Verify old new) = false
-is_ready (command.Batch file write) = false
+is_ready (command.Batch file write) = true
 is_ready command.Recover = true
 
 -- the number of units of `sample`, which does not call the folder
@@ -33,6 +33,16 @@ is_recovery (command.Sample units) = false
 is_recovery (command.Verify old new) = false
 is_recovery (command.Batch file write) = false
 is_recovery command.Recover = true
+
+-- the file of a batch
+abbrev pub batch_file : Command → Option (List ℕ)
+batch_file command.Check = None
+batch_file (command.Shape target) = None
+batch_file (command.Rename target name write safe json) = None
+batch_file (command.Sample units) = None
+batch_file (command.Verify old new) = None
+batch_file (command.Batch file write) = Some file
+batch_file command.Recover = None
 
 -- the commands over the files that the folder loads as
 abbrev pub asks_folder : Command → Bool
@@ -61,7 +71,7 @@ is_writing (command.Shape target) = false
 is_writing (command.Rename target name write safe json) = write
 is_writing (command.Sample units) = false
 is_writing (command.Verify old new) = false
-is_writing (command.Batch file write) = false
+is_writing (command.Batch file write) = write
 is_writing command.Recover = false
 
 -- the command writes by a plan and a gate

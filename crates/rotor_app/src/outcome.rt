@@ -1,9 +1,9 @@
 //! The outcome of a command over the files of a project, and the reply to it.
-ghost use Rattle.std.specs.Prelude.{◌≡◌, ◌≢◌, ◌++◌, [], true, Some, IfOk, OnOk, map, slice_get, string_bytes};
+ghost use Rattle.std.specs.Prelude.{◌≡◌, ◌≢◌, ◌++◌, [], true, None, Some, IfOk, OnOk, map, slice_get, string_bytes};
 ghost use Rattle.std.specs.List.{cons_option};
 ghost use Rattle.rotor_base.specs.Files.{names_of};
 ghost use Rattle.rename_laws.specs.Laws.{ListsChanges};
-ghost use Rattle.rotor_app.specs.Words.{asks_folder, sampled_units};
+ghost use Rattle.rotor_app.specs.Words.{asks_folder, batch_file, sampled_units};
 ghost use Rattle.rotor_app.specs.Said.{Answers, IsSampled, ListsDone, SaysSample, reply_by, writes_by, writes_of, outcome_text, usage_reply};
 ghost use Rattle.project_load.specs.Rewritten.{files_at};
 
@@ -20,7 +20,8 @@ use std::alloc::Global;
 
 /// The outcome of a command over the files of a project.
 pub fn outcome_of(alloc: Global, command: &Command, files: &Files) -> Result<Outcome, Memory>
-    requires { asks_folder command.now ≡ true }
+    requires asks { asks_folder command.now ≡ true }
+    requires single { batch_file command.now ≡ None }
     ensures { IfOk result (λ o. Answers command.now files.now o) }
 {
     match command {
@@ -164,7 +165,11 @@ fn writes_by(alloc: Global, command: &Command, done: &Renamed) -> Result<Row<Sou
 
 /// The files of these numbers.
 #[tactic(auto, using(crate::proofs::Saying::pushed))]
-fn files_at(alloc: Global, files: &[SourceFile], numbers: &[u32]) -> Result<Row<SourceFile>, Memory>
+pub fn files_at(
+    alloc: Global,
+    files: &[SourceFile],
+    numbers: &[u32],
+) -> Result<Row<SourceFile>, Memory>
     ensures { IfOk result (λ found. found ≡ files_at files.now numbers.now) }
 {
     let mut found = Row::new(alloc);

@@ -3,13 +3,14 @@ ghost use Rattle.std.specs.Prelude.{◌≡◌, ◌<◌, ◌≤◌, ◌^◌, ◌�
 ghost use Rattle.tree_io.specs.Outside.{HasCause, StaysSteady};
 ghost use Rattle.rotor_base.specs.Files.{names_of};
 ghost use Rattle.project_load.specs.Load.{IsOutside, loaded};
-ghost use Rattle.rotor_app.specs.Words.{asks_folder, asks_gate, command_in, is_ready, sampled_units};
+ghost use Rattle.rotor_app.specs.Words.{asks_folder, asks_gate, batch_file, command_in, is_ready, sampled_units};
 ghost use Rattle.rotor_app.specs.Said.{Answers, Permits, pending_reply, recovered_text, reply_by, reply_of, SaysTo, SaysRecovery, IsReply, Says, SaysAlone, AsksNothing};
 ghost use Rattle.tree_writes.specs.Writes.{HasRoom};
 
+use crate::batch::batch_reply;
 use crate::outcome::{outcome_of, reply_by, sample_reply, source_names, usage};
 use crate::status::Status;
-use crate::words::{asks_gate, command_in, is_recovery, puts_json, sampled_units};
+use crate::words::{asks_gate, batch_file, command_in, is_recovery, puts_json, sampled_units};
 use apply_journal::{RecoverError, gate_open, read_recovery};
 use cli_words::Command;
 use project_load::load;
@@ -107,10 +108,12 @@ fn permitted_reply<T: Tree>(
     ensures cause { HasCause (T.faults tree.old) (T.faults tree.new) result }
     ensures steady { StaysSteady (T.is_steady tree.old) (T.is_steady tree.new) (IsErrOf result TreeError.Failed) }
 {
-    if may_write(alloc, command, tree)? {
-        Ok(reply_over(alloc, command, files)?)
-    } else {
-        Ok(pending_reply(alloc, command)?)
+    if !may_write(alloc, command, tree)? {
+        return Ok(pending_reply(alloc, command)?);
+    }
+    match batch_file(command) {
+        Some(file) => batch_reply(alloc, command, file, files, tree),
+        None => Ok(reply_over(alloc, command, files)?),
     }
 }
 
@@ -144,7 +147,7 @@ fn pending_reply(alloc: Global, command: &Command) -> Result<Reply, Memory>
 }
 
 /// A reply that writes nothing.
-fn reply_of(alloc: Global, status: Status, text: &[u8]) -> Result<Reply, Memory>
+pub fn reply_of(alloc: Global, status: Status, text: &[u8]) -> Result<Reply, Memory>
     ensures { IfOk result (λ reply. reply ≡ reply_of status [] text.now) }
 {
     Ok(Reply {
@@ -191,7 +194,8 @@ fn recovered_reply(alloc: Global, writes: Vec<SourceFile>) -> Result<Reply, Memo
 
 /// The reply to a command over the files of a project.
 fn reply_over(alloc: Global, command: &Command, files: &Files) -> Result<Reply, Memory>
-    requires { asks_folder command.now ≡ true }
+    requires asks { asks_folder command.now ≡ true }
+    requires single { batch_file command.now ≡ None }
     ensures { IfOk result (λ reply. (o : Outcome) × Answers command.now files.now o × (reply ≡ reply_by command.now (names_of files.now.entries) o)) }
 {
     changes_are_listed();

@@ -12,6 +12,7 @@ use crate::reply::{Reply, decide};
 use crate::status::Status;
 use cli_words::undos_are_read;
 use project_load::{loaded_files_are_a_project, new_sources_are_loaded, old_sources_come_back};
+use rename_batch::{batches_are_undone, batches_keep_runs, batches_rewrite};
 use rename_laws::{
     changes_are_listed, footprints_are_least, renamings_are_undone, renamings_are_valid,
     renamings_keep_facts, renamings_keep_runs, renamings_rewrite, undos_have_places,
@@ -90,6 +91,9 @@ pub fn rotor<T: Tree, S: Sink>(alloc: Global, words: &[String], tree: &mut T, ou
     renamings_keep_runs();
     footprints_are_least();
     changes_are_listed();
+    batches_rewrite();
+    batches_are_undone();
+    batches_keep_runs();
     conclude(alloc, words, tree, out)
 }
 

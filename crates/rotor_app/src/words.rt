@@ -1,6 +1,7 @@
 //! What the words of the command line ask for.
 ghost use Rattle.std.specs.Prelude.{◌≡◌, IfOk, map, string_bytes};
-ghost use Rattle.rotor_app.specs.Words.{asks_gate, command_in, is_ready, is_recovery, is_safe, is_writing, puts_json, sampled_units};
+ghost use Rattle.std.specs.Option.{option_map};
+ghost use Rattle.rotor_app.specs.Words.{asks_gate, batch_file, command_in, is_ready, is_recovery, is_safe, is_writing, puts_json, sampled_units};
 
 use cli_words::{Command, WordsError, read_words};
 use rotor_base::Memory;
@@ -26,8 +27,9 @@ fn is_ready(command: &Command) -> bool
         | Command::Shape(_)
         | Command::Rename { .. }
         | Command::Sample(_)
+        | Command::Batch { .. }
         | Command::Recover => true,
-        Command::Verify { .. } | Command::Batch { .. } => false,
+        Command::Verify { .. } => false,
     }
 }
 
@@ -66,12 +68,11 @@ pub fn is_writing(command: &Command) -> bool
     ensures { result ≡ is_writing command.now }
 {
     match command {
-        Command::Rename { write, .. } => *write,
+        Command::Rename { write, .. } | Command::Batch { write, .. } => *write,
         Command::Check
         | Command::Shape(_)
         | Command::Sample(_)
         | Command::Verify { .. }
-        | Command::Batch { .. }
         | Command::Recover => false,
     }
 }
@@ -110,5 +111,20 @@ pub fn is_recovery(command: &Command) -> bool
         | Command::Sample(_)
         | Command::Verify { .. }
         | Command::Batch { .. } => false,
+    }
+}
+
+/// The file of a batch.
+pub fn batch_file(command: &Command) -> Option<&str>
+    ensures { option_map (λ file. file.now) result ≡ batch_file command.now }
+{
+    match command {
+        Command::Batch { file, .. } => Some(file.as_str()),
+        Command::Check
+        | Command::Shape(_)
+        | Command::Rename { .. }
+        | Command::Sample(_)
+        | Command::Verify { .. }
+        | Command::Recover => None,
     }
 }

@@ -99,6 +99,9 @@ returns-clause-renamed g c = λ done files held.
       runs = c.renamings_keep_runs.ensures;
       least = c.footprints_are_least.ensures;
       changes = c.changes_are_listed.ensures;
+      batch_sources = c.batches_rewrite.ensures;
+      batch_undone = c.batches_are_undone.ensures;
+      batch_runs = c.batches_keep_runs.ensures;
     } in
     done_so laws (command_in (map string_bytes c.args.words.now)) files (λ reply. IsAsSaid reply files
     (seen (g.T.Tree.faults c.args.tree.now) (g.S.Sink.faults c.args.out.now) (g.T.Tree.content c.args.tree.now) (g.S.Sink.taken c.args.out.now))
@@ -123,6 +126,9 @@ returns-clause-recoverable g c = λ fault held before now left.
       runs = c.renamings_keep_runs.ensures;
       least = c.footprints_are_least.ensures;
       changes = c.changes_are_listed.ensures;
+      batch_sources = c.batches_rewrite.ensures;
+      batch_undone = c.batches_are_undone.ensures;
+      batch_runs = c.batches_keep_runs.ensures;
     } in
     recoverable laws (command_in (map string_bytes c.args.words.now)) held now (
     subst (λ (o : Option FileMap). TreeStopped (command_in (map string_bytes c.args.words.now)) held o) left (
