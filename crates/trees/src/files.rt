@@ -1,25 +1,16 @@
-//! What a source is answered with where it is read as a whole file.
+//! The names and parts of files.
 
-use ml_lexer::{LexError, lex};
 use ml_syntax::{FileTree, Item, ModExpr, ModType, Open, SigItem, WithClause};
-use parse_base::ParseError;
-use parse_module::{FileKind, parse_file};
-use rotor_base::FormKind;
-use std::alloc::Global;
+use std::alloc::{AllocError, Global};
 
-/// The answer of the reader of files, of at most 1,048,576 bytes.
-#[derive(Clone, Copy, Debug, PartialEq, Eq)]
-pub enum Told {
-    /// How many items the file has, the production of the last one, and how many parts that has.
-    File(usize, &'static str, usize),
-    /// The source has no lexemes.
-    NoLexemes,
-    /// A refused form begins at this token.
-    Form(u32, FormKind),
-    /// After this token the nesting is over the limit.
-    Deep(u32),
-    Syntax,
-    Memory,
+/// How many items a file has, the production of the last one, and how many parts that has.
+pub fn tree_text(alloc: Global, tree: &FileTree) -> Result<String, AllocError> {
+    let (count, last) = match tree {
+        FileTree::Body(_, items) => (items.len(), items.last().map(item_production)),
+        FileTree::Face(_, items) => (items.len(), items.last().map(sig_item_production)),
+    };
+    let (name, parts) = last.unwrap_or(("empty", 0));
+    format!(in alloc; "items {count}, last {name}, parts {parts}")
 }
 
 /// The production of a module expression, and how many parts it has.
@@ -103,56 +94,5 @@ fn sig_item_production(item: &SigItem) -> (&'static str, usize) {
         SigItem::SigModuleType { .. } => ("module type", 0),
         SigItem::SigOpen(open) => open_production(open),
         SigItem::SigInclude { signature, .. } => type_production(signature),
-    }
-}
-
-fn body_told(items: &[Item]) -> Told {
-    match items {
-        [.., last] => {
-            let (name, parts) = item_production(last);
-            Told::File(items.len(), name, parts)
-        }
-        [] => Told::File(0, "empty", 0),
-    }
-}
-
-fn face_told(items: &[SigItem]) -> Told {
-    match items {
-        [.., last] => {
-            let (name, parts) = sig_item_production(last);
-            Told::File(items.len(), name, parts)
-        }
-        [] => Told::File(0, "empty", 0),
-    }
-}
-
-/// What the tree of a file is.
-fn tree_told(tree: &FileTree) -> Told {
-    match tree {
-        FileTree::Body(_, items) => body_told(items.as_slice()),
-        FileTree::Face(_, items) => face_told(items.as_slice()),
-    }
-}
-
-/// What a source is, read as a body or as an interface.
-pub fn file_of(alloc: Global, source: &[u8], kind: FileKind) -> Told {
-    if source.len() > 1_048_576 {
-        return Told::NoLexemes;
-    }
-    match lex(alloc, source) {
-        Ok(tokens) => {
-            if tokens.len() > 1_048_576 {
-                return Told::NoLexemes;
-            }
-            match parse_file(alloc, &tokens, 0, kind) {
-                Ok(tree) => tree_told(&tree),
-                Err(ParseError::Form { token, kind }) => Told::Form(token, kind),
-                Err(ParseError::Deep { token }) => Told::Deep(token),
-                Err(ParseError::Syntax) => Told::Syntax,
-                Err(ParseError::Memory) => Told::Memory,
-            }
-        }
-        Err(LexError::Memory) => Told::Memory,
-        Err(_) => Told::NoLexemes,
     }
 }
