@@ -20,7 +20,8 @@ use Rattle.rename_batch.specs.Laws.{BatchesAreUndone, BatchesKeepRuns}
 use Rattle.rename_batch.proofs.Runs.{runs_more}
 
 -- an accepted step leaves a project
-pub is_project : RenamingsRewrite → (files : FileSet) (step : Step) (done : Renamed) → IsProject files → Answers files step (Ok done) → IsProject done.files
+pub is_project : RenamingsRewrite → (files : FileSet) (step : Step) (done : Renamed) → IsProject files → Answers files step (Ok done)
+    → IsProject done.files
 is_project rewrite files step done p a =
     let kept = rewrite files step.target step.name done p a in
     record {
@@ -34,9 +35,11 @@ is_project rewrite files step done p a =
 -- ---- undone
 
 -- the step back from the first change is the last one
-last_undo : (names : List Word) (change : Change) (changes : List Change) → undo_steps names (undos_of (change ∷ changes)) ≡ undo_steps names (undos_of changes) ++ undo_step names (undo_of change) ∷ []
+last_undo : (names : List Word) (change : Change) (changes : List Change)
+    → undo_steps names (undos_of (change ∷ changes)) ≡ undo_steps names (undos_of changes) ++ undo_step names (undo_of change) ∷ []
 last_undo names change changes =
-    ap (map (undo_step names)) (reverse-append (undo_of change ∷ []) (map undo_of changes)) ∙ map-append (undo_step names) (reverse (map undo_of changes)) (undo_of change ∷ [])
+    ap (map (undo_step names)) (reverse-append (undo_of change ∷ []) (map undo_of changes))
+    ∙ map-append (undo_step names) (reverse (map undo_of changes)) (undo_of change ∷ [])
 
 module _ (rewrite : RenamingsRewrite) (undone : RenamingsAreUndone) (places : UndosHavePlaces) where
   -- the step back from an accepted step is accepted, and gives the old files
@@ -50,7 +53,8 @@ module _ (rewrite : RenamingsRewrite) (undone : RenamingsAreUndone) (places : Un
 
   -- the steps back from all changes are accepted, and give the old files
   steps_back : (files : FileSet) (steps : List Step) (last : FileSet) (changes : List Change) → IsProject files → Runs files steps last changes
-      → (backs : List Change) × (names_of last.entries ≡ names_of files.entries) × Runs last (undo_steps (names_of files.entries) (undos_of changes)) files backs
+      → (backs : List Change) × (names_of last.entries ≡ names_of files.entries) × Runs last (undo_steps (names_of files.entries) (undos_of changes))
+      files backs
   steps_back files [] last [] p r = ([], ap (λ (fs : FileSet). names_of fs.entries) r, sym r)
   steps_back files [] last (change ∷ changes) p r = absurd r
   steps_back files (step ∷ steps) last [] p r = absurd r
@@ -62,13 +66,16 @@ module _ (rewrite : RenamingsRewrite) (undone : RenamingsAreUndone) (places : Un
       let back = step_back files step done p r.1 in
       let front : Runs last (undo_steps names (undos_of changes)) done.files rest.0 =
       subst (λ (ns : List Word). Runs last (undo_steps ns (undos_of changes)) done.files rest.0) kept.names rest.2 in
-      let all = runs_more last (undo_steps names (undos_of changes)) done.files rest.0 (undo_step names (undo_of (change_of done))) back.0 front back.1 in
-      let split : undo_steps names (undos_of (change ∷ changes)) ≡ undo_steps names (undos_of changes) ++ undo_step names (undo_of (change_of done)) ∷ [] =
+      let all = runs_more last (undo_steps names (undos_of changes)) done.files rest.0 (undo_step names (undo_of (change_of done))) back.0 front
+      back.1 in
+      let split : undo_steps names (undos_of (change ∷ changes)) ≡ undo_steps names (undos_of changes) ++ undo_step names (undo_of (change_of done))
+      ∷ [] =
       last_undo names change changes ∙ ap (λ (c : Change). undo_steps names (undos_of changes) ++ undo_step names (undo_of c) ∷ []) r.2 in (
         rest.0 ++ change_of back.0 ∷ [],
         rest.1 ∙ kept.names,
         subst (λ (ss : List Step). Runs last ss files (rest.0 ++ change_of back.0 ∷ [])) (sym split)
-            (subst (λ (fs : FileSet). Runs last (undo_steps names (undos_of changes) ++ undo_step names (undo_of (change_of done)) ∷ []) fs (rest.0 ++ change_of back.0 ∷ [])) back.2 all),
+            (subst (λ (fs : FileSet). Runs last (undo_steps names (undos_of changes) ++ undo_step names (undo_of (change_of done)) ∷ []) fs
+            (rest.0 ++ change_of back.0 ∷ [])) back.2 all),
       )
 
   pub batches_are_undone : BatchesAreUndone
@@ -86,12 +93,14 @@ module _ (rewrite : RenamingsRewrite) (undone : RenamingsAreUndone) (places : Un
 -- ---- the runs
 
 module _ (rewrite : RenamingsRewrite) (keep : RenamingsKeepRuns) (go_on : KeptRunsGoOn) where
-  runs_kept : (files : FileSet) (step : Step) (steps : List Step) (last : FileSet) (changes : List Change) → IsProject files → Runs files (step ∷ steps) last changes → KeepsRuns files last
+  runs_kept : (files : FileSet) (step : Step) (steps : List Step) (last : FileSet) (changes : List Change) → IsProject files
+      → Runs files (step ∷ steps) last changes → KeepsRuns files last
   runs_kept files step steps last [] p r = absurd r
   runs_kept files step [] last (change ∷ []) p r = subst (KeepsRuns files) (sym r.3) (keep files step.target step.name r.0 p r.1)
   runs_kept files step [] last (change ∷ next ∷ changes) p r = absurd r.3
   runs_kept files step (other ∷ steps) last (change ∷ changes) p r =
-      go_on files r.0.files last (keep files step.target step.name r.0 p r.1) (runs_kept r.0.files other steps last changes (is_project rewrite files step r.0 p r.1) r.3)
+      go_on files r.0.files last (keep files step.target step.name r.0 p r.1)
+      (runs_kept r.0.files other steps last changes (is_project rewrite files step r.0 p r.1) r.3)
 
   pub batches_keep_runs : BatchesKeepRuns
   batches_keep_runs files [] done p some h = absurd (some refl)

@@ -8,4 +8,3 @@ mod Changed
 mod OneReading
 mod Rewritten
 mod Printed
-pub mod Failing

@@ -28,7 +28,8 @@ pub one_batch : OneBatch
 one_batch lines one other p q = each_one lines one other p.each q.each
 
 -- the step of a line
-step_at : (lines : List (List ℕ)) (steps : List Step) (i : ℕ) → AreSteps lines steps → i < length lines → (step : Step) × IsStep (get_or lines i []) step
+step_at : (lines : List (List ℕ)) (steps : List Step) (i : ℕ) → AreSteps lines steps → i < length lines
+    → (step : Step) × IsStep (get_or lines i []) step
 step_at [] steps i h l = absurd (omega (arith, l))
 step_at (line ∷ lines) [] i h l = absurd h
 step_at (line ∷ lines) (step ∷ steps) zero h l = (step, h.0)
@@ -38,7 +39,8 @@ line_at : (lines : List (List ℕ)) (n : ℕ) (h : IsBadLine lines n) → get_or
 line_at lines n h = ap (λ (ls : List (List ℕ)). get_or ls (length h.before) []) h.split ∙ get_or_at h.before h.line h.after [] (length h.before) refl
 
 -- a bad line is not among lines that are steps
-not_among : (lines : List (List ℕ)) (n : ℕ) (h : IsBadLine lines n) (front : List (List ℕ)) (steps : List Step) → AreSteps front steps → length h.before < length front
+not_among : (lines : List (List ℕ)) (n : ℕ) (h : IsBadLine lines n) (front : List (List ℕ)) (steps : List Step) → AreSteps front steps
+    → length h.before < length front
     → length front ≤ 1000 → get_or front (length h.before) [] ≡ h.line → ⊥
 not_among lines n h front steps a l few e = by h.bad where
   by : ((target name : List ℕ) → AreWords h.line target name → ⊥) ⊎ (length h.before ≡ 1000) → ⊥

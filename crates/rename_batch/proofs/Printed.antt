@@ -90,13 +90,15 @@ unfolding ends_stem
 ending_plain ending name e h =
     let k = length name - length ending in
     let p = both (bytes_eq (drop k name) ending) (is_stem_word (take k name)) h in
-    subst IsPlain (take-append-drop k name) (plain-append (take k name) (drop k name) (stem_plain (take k name) p.1) (subst IsPlain (sym (named (drop k name) ending p.0)) e))
+    subst IsPlain (take-append-drop k name) (plain-append (take k name) (drop k name) (stem_plain (take k name) p.1)
+    (subst IsPlain (sym (named (drop k name) ending p.0)) e))
 
 source_plain : (file : Word) → is_source_name file ≡ true → IsPlain file
 source_plain file h = by_body (is_body_name file) refl where
   by_body : (t : Bool) → is_body_name file ≡ t → IsPlain file
   by_body true g = ending_plain (codes ".ml") file ((omega arith, refl), ((omega arith, refl), ((omega arith, refl), tt))) g
-  by_body false g = ending_plain (codes ".mli") file ((omega arith, refl), ((omega arith, refl), ((omega arith, refl), ((omega arith, refl), tt)))) (rw g at h)
+  by_body false g = ending_plain (codes ".mli") file ((omega arith, refl), ((omega arith, refl), ((omega arith, refl), ((omega arith, refl), tt))))
+      (rw g at h)
 
 -- ---- numbers
 
@@ -104,7 +106,8 @@ digit_byte : (d : ℕ) → d < 10 → IsPlainByte (48 + d)
 digit_byte d h = (omega (arith, h), grind (arith, nat_tests))
 
 number_plain : (n : ℕ) → n < 2 ^ 64 → IsPlain (decimal n)
-number_plain = decimal_by_steps (λ m ds. IsPlain ds) (λ m l. (digit_byte m l, tt)) (λ m ds l h. plain-append ds ((48 + m % 10) ∷ []) h (digit_byte (m % 10) (omega arith), tt))
+number_plain = decimal_by_steps (λ m ds. IsPlain ds) (λ m l. (digit_byte m l, tt))
+    (λ m ds l h. plain-append ds ((48 + m % 10) ∷ []) h (digit_byte (m % 10) (omega arith), tt))
 
 -- ---- places
 
@@ -125,24 +128,34 @@ line_read names undo p =
     let behind = codes "#" ++ decimal undo.at.token in
     let begins = source_begins file behind p.source in
     let mark : IsPlain (codes "#") = ((omega arith, refl), tt) in
-    let plain = plain-append file behind (source_plain file p.source) (plain-append (codes "#") (decimal undo.at.token) mark (number_plain undo.at.token (omega (arith, p.below)))) in
+    let plain = plain-append file behind (source_plain file p.source) (plain-append (codes "#") (decimal undo.at.token) mark
+    (number_plain undo.at.token (omega (arith, p.below)))) in
     record {
       word = file ++ behind;
-      words = record { split = refl; first = is_word (file ++ behind) plain (value_some (file ++ behind) begins); second = name_word undo.old p.named; plain = begins };
+      words = record {
+        split = refl;
+        first = is_word (file ++ behind) plain (value_some (file ++ behind) begins);
+        second = name_word undo.old
+            p.named;
+        plain = begins;
+      };
       target = sym (place_read file undo.at.token p.source p.above (omega (arith, p.below)));
     }
 
 abbrev AreRead : List Word → List Undo → Type 0
 AreRead names undos = AreSteps (map (undo_words names) undos) (undo_steps names undos)
 
-lines_read : (names : List Word) (changes : List Change) → AllByRecursion (λ change. IsPrintable names (undo_of change)) changes → AreRead names (undos_of changes)
+lines_read : (names : List Word) (changes : List Change) → AllByRecursion (λ change. IsPrintable names (undo_of change)) changes
+    → AreRead names (undos_of changes)
 lines_read names [] p = tt
 lines_read names (change ∷ changes) p =
     let undos = undos_of changes in
     let undo = undo_of change in
     let back : undos_of (change ∷ changes) ≡ undos ++ undo ∷ [] = reverse-append (undo ∷ []) (map undo_of changes) in
-    let more = one_more (map (undo_words names) undos) (undo_steps names undos) (undo_words names undo) (undo_step names undo) (lines_read names changes p.1) (line_read names undo p.0) in
-    let lines = subst (λ (ls : List Word). AreSteps ls (undo_steps names undos ++ undo_step names undo ∷ [])) (sym (map-append (undo_words names) undos (undo ∷ []))) more in
+    let more = one_more (map (undo_words names) undos) (undo_steps names undos) (undo_words names undo) (undo_step names undo)
+    (lines_read names changes p.1) (line_read names undo p.0) in
+    let lines = subst (λ (ls : List Word). AreSteps ls (undo_steps names undos ++ undo_step names undo ∷ []))
+    (sym (map-append (undo_words names) undos (undo ∷ []))) more in
     let steps = subst (AreSteps (map (undo_words names) (undos ++ undo ∷ []))) (sym (map-append (undo_step names) undos (undo ∷ []))) lines in
     subst (AreRead names) (sym back) steps
 

@@ -10,7 +10,8 @@ same_length [] (step ∷ steps) h = absurd h
 same_length (line ∷ lines) [] h = absurd h
 same_length (line ∷ lines) (step ∷ steps) h = ap suc (same_length lines steps h.1)
 
-pub one_more : (lines : List (List ℕ)) (steps : List Step) (line : List ℕ) (step : Step) → AreSteps lines steps → IsStep line step → AreSteps (lines ++ line ∷ []) (steps ++ step ∷ [])
+pub one_more : (lines : List (List ℕ)) (steps : List Step) (line : List ℕ) (step : Step) → AreSteps lines steps → IsStep line step
+    → AreSteps (lines ++ line ∷ []) (steps ++ step ∷ [])
 one_more [] [] line step h s = (s, tt)
 one_more [] (other ∷ steps) line step h s = absurd h
 one_more (first ∷ lines) [] line step h s = absurd h
@@ -21,7 +22,8 @@ abbrev pub IsRead : List (List ℕ) → List (List ℕ) → List Step → Type 0
 IsRead lines rest steps = (before : List (List ℕ)) × (lines ≡ before ++ rest) × AreSteps before steps × (length steps ≤ max_batch_lines)
 
 -- the next line is bad
-pub bad_line : (lines rest behind : List (List ℕ)) (steps : List Step) (line : List ℕ) (before : ℕ) → IsRead lines rest steps → rest ≡ line ∷ behind → before ≡ length steps
+pub bad_line : (lines rest behind : List (List ℕ)) (steps : List Step) (line : List ℕ) (before : ℕ) → IsRead lines rest steps → rest ≡ line ∷ behind
+    → before ≡ length steps
     → IsNoStep line ⊎ (before ≡ max_batch_lines) → IsBadLine lines (before + 1)
 bad_line lines rest behind steps line before h e n bad =
     let same = same_length h.0 steps h.2 in
@@ -38,7 +40,8 @@ bad_line lines rest behind steps line before h e n bad =
     }
 
 -- the next line is a step
-pub line_read : (lines rest behind : List (List ℕ)) (steps after : List Step) (line : List ℕ) (step : Step) → IsRead lines rest steps → rest ≡ line ∷ behind → IsStep line step
+pub line_read : (lines rest behind : List (List ℕ)) (steps after : List Step) (line : List ℕ) (step : Step) → IsRead lines rest steps
+    → rest ≡ line ∷ behind → IsStep line step
     → after ≡ steps ++ step ∷ [] → length steps + 1 ≤ max_batch_lines → IsRead lines behind after
 line_read lines rest behind steps after line step h e s a few = (
   h.0 ++ line ∷ [],

@@ -26,12 +26,15 @@ none_met (b ∷ bs) h = free (b == 32) (list_any (λ b. b == 32) bs) (h 0 (omega
 
 -- no space is found
 pub is_whole : (bs : List ℕ) → position (λ b. b == 32) bs ≡ None → IsWhole bs
-is_whole bs e = none_met bs (λ k l. fails_before_first (λ b. b == 32) bs k 0 (below k l (nat_lt (position_or_len (λ b. b == 32) bs) (length bs)) refl e)) where
-  below : (k : ℕ) → k < length bs → (t : Bool) → nat_lt (position_or_len (λ b. b == 32) bs) (length bs) ≡ t → cond t (Some (position_or_len (λ b. b == 32) bs)) None ≡ None → k < position_or_len (λ b. b == 32) bs
-  below k l true f g = cc
-  below k l false f g = grind arith
+is_whole bs e = none_met bs (λ k l. fails_before_first (λ b. b == 32) bs k 0
+    (below k l (nat_lt (position_or_len (λ b. b == 32) bs) (length bs)) refl e)) where
+      below : (k : ℕ) → k < length bs → (t : Bool) → nat_lt (position_or_len (λ b. b == 32) bs) (length bs) ≡ t
+          → cond t (Some (position_or_len (λ b. b == 32) bs)) None ≡ None → k < position_or_len (λ b. b == 32) bs
+      below k l true f g = cc
+      below k l false f g = grind arith
 
-at_here : (bs : List ℕ) (i : ℕ) → i < length bs → (get_or bs i 0 == 32) ≡ true → ((k : ℕ) → k < i → (get_or bs k 0 == 32) ≡ false) → IsCut bs (take i bs) (drop (i + 1) bs)
+at_here : (bs : List ℕ) (i : ℕ) → i < length bs → (get_or bs i 0 == 32) ≡ true → ((k : ℕ) → k < i → (get_or bs k 0 == 32) ≡ false)
+    → IsCut bs (take i bs) (drop (i + 1) bs)
 at_here [] i l h none = absurd (omega arith)
 at_here (b ∷ bs) zero l h none = record { split = ap (λ (v : ℕ). v ∷ bs) (is_space b h); whole = refl }
 at_here (b ∷ bs) (suc i) l h none =
@@ -45,7 +48,8 @@ at_here (b ∷ bs) (suc i) l h none =
     next = omega arith
 
 -- a space is found, and the bytes are cut there
-pub is_cut : (bs front behind : List ℕ) (i : ℕ) → Some i ≡ position (λ b. b == 32) bs → front ≡ take i bs → behind ≡ drop (i + 1) bs → IsCut bs front behind
+pub is_cut : (bs front behind : List ℕ) (i : ℕ) → Some i ≡ position (λ b. b == 32) bs → front ≡ take i bs → behind ≡ drop (i + 1) bs
+    → IsCut bs front behind
 is_cut bs front behind i e f b =
     let found = position-Some (λ b. b == 32) bs i 0 (sym e) in
     rw (f, b) (at_here bs i found.0 found.1 found.2)
@@ -68,7 +72,8 @@ one_cut bs front behind f b h e w = cut front behind f b h.whole w (sym h.split 
       cc
   cut (x ∷ front) behind (y ∷ f) b h w e =
       let both = heads x y (front ++ 32 ∷ behind) (f ++ 32 ∷ b) e in
-      let rest = cut front behind f b (both_free (x == 32) (list_any (λ b. b == 32) front) h).1 (both_free (y == 32) (list_any (λ b. b == 32) f) w).1 both.1 in
+      let rest = cut front behind f b (both_free (x == 32) (list_any (λ b. b == 32) front) h).1 (both_free (y == 32) (list_any (λ b. b == 32) f) w).1
+      both.1 in
       (ap (λ (v : ℕ). v ∷ front) both.0 ∙ ap (λ (vs : List ℕ). y ∷ vs) rest.0, rest.1)
 
 pub if_none : {A : Type 0} (r : Option A) (P : Type 0) → P → IfNone r P
@@ -80,7 +85,8 @@ pub no_first : (line front behind : List ℕ) → IsCut line front behind → (I
 no_first line front behind h bad = λ target name w. bad (subst IsWord (sym (one_cut line front behind target name h w.split w.first.whole).0) w.first)
 
 pub no_second : (line front behind : List ℕ) → IsCut line front behind → (IsWord behind → ⊥) → IsNoStep line
-no_second line front behind h bad = λ target name w. bad (subst IsWord (sym (one_cut line front behind target name h w.split w.first.whole).1) w.second)
+no_second line front behind h bad = λ target name w. bad (subst IsWord (sym (one_cut line front behind target name h w.split w.first.whole).1)
+    w.second)
 
 -- ---- words
 

@@ -85,3 +85,8 @@ undo_steps names undos = map (undo_step names) undos
 abbrev pub IsRefusedStep : FileSet → Step → ℕ → BatchError → Type 0
 IsRefusedStep files step number (At k why) = (k ≡ number) × Answers files step (Err why)
 IsRefusedStep files step number Memory = ⊥
+
+-- the error of a step that has this refusal: the refusal with the step's number, or want of memory
+abbrev pub IsErrorOf : ℕ → Refusal → BatchError → Type 0
+IsErrorOf number why error =
+    ((error ≡ At number why) × (why ≢ refusal.Memory)) ⊎ ((error ≡ Memory) × (why ≡ refusal.Memory))

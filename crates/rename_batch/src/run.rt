@@ -1,7 +1,7 @@
 //! The renamings of a batch, one after the other.
-ghost use Rattle.std.specs.Prelude.{◌≡◌, ◌⊎◌, ◌^◌, ◌<◌, ◌≤◌, Err, IfErr, IfOk, Ok, length, unwrap_or};
+ghost use Rattle.std.specs.Prelude.{◌≡◌, ◌^◌, ◌<◌, ◌≤◌, Err, IfErr, IfOk, Ok, length, unwrap_or};
 ghost use Rattle.rotor_base.specs.Limits.{max_sources};
-ghost use Rattle.rename_batch.specs.Batch.{Answers, Batches, IsFailedFor, IsRefusedStep, NamesRefusal, Runs, changed_from, undos_of};
+ghost use Rattle.rename_batch.specs.Batch.{Answers, Batches, IsErrorOf, IsFailedFor, IsRefusedStep, NamesRefusal, Runs, changed_from, undos_of};
 
 use crate::{BatchError, Batched, Change, Step, Undo};
 use rename_files::rename;
@@ -67,22 +67,17 @@ fn run_step(alloc: Global, files: &Files, step: &Step, number: u32) -> Result<Re
 {
     match rename(alloc, files, &step.target, step.name.as_bytes()) {
         Ok(done) => Ok(done),
-        Err(refusal) => Err(refused_at(number, refusal)),
+        Err(refusal) => Err(failed(number, refusal)),
     }
 }
 
 /// The error of a step of this number that has this refusal.
-fn refused_at(number: u32, refusal: Refusal) -> BatchError
-    ensures error { (result ≡ BatchError.At number refusal) ⊎ (result ≡ BatchError.Memory) }
-    ensures named { NamesRefusal result }
-    ensures memory { refusal ≡ Refusal.Memory → result ≡ BatchError.Memory }
+fn failed(step: u32, refusal: Refusal) -> BatchError
+    ensures { IsErrorOf step refusal result }
 {
     match refusal {
         Refusal::Memory => BatchError::Memory,
-        refusal => BatchError::At {
-            step: number,
-            refusal,
-        },
+        refusal => BatchError::At { step, refusal },
     }
 }
 

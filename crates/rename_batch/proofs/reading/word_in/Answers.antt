@@ -2,7 +2,8 @@ use Rattle.rename_batch.proofs.Words.{no_space, not_empty, not_word}
 use Rattle.rename_batch.proofs.reading.word_in.Goals as goal
 
 pub returns-then-is_some-clause-none : goal.returns-then-is_some-clause-none
-returns-then-is_some-clause-none c = not_word c.args.bytes.now c.space_in.result c.is_some.result c.space_in.ensures c.is_some.ensures c.if-is_some.true
+returns-then-is_some-clause-none c = not_word c.args.bytes.now c.space_in.result c.is_some.result c.space_in.ensures c.is_some.ensures
+    c.if-is_some.true
 
 pub returns-in-Ok-clause-word : goal.returns-in-Ok-clause-word
 returns-in-Ok-clause-word c = record {
