@@ -6,3 +6,4 @@ pub mod Accepted
 pub mod Placed
 pub mod Undone
 pub mod Ordered
+pub mod GoOn

@@ -97,6 +97,10 @@ RenamingsKeepFacts = (files : FileSet) (target : Target) (new : Name) (done : Re
 abbrev pub RenamingsKeepRuns : Type 0
 RenamingsKeepRuns = (files : FileSet) (target : Target) (new : Name) (done : Renamed) → IsProject files → Renames files target new (Ok done) → KeepsRuns files done.files
 
+-- Law: runs that are kept from files to others, and from these to further ones, are kept from the first to the last
+abbrev pub KeptRunsGoOn : Type 0
+KeptRunsGoOn = (first middle last : FileSet) → KeepsRuns first middle → KeepsRuns middle last → KeepsRuns first last
+
 -- Law: and the declarations that it changes are a least footprint
 abbrev pub FootprintsAreLeast : Type 0
 FootprintsAreLeast = (files : FileSet) (target : Target) (new : Name) (done : Renamed) → IsProject files → Renames files target new (Ok done) → IsLeastFor files done.foot.decls

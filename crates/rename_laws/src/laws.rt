@@ -1,6 +1,6 @@
 //! The laws of accepted renamings, each as the contract of a function.
 
-ghost use Rattle.rename_laws.specs.Laws.{ChangesAreListed, FootprintsAreLeast, RenamingsAreUndone, RenamingsAreValid, RenamingsKeepFacts, RenamingsKeepRuns, RenamingsRewrite, UndosHavePlaces};
+ghost use Rattle.rename_laws.specs.Laws.{ChangesAreListed, FootprintsAreLeast, KeptRunsGoOn, RenamingsAreUndone, RenamingsAreValid, RenamingsKeepFacts, RenamingsKeepRuns, RenamingsRewrite, UndosHavePlaces};
 
 /// A renaming that is accepted rewrites sources, and nothing else.
 pub fn renamings_rewrite()
@@ -25,6 +25,11 @@ pub fn renamings_keep_facts()
 /// A renaming that is accepted keeps every bounded run of the project.
 pub fn renamings_keep_runs()
     ensures { RenamingsKeepRuns }
+{}
+
+/// Runs that are kept from files to others, and from these to further ones, are kept from the first to the last.
+pub fn kept_runs_go_on()
+    ensures { KeptRunsGoOn }
 {}
 
 /// A renaming that is accepted changes a least footprint.

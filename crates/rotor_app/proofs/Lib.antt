@@ -2,3 +2,4 @@ pub mod Concluded
 pub mod Endings
 pub mod Saying
 pub mod Undoing
+pub mod Batching

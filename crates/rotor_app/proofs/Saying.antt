@@ -1,8 +1,8 @@
 -- The reply to a command is said, and has a status that a reply has.
-use Rattle.std.proofs.Common.{◌≡◌, ◌&&◌, is_none, ◌⊎◌, ℕ, List, [], ◌∷◌, ◌++◌, cond, Bool, true, false, Option, Some, None, Result, Ok, Err, IfSome, IfOk, IfErr, OnOk, ◌≢◌, refl, sym, ap, subst, ◌∙◌, inl, inr}
+use Rattle.std.proofs.Common.{◌≡◌, ◌&&◌, not, is_none, ◌⊎◌, ℕ, ◌+◌, ◌-◌, length, arith, List, [], ◌∷◌, ◌++◌, cond, Bool, true, false, Option, Some, None, Result, Ok, Err, IfSome, IfOk, IfErr, OnOk, ◌≢◌, refl, sym, ap, subst, ◌∙◌, inl, inr}
 use Rattle.std.specs.List.{cons_option}
 use Rattle.std.specs.Option.{option_and_then}
-use Rattle.rotor_base.specs.Files.{FileSet, names_of}
+use Rattle.rotor_base.specs.Files.{FileSet, IsProject, names_of}
 use Rattle.rotor_base.specs.declared.fault.Memory.{Memory}
 use Rattle.rotor_base.specs.declared.source.SourceFile.{SourceFile}
 use Rattle.rotor_base.specs.declared.refusal.LoadError.{LoadError}
@@ -11,20 +11,26 @@ use Rattle.rotor_base.specs.declared.refusal.Refusal.TheVariants as refusal
 use Rattle.rotor_base.specs.declared.report.Outcome.{Outcome}
 use Rattle.rotor_base.specs.declared.report.Outcome.TheVariants as outcome
 use Rattle.rotor_base.specs.declared.report.Renamed.{Renamed}
+use Rattle.rotor_base.specs.declared.report.Counts.{Counts}
+use Rattle.rotor_base.specs.declared.report.FootReport.{FootReport}
+use Rattle.rotor_base.specs.declared.report.SampleReport.{SampleReport}
 use Rattle.rotor_base.specs.declared.target.Target.{Target}
 use Rattle.tree_io.specs.Outside.{FileMap}
 use Rattle.tree_io.specs.declared.outside.TreeError.{TreeError}
 use Rattle.project_load.specs.Load.{loaded, IsLoad, IsOutside}
+use Rattle.apply_journal.specs.Plan.{file_of}
+use Rattle.apply_journal.specs.Recovered.{gate_name, plan_writes, IsDue, rests, due}
 use Rattle.cli_words.specs.declared.command.Command.{Command}
 use Rattle.cli_words.specs.declared.command.Command.TheVariants as command
 use Rattle.cli_words.specs.Words.{command_of}
 use Rattle.rename_files.specs.Answer.{Renames}
 use Rattle.rename_project.specs.Steps.{IsRefusedFor}
-use Rattle.rotor_app.specs.Words.{is_ready, if_ready, command_in, sampled_units, asks_folder}
+use Rattle.rename_laws.specs.Laws.{ChangesAreListed}
+use Rattle.rotor_app.specs.Words.{is_ready, if_ready, command_in, sampled_units, is_recovery, asks_folder}
 use Rattle.rotor_app.specs.declared.status.Status.{Status}
 use Rattle.rotor_app.specs.declared.status.Status.TheVariants.{Done, Refused, Usage, Project}
 use Rattle.rotor_app.specs.declared.reply.Reply.{Reply}
-use Rattle.rotor_app.specs.Said.{status_of_refusal, status_of, writes_of, reply_by, usage_reply, as_outcome, Answers, not_loaded, answered, SaysTo, IsSampled, SaysSample, Says, SaysAlone, AsksNothing, IsReply}
+use Rattle.rotor_app.specs.Said.{status_of_refusal, status_of, writes_of, reply_by, usage_reply, as_outcome, Answers, not_loaded, answered, Permits, pending_reply, SaysTo, answers, pends, SaysRecovery, finished, reply_of, recovered_text, ListsDone, IsSampled, SaysSample, Says, SaysAlone, AsksNothing, IsReply}
 
 -- ---- the status of a reply
 
@@ -51,13 +57,13 @@ refusal_status (refusal.Capture at was would) = inl refl
 refusal_status (refusal.Mislink item was would) = inl refl
 refusal_status refusal.Memory = inr refl
 
-refusal_kind : (r : Refusal) → IsReply (status_of_refusal r) []
+pub refusal_kind : (r : Refusal) → IsReply (status_of_refusal r) []
 refusal_kind r = by (status_of_refusal r) (refusal_status r) where
   by : (s : Status) → (s ≡ Refused) ⊎ (s ≡ Project) → IsReply s []
   by s (inl e) = subst (λ (t : Status). IsReply t []) (sym e) refl
   by s (inr e) = subst (λ (t : Status). IsReply t []) (sym e) refl
 
-no_usage_refusal : (r : Refusal) → status_of_refusal r ≡ Usage → ⊥
+pub no_usage_refusal : (r : Refusal) → status_of_refusal r ≡ Usage → ⊥
 no_usage_refusal r u = by (status_of_refusal r) (refusal_status r) u where
   by : (s : Status) → (s ≡ Refused) ⊎ (s ≡ Project) → s ≡ Usage → ⊥
   by s (inl e) u = let no : Refused ≡ Usage = sym e ∙ u in cc
@@ -69,20 +75,17 @@ no_done_refusal r d = by (status_of_refusal r) (refusal_status r) d where
   by s (inl e) d = let no : Refused ≡ Done = sym e ∙ d in cc
   by s (inr e) d = let no : Project ≡ Done = sym e ∙ d in cc
 
-outcome_kind : (write : Bool) (o : Outcome) → IsReply (status_of o) (writes_of write o)
-outcome_kind write (outcome.Done done) = tt
-outcome_kind write (outcome.Checked counts) = tt
-outcome_kind write (outcome.Shown shown) = tt
-outcome_kind write (outcome.Sampled sampled) = tt
-outcome_kind true (outcome.Refused r) = refusal_kind r
-outcome_kind false (outcome.Refused r) = refusal_kind r
-outcome_kind true (outcome.NotLoaded error) = refl
-outcome_kind false (outcome.NotLoaded error) = refl
-outcome_kind true outcome.BadWords = refl
-outcome_kind false outcome.BadWords = refl
+outcome_kind : (c : Command) (o : Outcome) → IsReply (status_of o) (writes_of c o)
+outcome_kind c (outcome.Done done) = tt
+outcome_kind c (outcome.Checked counts) = tt
+outcome_kind c (outcome.Shown shown) = tt
+outcome_kind c (outcome.Sampled sampled) = tt
+outcome_kind c (outcome.Refused r) = refusal_kind r
+outcome_kind c (outcome.NotLoaded error) = refl
+outcome_kind c outcome.BadWords = refl
 
 pub reply_kind : (c : Command) (names : List (List ℕ)) (o : Outcome) (reply : Reply) → reply ≡ reply_by c names o → IsReply reply.status reply.writes
-reply_kind c names o reply e = subst (λ (r : Reply). IsReply r.status r.writes) (sym e) (outcome_kind _ o)
+reply_kind c names o reply e = subst (λ (r : Reply). IsReply r.status r.writes) (sym e) (outcome_kind c o)
 
 outcome_usage : {A : Type 0} (f : A → Outcome) (r : Result A Refusal) (o : Outcome) → ((a : A) → status_of (f a) ≡ Usage → ⊥) → o ≡ as_outcome f r → status_of o ≡ Usage → ⊥
 outcome_usage f (Ok a) o h e u = h a (sym (ap status_of e) ∙ u)
@@ -112,11 +115,32 @@ refused_usage c error reply e u = let no : Project ≡ Usage = sym (ap (λ (r : 
 
 -- ---- what is said
 
+-- the files are those that the folder loads as
+pub loads_by : (content now : Option FileMap) (result : Result FileSet LoadError) (files : FileSet) → now ≡ content → result ≡ Ok files → IfSome content (λ held. IsLoad held result)
+    → IfSome now (λ held. loaded held ≡ Ok files)
+loads_by content now result files c e h = subst (λ (o : Option FileMap). IfSome o (λ held. loaded held ≡ Ok files)) (sym c) (by content h) where
+  by : (content : Option FileMap) → IfSome content (λ held. IsLoad held result) → IfSome content (λ held. loaded held ≡ Ok files)
+  by None h = tt
+  by (Some held) h = subst (λ (x : Result FileSet LoadError). IsLoad held x) e h
+
+-- the folder is as it was
+pub said_before : (content now : Option FileMap) (c : Command) (answer : Result Reply TreeError) → now ≡ content
+    → IfOk answer (λ reply. IfSome now (λ held. SaysTo c held reply)) → IfOk answer (λ reply. IfSome content (λ held. SaysTo c held reply))
+said_before content now c answer e h = subst (λ (o : Option FileMap). IfOk answer (λ reply. IfSome o (λ held. SaysTo c held reply))) e h
+
 -- over the files that the folder loads as
-pub said_over : (content : Option FileMap) (result : Result FileSet LoadError) (files : FileSet) (c : Command) (reply : Reply) → result ≡ Ok files → IfSome content (λ held. IsLoad held result)
-    → IsOver c files reply → IfSome content (λ held. SaysTo c held reply)
-said_over None result files c reply e h over = tt
-said_over (Some held) result files c reply e h (o, a, r) = (names_of files.entries, o, answered files o (subst (λ (x : Result FileSet LoadError). IsLoad held x) e h) a, r)
+pub said_over : (content : Option FileMap) (files : FileSet) (c : Command) (may : Bool) (reply : Reply) → may ≡ true → IfSome content (λ held. loaded held ≡ Ok files)
+    → IfSome content (λ held. Permits c held may) → IsOver c files reply → IfSome content (λ held. SaysTo c held reply)
+said_over None files c may reply t l p over = tt
+said_over (Some held) files c true reply t l p (o, a, r) = answers (names_of files.entries) o (answered files o l p a) r
+said_over (Some held) files c false reply t l p over = cc
+
+-- over a folder whose gate is open
+pub said_pending : (content : Option FileMap) (files : FileSet) (c : Command) (may : Bool) (reply : Reply) → may ≡ false → IfSome content (λ held. loaded held ≡ Ok files)
+    → IfSome content (λ held. Permits c held may) → reply ≡ pending_reply c → IfSome content (λ held. SaysTo c held reply)
+said_pending None files c may reply t l p r = tt
+said_pending (Some held) files c true reply t l p r = cc
+said_pending (Some held) files c false reply t l p r = pends (record { files = files; loads = l; asked = p.0; opened = p.1 }) r
 
 -- over a folder that is not taken
 pub said_refused : (content : Option FileMap) (result : Result FileSet LoadError) (error : LoadError) (c : Command) (reply : Reply) → result ≡ Err error → IfSome content (λ held. IsLoad held result)
@@ -125,7 +149,7 @@ said_refused None result error c reply e h inside r = tt
 said_refused (Some held) result error c reply e h inside r = by (subst (λ (x : Result FileSet LoadError). IsLoad held x) e h) where
   by : IsOutside error ⊎ (loaded held ≡ Err error) → SaysTo c held reply
   by (inl out) = absurd (inside out)
-  by (inr is) = ([], outcome.NotLoaded error, not_loaded error is, r)
+  by (inr is) = answers [] (outcome.NotLoaded error) (not_loaded error is) r
 
 -- the same of a call that may have found no memory
 pub refused_answer : (content : Option FileMap) (result : Result FileSet LoadError) (error : LoadError) (c : Command) (answer : Result Reply TreeError) → result ≡ Err error → IfSome content (λ held. IsLoad held result)
@@ -151,6 +175,16 @@ pub usage_alone : (request : Option Command) (reply : Reply) → request ≡ Non
 unfolding SaysAlone
 usage_alone request reply e r = subst (λ (q : Option Command). SaysAlone q reply) (sym e) r
 
+-- what the words ask for is a command over the folder's files
+all_true : (a b c : Bool) → a ≡ true → b ≡ true → c ≡ true → (a && b && c) ≡ true
+all_true true true true p q r = refl
+all_true true true false p q r = cc
+all_true true false c p q r = cc
+all_true false b c p q r = cc
+
+pub asks_no_sample : (c : Command) → is_ready c ≡ true → sampled_units c ≡ None → is_recovery c ≡ false → asks_folder c ≡ true
+asks_no_sample c ready none other = all_true (is_ready c) (is_none (sampled_units c)) (not (is_recovery c)) ready (ap is_none none) (ap not other)
+
 -- a command over the files of the folder
 says_to : (c : Command) (held : FileMap) (reply : Reply) → asks_folder c ≡ true → SaysTo c held reply → Says (Some c) held reply
 unfolding Says
@@ -159,14 +193,55 @@ says_to (command.Shape target) held reply e h = h
 says_to (command.Rename target name write safe json) held reply e h = h
 says_to (command.Sample units) held reply e h = let no : false ≡ true = e in absurd cc
 says_to (command.Verify old new) held reply e h = let no : false ≡ true = e in absurd cc
-says_to (command.Batch file write) held reply e h = let no : false ≡ true = e in absurd cc
+says_to (command.Batch file write) held reply e h = h
 says_to command.Recover held reply e h = let no : false ≡ true = e in absurd cc
 
-pub command_said : (request : Option Command) (c : Command) (content : Option FileMap) (result : Result Reply TreeError) → request ≡ Some c → asks_folder c ≡ true
-    → IfOk result (λ reply. IfSome content (λ held. SaysTo c held reply)) → IfOk result (λ reply. IfSome content (λ held. Says request held reply))
-command_said request c content (Err fault) e asks h = tt
-command_said request c None (Ok reply) e asks h = tt
-command_said request c (Some held) (Ok reply) e asks h = subst (λ (q : Option Command). Says q held reply) (sym e) (says_to c held reply asks h)
+pub folder_said : (c : Command) (content : Option FileMap) (reply : Reply) → is_ready c ≡ true → sampled_units c ≡ None → is_recovery c ≡ false
+    → IfSome content (λ held. SaysTo c held reply) → IfSome content (λ held. Says (Some c) held reply)
+folder_said c None reply ready none other h = tt
+folder_said c (Some held) reply ready none other h = says_to c held reply (asks_no_sample c ready none other) h
+
+-- a recovery
+says_recovery : (c : Command) (held : FileMap) (reply : Reply) → is_recovery c ≡ true → SaysRecovery held reply → Says (Some c) held reply
+unfolding Says
+says_recovery command.Check held reply e h = cc
+says_recovery (command.Shape target) held reply e h = cc
+says_recovery (command.Rename target name write safe json) held reply e h = cc
+says_recovery (command.Sample units) held reply e h = cc
+says_recovery (command.Verify old new) held reply e h = cc
+says_recovery (command.Batch file write) held reply e h = cc
+says_recovery command.Recover held reply e h = h
+
+pub recovery_said : (c : Command) (content : Option FileMap) (result : Result Reply TreeError) → is_recovery c ≡ true
+    → IfOk result (λ reply. IfSome content (λ held. SaysRecovery held reply)) → IfOk result (λ reply. IfSome content (λ held. Says (Some c) held reply))
+recovery_said c content (Err fault) e h = tt
+recovery_said c None (Ok reply) e h = tt
+recovery_said c (Some held) (Ok reply) e h = says_recovery c held reply e h
+
+pub command_said : (request : Option Command) (c : Command) (content : Option FileMap) (result : Result Reply TreeError) → request ≡ Some c
+    → IfOk result (λ reply. IfSome content (λ held. Says (Some c) held reply)) → IfOk result (λ reply. IfSome content (λ held. Says request held reply))
+command_said request c content result e h = subst (λ (q : Option Command). IfOk result (λ reply. IfSome content (λ held. Says q held reply))) (sym e) h
+
+-- a recovery with something to write
+due_writes : (held : FileMap) (found : Option (List SourceFile)) (writes : List SourceFile) (reply : Reply) → found ≡ Some writes → IsDue held found
+    → reply ≡ reply_of Done writes (recovered_text (length writes - 1)) → SaysRecovery held reply
+due_writes held found writes reply e (rests shut) r = absurd cc
+due_writes held found writes reply e (due files o p) r =
+    let same : plan_writes files ≡ writes = cc in
+    let count : length (plan_writes files) - 1 ≡ length files = one_less files in
+    finished files o p (r ∙ ap (λ (ws : List SourceFile). reply_of Done ws (recovered_text (length ws - 1))) (sym same) ∙ ap (λ (n : ℕ). reply_of Done (plan_writes files) (recovered_text n)) count)
+  where
+    one_more : (fs : List SourceFile) (f : SourceFile) → length (fs ++ f ∷ []) ≡ length fs + 1
+    one_more [] f = refl
+    one_more (g ∷ fs) f = omega (arith, one_more fs f)
+
+    one_less : (fs : List SourceFile) → length (plan_writes fs) - 1 ≡ length fs
+    one_less fs = omega (arith, one_more fs (file_of gate_name []))
+
+pub due_said : (content : Option FileMap) (found : Option (List SourceFile)) (writes : List SourceFile) (reply : Reply) → found ≡ Some writes → IfSome content (λ held. IsDue held found)
+    → reply ≡ reply_of Done writes (recovered_text (length writes - 1)) → IfSome content (λ held. SaysRecovery held reply)
+due_said None found writes reply e d r = tt
+due_said (Some held) found writes reply e d r = due_writes held found writes reply e d r
 
 -- `sample`
 sample_is : (c : Command) (units : ℕ) → sampled_units c ≡ Some units → c ≡ command.Sample units
@@ -196,17 +271,23 @@ sample_usage units reply (o, (r, h, t), e) u =
     outcome_usage outcome.Sampled r o (λ a v. let no : Done ≡ Usage = v in cc) t (sym (ap (λ (x : Reply). x.status) e) ∙ u)
 
 pub sample_writes : (units : ℕ) (reply : Reply) → SaysSample units reply → reply.writes ≡ []
-sample_writes units reply (o, h, e) = ap (λ (x : Reply). x.writes) e
+sample_writes units reply (o, (r, h, t), e) = ap (λ (x : Reply). x.writes) e ∙ ap (writes_of (command.Sample units)) t ∙ by r where
+  by : (r : Result SampleReport Refusal) → writes_of (command.Sample units) (as_outcome outcome.Sampled r) ≡ []
+  by (Ok report) = refl
+  by (Err why) = refl
+
+-- its outcome is no renaming
+pub sample_lists : (units : ℕ) (o : Outcome) → IsSampled units o → ListsDone o
+sample_lists units o (r, h, t) = subst ListsDone (sym t) (by r) where
+  by : (r : Result SampleReport Refusal) → ListsDone (as_outcome outcome.Sampled r)
+  by (Ok report) = tt
+  by (Err why) = tt
 
 -- a reply that is made without a folder
 pub sample_made : (c : Command) (units : ℕ) (o : Outcome) (result : Result Reply Memory) → sampled_units c ≡ Some units → IsSampled units o
     → IfOk result (λ reply. reply ≡ reply_by c [] o) → IfOk result (SaysSample units)
 sample_made c units o (Err e) is h r = tt
 sample_made c units o (Ok reply) is h r = (o, h, r ∙ ap (λ (k : Command). reply_by k [] o) (sample_is c units is))
-
--- what the words ask for is a command over the folder's files
-pub asks_no_sample : (c : Command) → is_ready c ≡ true → sampled_units c ≡ None → asks_folder c ≡ true
-asks_no_sample c ready none = ap (λ (b : Bool). b && is_none (sampled_units c)) ready ∙ ap is_none none
 
 pub asks_something : (request : Option Command) (c : Command) → request ≡ Some c → sampled_units c ≡ None → AsksNothing request → ⊥
 asks_something request c e none asks = subst AsksNothing e asks none
@@ -216,6 +297,25 @@ pub over_made : (c : Command) (files : FileSet) (names : List (List ℕ)) (o : O
     → IfOk result (λ reply. reply ≡ reply_by c names o) → IfOk result (IsOver c files)
 over_made c files names o (Err e) n a h = tt
 over_made c files names o (Ok reply) n a h = (o, a, h ∙ ap (λ (ns : List (List ℕ)). reply_by c ns o) n)
+
+-- a renaming that is done lists what it changed
+pub lists_done : ChangesAreListed → (c : Command) (files : FileSet) (o : Outcome) → IsProject files → Answers c files o → ListsDone o
+lists_done law command.Check files o p (r, h, e) = subst ListsDone (sym e) (by r) where
+  by : (r : Result Counts Refusal) → ListsDone (as_outcome outcome.Checked r)
+  by (Ok a) = tt
+  by (Err w) = tt
+lists_done law (command.Shape target) files o p (r, h, e) = subst ListsDone (sym e) (by r) where
+  by : (r : Result FootReport Refusal) → ListsDone (as_outcome outcome.Shown r)
+  by (Ok a) = tt
+  by (Err w) = tt
+lists_done law (command.Rename target name write safe json) files o p (r, h, e) = subst ListsDone (sym e) (by r h) where
+  by : (r : Result Renamed Refusal) → Renames files target name r → ListsDone (as_outcome outcome.Done r)
+  by (Ok done) h = law files target name done p h
+  by (Err w) h = tt
+lists_done law (command.Sample units) files o p h = absurd h
+lists_done law (command.Verify old new) files o p h = absurd h
+lists_done law (command.Batch file write) files o p h = absurd h
+lists_done law command.Recover files o p h = absurd h
 
 -- a command that the words ask for is there
 ready_by : (d c : Command) (b : Bool) → is_ready d ≡ b → cond b (Some d) None ≡ Some c → is_ready c ≡ true

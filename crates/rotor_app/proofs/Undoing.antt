@@ -1,8 +1,12 @@
 -- A renaming that is done keeps facts and runs, and the words of its undo give the old files back.
-use Rattle.std.proofs.Common.{◌≡◌, ◌⊎◌, ℕ, ◌<◌, ◌≤◌, ◌^◌, Bool, true, false, List, [], ◌∷◌, ◌++◌, Option, Some, None, Ok, Err, Contains, slice_get, flat_map, length, unwrap_or, codes, refl, sym, ap, subst, ◌∙◌, arith}
+use Rattle.std.proofs.Common.{◌≡◌, ◌≢◌, ◌⊎◌, inl, inr, ◌||◌, if◌then◌else◌, ℕ, ◌<◌, ◌≤◌, ◌^◌, Bool, true, false, List, [], ◌∷◌, ◌++◌, Option, Some, None, Ok, Err, Contains, slice_get, flat_map, length, unwrap_or, codes, refl, sym, ap, subst, ◌∙◌, arith}
 use Rattle.std.specs.Fmt.{decimal}
+use Rattle.std.specs.FinMap.{get}
+use Rattle.std.specs.Str.{bytes_eq}
+use Rattle.std.specs.Cmp.Lexicographic.{bytes_decides}
 use Rattle.std.specs.Option.{option_and_then}
-use Rattle.rotor_base.specs.Files.{FileSet, IsProject, names_of}
+use Rattle.rotor_base.specs.Files.{FileSet, IsProject, names_of, load_refusal}
+use Rattle.rotor_base.specs.Lines.{feed_lines}
 use Rattle.rotor_base.specs.declared.source.SourceFile.{SourceFile}
 use Rattle.rotor_base.specs.declared.place.Place.{Place}
 use Rattle.rotor_base.specs.declared.report.Outcome.{Outcome}
@@ -11,8 +15,14 @@ use Rattle.rotor_base.specs.declared.report.Renamed.{Renamed}
 use Rattle.rotor_base.specs.declared.target.Target.{Target}
 use Rattle.rotor_base.specs.declared.target.Target.TheVariants.{At}
 use Rattle.tree_io.specs.Outside.{FileMap}
-use Rattle.project_load.specs.Load.{loaded}
+use Rattle.project_load.specs.Load.{loaded, unless_refused}
 use Rattle.project_load.specs.Rewritten.{after, files_at, AreOthers, LoadedFilesAreAProject, NewSourcesAreLoaded, OldSourcesComeBack}
+use Rattle.tree_writes.specs.Writes.{StoppedWriting}
+use Rattle.apply_journal.specs.Plan.{plan_text, IsPlan}
+use Rattle.apply_journal.specs.Recovered.{plan_name, gate_name, IsOpen, safe_writes, project_in, Recovers, closed}
+use Rattle.apply_journal.proofs.Maps.{get_after_other, get_after_same}
+use Rattle.apply_journal.proofs.Picked.{plan_of_files}
+use Rattle.apply_journal.proofs.Stops.{gate_no_source, not_named, safe_others, stopped_safe, whole_safe, stopped_again, whole_again}
 use Rattle.report.specs.Pieces.{place_text}
 use Rattle.report.specs.Lines.{rename_line, declaration_lines, number_line, undo_line, done_lines}
 use Rattle.report.specs.Text.{ended, text_of}
@@ -21,13 +31,19 @@ use Rattle.cli_words.specs.declared.command.Command.TheVariants as command
 use Rattle.cli_words.specs.Words.{command_of}
 use Rattle.cli_words.specs.Laws.{undo_words, UndosAreRead}
 use Rattle.rename_files.specs.Answer.{Renames}
-use Rattle.rename_laws.specs.Laws.{Rewrites, IsUndoPlace, RenamingsRewrite, RenamingsAreUndone, RenamingsAreValid, UndosHavePlaces, RenamingsKeepFacts, RenamingsKeepRuns, FootprintsAreLeast}
+use Rattle.rename_laws.specs.Laws.{Rewrites, IsUndoPlace, ChangesAreListed, RenamingsRewrite, RenamingsAreUndone, RenamingsAreValid, UndosHavePlaces, RenamingsKeepFacts, RenamingsKeepRuns, FootprintsAreLeast}
+use Rattle.rename_batch.specs.declared.step.Step.{Step}
+use Rattle.rename_batch.specs.declared.step.Batched.{Batched}
+use Rattle.rename_batch.specs.Batch.{Batches}
+use Rattle.rename_batch.specs.Reading.{IsBatch}
+use Rattle.rename_batch.specs.Laws.{BatchesRewrite, BatchesAreUndone, BatchesKeepRuns}
 use Rattle.rotor_app.specs.declared.status.Status.TheVariants.{Done, Project}
 use Rattle.rotor_app.specs.declared.reply.Reply.{Reply}
 use Rattle.rotor_app.specs.Words.{command_in, if_ready}
-use Rattle.rotor_app.specs.Said.{status_of, writes_of, reply_by, outcome_text, IsAnswer, not_loaded, answered, SaysTo, Says, SomeReply}
+use Rattle.rotor_app.specs.Said.{status_of, reply_by, outcome_text, MayWrite, IsAnswer, not_loaded, answered, SaysTo, answers, pends, batches, batch_in, batched_reply, SaysSteps, stopped, batched, SaysBatch, lacks, large, unread, runs, SaysRecovery, idle, finished, lost, Says, SomeReply}
+use Rattle.rotor_app.specs.Table.{TreeStopped}
 use Rattle.rotor_app.proofs.Saying.{no_done_refusal}
-use Rattle.rotor_app.specs.Done.{rename_words, undo_of, GivesBack, IsDone, IsDoneSo}
+use Rattle.rotor_app.specs.Done.{rename_words, undo_of, AreSameButForPlan, GivesBack, GivesFilesBack, IsDone, IsBatchDone, IsDoneSo, IsRecoverable}
 
 -- ---- the last line of the report
 
@@ -65,6 +81,17 @@ place_is names p source e = ap (λ (o : Option (List ℕ)). unwrap_or o [] ++ (c
 within : (n : ℕ) → n ≤ 1048576 → n < 2 ^ 32
 within n h = omega (arith, h)
 
+-- a folder loads as its project
+load_by : (one other : FileMap) → project_in one ≡ project_in other → loaded one ≡ loaded other
+unfolding loaded
+load_by one other e = ap (λ (p : FileSet). unless_refused (load_refusal p.entries p.manifest) p) e
+
+differs : (q name : List ℕ) → q ≢ name → bytes_eq q name ≡ false
+differs q name h = by (bytes_eq q name) refl where
+  by : (b : Bool) → bytes_eq q name ≡ b → bytes_eq q name ≡ false
+  by true e = absurd (h ((bytes_decides q name).0 e))
+  by false e = e
+
 -- the laws of the crates below
 pub record HasLaws : Type 0 where
   pub project : LoadedFilesAreAProject
@@ -78,9 +105,14 @@ pub record HasLaws : Type 0 where
   pub facts : RenamingsKeepFacts
   pub runs : RenamingsKeepRuns
   pub least : FootprintsAreLeast
+  pub changes : ChangesAreListed
+  pub batch_sources : BatchesRewrite
+  pub batch_undone : BatchesAreUndone
+  pub batch_runs : BatchesKeepRuns
 
 module _ (laws : HasLaws) where
-  module _ (held : FileMap) (target : Target) (new : List ℕ) (write safe json : Bool) (old : FileSet) (done : Renamed) (loads : loaded held ≡ Ok old) (renames : Renames old target new (Ok done)) where
+  module _ (held : FileMap) (target : Target) (new : List ℕ) (write safe json : Bool) (old : FileSet) (done : Renamed) (loads : loaded held ≡ Ok old)
+      (may : MayWrite (command.Rename target new write safe json) held) (renames : Renames old target new (Ok done)) where
     abbrev names : List (List ℕ)
     names = names_of old.entries
 
@@ -108,29 +140,84 @@ module _ (laws : HasLaws) where
     back_others : AreOthers done.files undone.0.files
     back_others = record { names = ap (λ (f : FileSet). names_of f.entries) undone.2 ∙ sym rewrites.names; manifest = ap (λ (f : FileSet). f.manifest) undone.2 ∙ sym rewrites.manifest }
 
-    load : loaded (after (files_at done.files.entries done.changed) held) ≡ Ok done.files
+    abbrev files : List SourceFile
+    files = files_at done.files.entries done.changed
+
+    load : loaded (after files held) ≡ Ok done.files
     load = laws.loaded_new held old done.files done.changed loads others rewrites.taken rewrites.covers
 
-    gives_back : (reply : Reply) → reply.writes ≡ files_at done.files.entries done.changed → GivesBack (undo_of names done) held reply
+    there : IsProject done.files
+    there = laws.project (after files held) done.files load
+
+    -- the words of the undo over a folder that loads as the new files, and whose gate is not open
+    abbrev undo : Command
+    undo = command.Rename (At place.source done.undo_at.token) done.old true false false
+
+    abbrev undo_reply : Reply
+    undo_reply = reply_by undo (names_of done.files.entries) (outcome.Done undone.0)
+
+    undo_said : (now : FileMap) → loaded now ≡ Ok done.files → (IsOpen now → ⊥) → Says (command_in (undo_of names done)) now undo_reply
     unfolding Says
-    gives_back reply w =
+    undo_said now l shut =
+        let a : SaysTo undo now undo_reply =
+        answers (names_of done.files.entries) (outcome.Done undone.0) (answered done.files (outcome.Done undone.0) l (λ t. shut) (Ok undone.0, undone.1, refl)) refl in
+        subst (λ (q : Option Command). Says q now undo_reply) (sym asked) a
+
+    home : after undo_reply.writes (after files held) ≡ held
+    home =
         let back = undone.0 in
-        let c = command.Rename (At place.source done.undo_at.token) done.old true false false in
-        let now = after (files_at done.files.entries done.changed) held in
-        let r : Reply = reply_by c (names_of done.files.entries) (outcome.Done back) in
-        let a : SaysTo c now r = (names_of done.files.entries, outcome.Done back, answered done.files (outcome.Done back) load (Ok back, undone.1, refl), refl) in
-        let s : Says (command_in (undo_of names done)) now r = subst (λ (q : Option Command). Says q now r) (sym asked) a in
-        let there : IsProject done.files = laws.project now done.files load in
         let again = laws.rewrite done.files (At place.source done.undo_at.token) done.old back there undone.1 in
         let covers = subst (λ (f : FileSet). (k : ℕ) → (slice_get done.files.entries k ≡ slice_get f.entries k) ⊎ Contains back.changed k) undone.2 again.covers in
-        let home : after (files_at old.entries back.changed) now ≡ held = laws.old_back held old done.files done.changed back.changed loads others rewrites.covers covers in
         let writes : files_at back.files.entries back.changed ≡ files_at old.entries back.changed = ap (λ (f : FileSet). files_at f.entries back.changed) undone.2 in
-        let whole : after r.writes now ≡ held = ap (λ (ws : List SourceFile). after ws now) writes ∙ home in
-        let G : List SourceFile → Type 0 = λ ws. SomeReply (command_in (undo_of names done)) (after ws held) (λ b. (b.status ≡ Done) × (after b.writes (after ws held) ≡ held)) in
-        subst G (sym w) (r, s, (refl, whole))
+        ap (λ (ws : List SourceFile). after ws (after files held)) writes ∙ laws.old_back held old done.files done.changed back.changed loads others rewrites.covers covers
 
-    writes : (reply : Reply) → reply ≡ reply_by (command.Rename target new write safe json) names (outcome.Done done) → write ≡ true → reply.writes ≡ files_at done.files.entries done.changed
-    writes reply e w = ap (λ (r : Reply). r.writes) e ∙ ap (λ (b : Bool). writes_of b (outcome.Done done)) w
+    -- the writes are those of a plan, which leaves the gate as it is
+    plan : IsPlan (plan_text files) files
+    plan =
+        let lists = laws.changes old target new done project renames in
+        plan_of_files done.files done.changed there lists.ordered lists.known
+
+    gate_rests : IsOpen (after files held) → IsOpen held
+    gate_rests o = sym (get_after_other files held gate_name (not_named gate_name files gate_no_source plan.sources.named)) ∙ o
+
+    gives_back : (reply : Reply) → reply.writes ≡ files → (IsOpen held → ⊥) → GivesBack (undo_of names done) held reply
+    gives_back reply w shut =
+        let G : List SourceFile → Type 0 = λ ws. SomeReply (command_in (undo_of names done)) (after ws held) (λ b. (b.status ≡ Done) × (after b.writes (after ws held) ≡ held)) in
+        subst G (sym w) (undo_reply, undo_said (after files held) load (λ o. shut (gate_rests o)), (refl, home))
+
+    -- the same with a plan and a gate beside the sources
+    safe_load : loaded (after (safe_writes files) held) ≡ Ok done.files
+    safe_load = load_by (after (safe_writes files) held) (after files held) (whole_safe held files plan).1 ∙ load
+
+    leaves : AreSameButForPlan held (after undo_reply.writes (after (safe_writes files) held))
+    leaves q p g =
+        let same : get (after undo_reply.writes (after (safe_writes files) held)) q ≡ get (after undo_reply.writes (after files held)) q =
+        get_after_same undo_reply.writes (after (safe_writes files) held) (after files held) q (λ none. safe_others held files q (differs q plan_name p) (differs q gate_name g)) in
+        sym (same ∙ ap (λ (m : FileMap). get m q) home)
+
+    gives_files_back : (reply : Reply) → reply.writes ≡ safe_writes files → GivesFilesBack (undo_of names done) held reply
+    gives_files_back reply w =
+        let G : List SourceFile → Type 0 = λ ws. SomeReply (command_in (undo_of names done)) (after ws held) (λ b. (b.status ≡ Done) × AreSameButForPlan held (after b.writes (after ws held))) in
+        subst G (sym w) (undo_reply, undo_said (after (safe_writes files) held) safe_load (whole_safe held files plan).0, (refl, leaves))
+
+    -- the writes of the reply
+    abbrev writes_so : Bool → Bool → List SourceFile
+    writes_so w s = if s then safe_writes files else (if w then files else [])
+
+    writes : (reply : Reply) → reply ≡ reply_by (command.Rename target new write safe json) names (outcome.Done done) → reply.writes ≡ writes_so write safe
+    writes reply e = ap (λ (r : Reply). r.writes) e
+
+    safe_files : (reply : Reply) → reply ≡ reply_by (command.Rename target new write safe json) names (outcome.Done done) → safe ≡ true → reply.writes ≡ safe_writes files
+    safe_files reply e s = writes reply e ∙ ap (λ (b : Bool). writes_so write b) s
+
+    all_files : (reply : Reply) → reply ≡ reply_by (command.Rename target new write safe json) names (outcome.Done done) → write ≡ true → safe ≡ false → reply.writes ≡ files
+    all_files reply e w s = writes reply e ∙ ap (λ (b : Bool). writes_so write b) s ∙ ap (λ (b : Bool). writes_so b false) w
+
+    loads_so : (w s : Bool) → (w || s) ≡ true → loaded (after (writes_so w s) held) ≡ Ok done.files
+    loads_so true true t = safe_load
+    loads_so false true t = safe_load
+    loads_so true false t = load
+    loads_so false false t = cc
 
     is_done : (reply : Reply) → reply ≡ reply_by (command.Rename target new write safe json) names (outcome.Done done) → IsDone held target new write safe json reply
     is_done reply e = record {
@@ -139,36 +226,156 @@ module _ (laws : HasLaws) where
       loads = loads;
       renames = renames;
       replied = e;
-      written = λ w. subst (λ (ws : List SourceFile). loaded (after ws held) ≡ Ok done.files) (sym (writes reply e w)) load;
+      written = λ t. subst (λ (ws : List SourceFile). loaded (after ws held) ≡ Ok done.files) (sym (writes reply e)) (loads_so write safe t);
       valid = laws.valid old target new done project renames;
       facts = laws.facts old target new done project renames;
       runs = laws.runs old target new done project renames;
       least = laws.least old target new done project renames;
       line = λ j. let t = text_ends names done in (t.0, ap (λ (r : Reply). r.text) e ∙ (ap (λ (b : Bool). outcome_text b names (outcome.Done done)) j ∙ t.1));
-      back = λ w. gives_back reply (writes reply e w);
+      back = λ w s. gives_back reply (all_files reply e w s) (may (ap (λ (b : Bool). b || safe) w));
+      safe_back = λ s. gives_files_back reply (safe_files reply e s);
     }
+
+    -- a write of `--safe` failed
+    stopped_safely : (reply : Reply) → reply ≡ reply_by (command.Rename target new write safe json) names (outcome.Done done) → safe ≡ true → (IsOpen held → ⊥) → (now : FileMap)
+        → StoppedWriting reply.writes (Some held) (Some now) → Recovers now (project_in held) ⊎ Recovers now (project_in (after reply.writes held))
+    stopped_safely reply e s shut now halt =
+        let w : reply.writes ≡ safe_writes files = safe_files reply e s in
+        let R : List SourceFile → Type 0 = λ ws. Recovers now (project_in held) ⊎ Recovers now (project_in (after ws held)) in
+        subst R (sym w) (by (stopped_safe held now files plan shut (subst (λ (ws : List SourceFile). StoppedWriting ws (Some held) (Some now)) w halt)))
+      where
+        by : Recovers now (project_in held) ⊎ Recovers now (project_in (after files held)) → Recovers now (project_in held) ⊎ Recovers now (project_in (after (safe_writes files) held))
+        by (inl r) = inl r
+        by (inr r) = inr (subst (Recovers now) (sym (whole_safe held files plan).1) r)
 
   -- ---- a reply that is done
 
-  by_answer : (held : FileMap) (target : Target) (new : List ℕ) (write safe json : Bool) (names : List (List ℕ)) (o : Outcome) (reply : Reply)
-      → IsAnswer held (command.Rename target new write safe json) names o → reply ≡ reply_by (command.Rename target new write safe json) names o → reply.status ≡ Done
-      → IsDone held target new write safe json reply
-  by_answer held target new write safe json names o reply (not_loaded error l) e d = absurd (let no : Project ≡ Done = sym (ap (λ (r : Reply). r.status) e) ∙ d in cc)
-  by_answer held target new write safe json names o reply (answered files _ l (Err r, h, t)) e d =
-      absurd (no_done_refusal r (sym (ap status_of t) ∙ (sym (ap (λ (x : Reply). x.status) e) ∙ d)))
-  by_answer held target new write safe json names o reply (answered files _ l (Ok done, h, t)) e d =
-      is_done held target new write safe json files done l h reply (e ∙ ap (λ (x : Outcome). reply_by (command.Rename target new write safe json) (names_of files.entries) x) t)
+  -- a reply that is done has done the renaming
+  module _ (held : FileMap) (target : Target) (new : List ℕ) (write safe json : Bool) (P : Reply → Type 0)
+      (h : (old : FileSet) (done : Renamed) → loaded held ≡ Ok old → MayWrite (command.Rename target new write safe json) held → Renames old target new (Ok done)
+      → (reply : Reply) → reply ≡ reply_by (command.Rename target new write safe json) (names_of old.entries) (outcome.Done done) → P reply) where
+    by_answer : (sources : List (List ℕ)) (o : Outcome) (reply : Reply) → IsAnswer held (command.Rename target new write safe json) sources o
+        → reply ≡ reply_by (command.Rename target new write safe json) sources o → reply.status ≡ Done → P reply
+    by_answer sources o reply (not_loaded error l) e d = absurd (let no : Project ≡ Done = sym (ap (λ (r : Reply). r.status) e) ∙ d in cc)
+    by_answer sources o reply (answered files _ l may (Err r, a, t)) e d =
+        absurd (no_done_refusal r (sym (ap status_of t) ∙ (sym (ap (λ (x : Reply). x.status) e) ∙ d)))
+    by_answer sources o reply (answered files _ l may (Ok done, a, t)) e d =
+        h files done l may a reply (e ∙ ap (λ (x : Outcome). reply_by (command.Rename target new write safe json) (names_of files.entries) x) t)
+
+    by_reply : (reply : Reply) → SaysTo (command.Rename target new write safe json) held reply → reply.status ≡ Done → P reply
+    by_reply reply (answers sources o a e) d = by_answer sources o reply a e d
+    by_reply reply (batches file files b l may s) d = cc
+    by_reply reply (pends p e) d = absurd (let no : Project ≡ Done = sym (ap (λ (r : Reply). r.status) e) ∙ d in cc)
+
+  -- a batch that is done
+  module _ (held : FileMap) (file : List ℕ) (write : Bool) (old : FileSet) (bytes : List ℕ) (steps : List Step) (done : Batched) (loads : loaded held ≡ Ok old) (found : batch_in held file ≡ Some bytes)
+      (reads : IsBatch (feed_lines bytes) steps) (accepted : Batches old steps (Ok done)) where
+    project_of : IsProject old
+    project_of = laws.project held old loads
+
+    abbrev batch_files : List SourceFile
+    batch_files = files_at done.files.entries done.changed
+
+    batch_loads : (w : Bool) → w ≡ true → loaded (after (if w then batch_files else []) held) ≡ Ok done.files
+    batch_loads true t =
+        let keeps = laws.batch_sources old steps done project_of accepted in
+        laws.loaded_new held old done.files done.changed loads (record { names = keeps.names; manifest = keeps.manifest }) keeps.taken keeps.covers
+    batch_loads false t = cc
+
+    batch_is_done : (reply : Reply) → reply ≡ batched_reply (command.Batch file write) (names_of old.entries) done → IsBatchDone held file write reply
+    batch_is_done reply e = record {
+      old = old;
+      bytes = bytes;
+      steps = steps;
+      done = done;
+      loads = loads;
+      found = found;
+      reads = reads;
+      batches = accepted;
+      replied = e;
+      written = λ w. subst (λ (ws : List SourceFile). loaded (after ws held) ≡ Ok done.files) (sym (ap (λ (r : Reply). r.writes) e)) (batch_loads write w);
+      undone = laws.batch_undone old steps done project_of accepted;
+      runs = λ some. laws.batch_runs old steps done project_of some accepted;
+    }
+
+  batch_so : (held : FileMap) (file : List ℕ) (write : Bool) (reply : Reply) → SaysTo (command.Batch file write) held reply → reply.status ≡ Done → IsBatchDone held file write reply
+  batch_so held file write reply (answers sources o (not_loaded error l) e) d = absurd (let no : Project ≡ Done = sym (ap (λ (r : Reply). r.status) e) ∙ d in cc)
+  batch_so held file write reply (answers sources o (answered files _ l may a) e) d = absurd a
+  batch_so held file write reply (pends p e) d = absurd (let no : Project ≡ Done = sym (ap (λ (r : Reply). r.status) e) ∙ d in cc)
+  batch_so held file write reply (batches other files b l may s) d = by (one b) s where
+    one : Some file ≡ Some other → other ≡ file
+    one b = cc
+
+    in_steps : (bytes : List ℕ) (steps : List Step) → batch_in held file ≡ Some bytes → IsBatch (feed_lines bytes) steps → SaysSteps (command.Batch file write) files steps reply → IsBatchDone held file write reply
+    in_steps bytes steps f is (stopped k why a e) = absurd (no_done_refusal why (sym (ap (λ (r : Reply). r.status) e) ∙ d))
+    in_steps bytes steps f is (batched done a e) = batch_is_done held file write files bytes steps done l f is a reply e
+
+    by : other ≡ file → SaysBatch (command.Batch file write) other (batch_in held other) files reply → IsBatchDone held file write reply
+    by same (lacks f e) = absurd (let no : Project ≡ Done = sym (ap (λ (r : Reply). r.status) e) ∙ d in cc)
+    by same (large bytes f long e) = absurd (let no : Project ≡ Done = sym (ap (λ (r : Reply). r.status) e) ∙ d in cc)
+    by same (unread bytes n f short bad e) = absurd (let no : Project ≡ Done = sym (ap (λ (r : Reply). r.status) e) ∙ d in cc)
+    by same (runs bytes steps f short is s) = in_steps bytes steps (subst (λ (name : List ℕ). batch_in held name ≡ Some bytes) same f) is s
+
+  -- a recovery that is done leaves what is recovered
+  recovered_so : (held : FileMap) (reply : Reply) → SaysRecovery held reply → reply.status ≡ Done → Recovers held (project_in (after reply.writes held))
+  recovered_so held reply (idle shut e) d = subst (λ (r : Reply). Recovers held (project_in (after r.writes held))) (sym e) (closed shut)
+  recovered_so held reply (finished files o p e) d = subst (λ (r : Reply). Recovers held (project_in (after r.writes held))) (sym e) (whole_again held files o p).1
+  recovered_so held reply (lost l e) d = absurd (let no : Project ≡ Done = sym (ap (λ (r : Reply). r.status) e) ∙ d in cc)
 
   by_says : (request : Option Command) (held : FileMap) (reply : Reply) → Says request held reply → reply.status ≡ Done → IsDoneSo request held reply
   unfolding Says
   by_says None held reply s d = tt
   by_says (Some command.Check) held reply s d = tt
   by_says (Some (command.Shape target)) held reply s d = tt
-  by_says (Some (command.Rename target new write safe json)) held reply s d = by_answer held target new write safe json s.0 s.1 reply s.2 s.3 d
+  by_says (Some (command.Rename target new write safe json)) held reply s d =
+      by_reply held target new write safe json (IsDone held target new write safe json) (λ old done l may a r e. is_done held target new write safe json old done l may a r e) reply s d
   by_says (Some (command.Sample units)) held reply s d = tt
   by_says (Some (command.Verify old new)) held reply s d = tt
-  by_says (Some (command.Batch file write)) held reply s d = tt
-  by_says (Some command.Recover) held reply s d = tt
+  by_says (Some (command.Batch file write)) held reply s d = batch_so held file write reply s d
+  by_says (Some command.Recover) held reply s d = recovered_so held reply s d
+
+  -- ---- a write that failed
+
+  nothing_left : (done rest : List SourceFile) (f : SourceFile) → ◌≡◌ {A = List SourceFile} [] (done ++ f ∷ rest) → ⊥
+  nothing_left [] rest f e = cc
+  nothing_left (d ∷ done) rest f e = cc
+
+  -- a recovery that stopped
+  stopped_recovery : (held now : FileMap) (reply : Reply) → SaysRecovery held reply → reply.status ≡ Done → StoppedWriting reply.writes (Some held) (Some now)
+      → (found : FileSet) → Recovers held found → Recovers now found
+  stopped_recovery held now reply (idle shut e) d halt found r =
+      let none = subst (λ (x : Reply). StoppedWriting x.writes (Some held) (Some now)) e halt in
+      absurd (nothing_left none.0 none.2 none.1 none.4)
+  stopped_recovery held now reply (finished files o p e) d halt found r = stopped_again held now files found o p (subst (λ (x : Reply). StoppedWriting x.writes (Some held) (Some now)) e halt) r
+  stopped_recovery held now reply (lost l e) d halt found r = absurd (let no : Project ≡ Done = sym (ap (λ (x : Reply). x.status) e) ∙ d in cc)
+
+  stopped_renaming : (held now : FileMap) (target : Target) (new : List ℕ) (write safe json : Bool) → safe ≡ true → (IsOpen held → ⊥)
+      → (reply : Reply) → SaysTo (command.Rename target new write safe json) held reply → reply.status ≡ Done → StoppedWriting reply.writes (Some held) (Some now)
+      → Recovers now (project_in held) ⊎ Recovers now (project_in (after reply.writes held))
+  stopped_renaming held now target new write safe json s shut reply said d halt =
+      by_reply held target new write safe json (λ r. StoppedWriting r.writes (Some held) (Some now) → Recovers now (project_in held) ⊎ Recovers now (project_in (after r.writes held)))
+      (λ old done l may a r e halted. stopped_safely held target new write safe json old done l may a r e s shut now halted) reply said d halt
+
+  pub recoverable : (request : Option Command) (held now : FileMap) → TreeStopped request held (Some now) → IsRecoverable request held now
+  unfolding Says
+  recoverable None held now t = tt
+  recoverable (Some command.Check) held now t = tt
+  recoverable (Some (command.Shape target)) held now t = tt
+  recoverable (Some (command.Rename target new write safe json)) held now (inl e) = λ s shut. inl (subst (λ (m : FileMap). Recovers m (project_in held)) (sym (one_of e)) (closed shut)) where
+    one_of : Some now ≡ Some held → now ≡ held
+    one_of e = cc
+  recoverable (Some (command.Rename target new write safe json)) held now (inr (reply, said, (d, halt))) = λ s shut. by (stopped_renaming held now target new write safe json s shut reply said d halt) where
+    by : Recovers now (project_in held) ⊎ Recovers now (project_in (after reply.writes held)) → Recovers now (project_in held)
+        ⊎ SomeReply (Some (command.Rename target new write safe json)) held (λ r. (r.status ≡ Done) × Recovers now (project_in (after r.writes held)))
+    by (inl r) = inl r
+    by (inr r) = inr (reply, said, (d, r))
+  recoverable (Some (command.Sample units)) held now t = tt
+  recoverable (Some (command.Verify old new)) held now t = tt
+  recoverable (Some (command.Batch file write)) held now t = tt
+  recoverable (Some command.Recover) held now (inl e) = λ found r. subst (λ (m : FileMap). Recovers m found) (sym (one_of e)) r where
+    one_of : Some now ≡ Some held → now ≡ held
+    one_of e = cc
+  recoverable (Some command.Recover) held now (inr (reply, said, (d, halt))) = λ found r. stopped_recovery held now reply said d halt found r
 
   pub done_so : (request : Option Command) (held : FileMap) (P : Reply → Type 0) → SomeReply request held (λ reply. P reply × (reply.status ≡ Done))
       → SomeReply request held (λ reply. P reply × IsDoneSo request held reply)

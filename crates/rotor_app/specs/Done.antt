@@ -1,23 +1,31 @@
--- What holds of a renaming that is done: what it keeps, and that the words of its undo give the old files back.
-use Rattle.std.specs.Prelude.{◌≡◌, ℕ, List, [], ◌∷◌, ◌++◌, Bool, true, false, Option, Some, None, Ok, codes}
+-- What holds of a command that is done: what a renaming keeps, that the words of its undo give the old files back, and
+-- what a recovery leaves.
+use Rattle.std.specs.Prelude.{◌≡◌, ℕ, List, [], ◌∷◌, ◌++◌, ◌≢◌, ◌⊎◌, ◌||◌, Bool, true, false, Option, Some, None, Ok, codes}
+use Rattle.std.specs.FinMap.{get}
 use Rattle.rotor_base.specs.Files.{FileSet, names_of}
+use Rattle.rotor_base.specs.Lines.{feed_lines}
 use Rattle.rotor_base.specs.declared.report.Outcome.TheVariants as outcome
 use Rattle.rotor_base.specs.declared.report.Renamed.{Renamed}
 use Rattle.rotor_base.specs.declared.target.Target.{Target}
 use Rattle.tree_io.specs.Outside.{FileMap}
 use Rattle.project_load.specs.Load.{loaded}
 use Rattle.project_load.specs.Rewritten.{after}
+use Rattle.apply_journal.specs.Recovered.{plan_name, gate_name, IsOpen, project_in, Recovers}
 use Rattle.report.specs.Pieces.{place_text}
 use Rattle.report.specs.Lines.{undo_line}
 use Rattle.report.specs.Text.{ended}
 use Rattle.cli_words.specs.declared.command.Command.{Command}
 use Rattle.cli_words.specs.declared.command.Command.TheVariants as command
 use Rattle.rename_files.specs.Answer.{Renames}
+use Rattle.rename_batch.specs.declared.step.Step.{Step}
+use Rattle.rename_batch.specs.declared.step.Batched.{Batched}
+use Rattle.rename_batch.specs.Batch.{Batches, undo_steps}
+use Rattle.rename_batch.specs.Reading.{IsBatch}
 use Rattle.rename_laws.specs.Laws.{IsValidFor, KeepsFacts, KeepsRuns, IsLeastFor}
 use Rattle.rotor_app.specs.declared.status.Status.TheVariants.{Done}
 use Rattle.rotor_app.specs.declared.reply.Reply.{Reply}
 use Rattle.rotor_app.specs.Words.{command_in}
-use Rattle.rotor_app.specs.Said.{reply_by, SomeReply}
+use Rattle.rotor_app.specs.Said.{reply_by, batched_reply, batch_in, SomeReply}
 
 -- the words `rename PLACE NAME --write`
 abbrev pub rename_words : List ℕ → List ℕ → List (List ℕ)
@@ -35,6 +43,14 @@ EndsWithUndo names done reply = (front : List ℕ) × (reply.text ≡ front ++ e
 abbrev pub GivesBack : List (List ℕ) → FileMap → Reply → Type 0
 GivesBack words held reply = SomeReply (command_in words) (after reply.writes held) (λ back. (back.status ≡ Done) × (after back.writes (after reply.writes held) ≡ held))
 
+-- the folders hold the same, but for the plan and the gate
+abbrev pub AreSameButForPlan : FileMap → FileMap → Type 0
+AreSameButForPlan one other = (name : List ℕ) → name ≢ plan_name → name ≢ gate_name → get one name ≡ get other name
+
+-- the words over the new files are done, and give every old file back
+abbrev pub GivesFilesBack : List (List ℕ) → FileMap → Reply → Type 0
+GivesFilesBack words held reply = SomeReply (command_in words) (after reply.writes held) (λ back. (back.status ≡ Done) × AreSameButForPlan held (after back.writes (after reply.writes held)))
+
 -- a renaming of the files that a folder loads as is done, and the reply is that of its outcome
 pub record IsDone (held : FileMap) (target : Target) (new : List ℕ) (write safe json : Bool) (reply : Reply) : Type 0 where
   pub old : FileSet
@@ -42,13 +58,29 @@ pub record IsDone (held : FileMap) (target : Target) (new : List ℕ) (write saf
   pub loads : loaded held ≡ Ok old
   pub renames : Renames old target new (Ok done)
   pub replied : reply ≡ reply_by (command.Rename target new write safe json) (names_of old.entries) (outcome.Done done)
-  pub written : write ≡ true → loaded (after reply.writes held) ≡ Ok done.files
+  pub written : (write || safe) ≡ true → loaded (after reply.writes held) ≡ Ok done.files
   pub valid : IsValidFor old done
   pub facts : KeepsFacts old done.files
   pub runs : KeepsRuns old done.files
   pub least : IsLeastFor old done.foot.decls
   pub line : json ≡ false → EndsWithUndo (names_of old.entries) done reply
-  pub back : write ≡ true → GivesBack (undo_of (names_of old.entries) done) held reply
+  pub back : write ≡ true → safe ≡ false → GivesBack (undo_of (names_of old.entries) done) held reply
+  pub safe_back : safe ≡ true → GivesFilesBack (undo_of (names_of old.entries) done) held reply
+
+-- a batch over the files that a folder loads as is done, and the reply is its
+pub record IsBatchDone (held : FileMap) (file : List ℕ) (write : Bool) (reply : Reply) : Type 0 where
+  pub old : FileSet
+  pub bytes : List ℕ
+  pub steps : List Step
+  pub done : Batched
+  pub loads : loaded held ≡ Ok old
+  pub found : batch_in held file ≡ Some bytes
+  pub reads : IsBatch (feed_lines bytes) steps
+  pub batches : Batches old steps (Ok done)
+  pub replied : reply ≡ batched_reply (command.Batch file write) (names_of old.entries) done
+  pub written : write ≡ true → loaded (after reply.writes held) ≡ Ok done.files
+  pub undone : (back : Batched) × Batches done.files (undo_steps (names_of done.files.entries) done.undo) (Ok back) × (back.files ≡ old)
+  pub runs : steps ≢ [] → KeepsRuns old done.files
 
 -- of a reply that is done to what the words ask for
 abbrev pub IsDoneSo : Option Command → FileMap → Reply → Type 0
@@ -58,5 +90,19 @@ IsDoneSo (Some (command.Shape target)) held reply = Unit {0}
 IsDoneSo (Some (command.Rename target name write safe json)) held reply = IsDone held target name write safe json reply
 IsDoneSo (Some (command.Sample units)) held reply = Unit {0}
 IsDoneSo (Some (command.Verify old new)) held reply = Unit {0}
-IsDoneSo (Some (command.Batch file write)) held reply = Unit {0}
-IsDoneSo (Some command.Recover) held reply = Unit {0}
+IsDoneSo (Some (command.Batch file write)) held reply = IsBatchDone held file write reply
+IsDoneSo (Some command.Recover) held reply = Recovers held (project_in (after reply.writes held))
+
+-- What is recovered of the folder that a command left when a write failed: after `--safe` the old project or the new one,
+-- whole, if the gate was not open; and after `recover` what would have been recovered before.
+abbrev pub IsRecoverable : Option Command → FileMap → FileMap → Type 0
+IsRecoverable None held now = Unit {0}
+IsRecoverable (Some command.Check) held now = Unit {0}
+IsRecoverable (Some (command.Shape target)) held now = Unit {0}
+IsRecoverable (Some (command.Rename target name write safe json)) held now =
+    safe ≡ true → (IsOpen held → ⊥) → Recovers now (project_in held)
+    ⊎ SomeReply (Some (command.Rename target name write safe json)) held (λ reply. (reply.status ≡ Done) × Recovers now (project_in (after reply.writes held)))
+IsRecoverable (Some (command.Sample units)) held now = Unit {0}
+IsRecoverable (Some (command.Verify old new)) held now = Unit {0}
+IsRecoverable (Some (command.Batch file write)) held now = Unit {0}
+IsRecoverable (Some command.Recover) held now = (found : FileSet) → Recovers held found → Recovers now found

@@ -1,7 +1,5 @@
 -- What a call of the program leaves: the table of its answers.
-use Rattle.std.specs.Prelude.{◌≡◌, ◌⊎◌, ℕ, ◌<◌, ◌≤◌, List, ◌∷◌, ◌++◌, length, Option, Some, None, option_map}
-use Rattle.std.specs.FinMap.{insert}
-use Rattle.rotor_base.specs.declared.source.SourceFile.{SourceFile}
+use Rattle.std.specs.Prelude.{◌≡◌, ◌⊎◌, ℕ, ◌<◌, ◌≤◌, List, length, Option, Some, None}
 use Rattle.tree_io.specs.Outside.{FileMap, Rose, Takes, TakesPrefix}
 use Rattle.cli_words.specs.declared.command.Command.{Command}
 use Rattle.rotor_app.specs.declared.status.Status.{Status}

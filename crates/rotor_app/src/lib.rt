@@ -1,6 +1,7 @@
 //! The program of ROTOR over any folder and any output.
 #![tactic(auto)]
 
+mod batch;
 mod outcome;
 mod reply;
 mod status;

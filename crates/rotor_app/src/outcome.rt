@@ -1,24 +1,27 @@
 //! The outcome of a command over the files of a project, and the reply to it.
-ghost use Rattle.std.specs.Prelude.{◌≡◌, ◌≢◌, ◌++◌, [], true, Some, IfOk, OnOk, map, slice_get, string_bytes};
+ghost use Rattle.std.specs.Prelude.{◌≡◌, ◌≢◌, ◌++◌, [], true, None, Some, IfOk, OnOk, map, slice_get, string_bytes};
 ghost use Rattle.std.specs.List.{cons_option};
 ghost use Rattle.rotor_base.specs.Files.{names_of};
-ghost use Rattle.rotor_app.specs.Words.{asks_folder, sampled_units};
-ghost use Rattle.rotor_app.specs.Said.{Answers, IsSampled, SaysSample, reply_by, writes_of, outcome_text, usage_reply};
+ghost use Rattle.rename_laws.specs.Laws.{ListsChanges};
+ghost use Rattle.rotor_app.specs.Words.{asks_folder, batch_file, sampled_units};
+ghost use Rattle.rotor_app.specs.Said.{Answers, IsSampled, ListsDone, SaysSample, reply_by, writes_by, writes_of, outcome_text, usage_reply};
 ghost use Rattle.project_load.specs.Rewritten.{files_at};
 
 use crate::reply::Reply;
 use crate::status::{Status, status_of};
-use crate::words::{is_writing, puts_json};
+use crate::words::{is_safe, is_writing, puts_json};
+use apply_journal::{make_plan, safe_writes};
 use cli_words::Command;
 use rename_files::{check, foot, rename};
 use report::{json, text};
-use rotor_base::{Files, Memory, Outcome, Refusal, Row, SourceFile, Text};
+use rotor_base::{Files, Memory, Outcome, Refusal, Renamed, Row, SourceFile, Text};
 use sample_project::sample;
 use std::alloc::Global;
 
 /// The outcome of a command over the files of a project.
 pub fn outcome_of(alloc: Global, command: &Command, files: &Files) -> Result<Outcome, Memory>
-    requires { asks_folder command.now ≡ true }
+    requires asks { asks_folder command.now ≡ true }
+    requires single { batch_file command.now ≡ None }
     ensures { IfOk result (λ o. Answers command.now files.now o) }
 {
     match command {
@@ -72,11 +75,11 @@ fn refused(refusal: Refusal) -> Result<Outcome, Memory>
 }
 
 /// The names of the sources, which places number.
-pub fn source_names(alloc: Global, files: &Files) -> Result<Vec<String>, Memory>
-    ensures { IfOk result (λ names. map string_bytes names.items ≡ names_of files.now.entries) }
+pub fn source_names(alloc: Global, files: &[SourceFile]) -> Result<Vec<String>, Memory>
+    ensures { IfOk result (λ names. map string_bytes names.items ≡ names_of files.now) }
 {
     let mut names = Vec::new(alloc);
-    for file in files.entries() {
+    for file in files {
         names.push(String::from_str(alloc, file.name.as_str())?)?;
     }
     Ok(names)
@@ -89,10 +92,11 @@ pub fn reply_by(
     names: &[String],
     outcome: &Outcome,
 ) -> Result<Reply, Memory>
+    requires { ListsDone outcome.now }
     ensures { IfOk result (λ reply. reply ≡ reply_by command.now (map string_bytes names.now) outcome.now) }
 {
     let text = outcome_text(alloc, puts_json(command), names, outcome)?;
-    let writes = writes_of(alloc, is_writing(command), outcome)?;
+    let writes = writes_of(alloc, command, outcome)?;
     Ok(Reply {
         status: status_of(outcome),
         writes,
@@ -128,15 +132,13 @@ fn outcome_text(
     }
 }
 
-/// The files that are written.
-fn writes_of(alloc: Global, write: bool, outcome: &Outcome) -> Result<Row<SourceFile>, Memory>
-    ensures { IfOk result (λ writes. writes ≡ writes_of write outcome.now) }
+/// The writes of an outcome.
+fn writes_of(alloc: Global, command: &Command, outcome: &Outcome) -> Result<Row<SourceFile>, Memory>
+    requires { ListsDone outcome.now }
+    ensures { IfOk result (λ writes. writes ≡ writes_of command.now outcome.now) }
 {
-    if !write {
-        return Ok(Row::new(alloc));
-    }
     match outcome {
-        Outcome::Done(done) => files_at(alloc, done.files.entries(), done.changed.as_slice()),
+        Outcome::Done(done) => writes_by(alloc, command, done),
         Outcome::Checked(_)
         | Outcome::Shown(_)
         | Outcome::Sampled(_)
@@ -146,9 +148,28 @@ fn writes_of(alloc: Global, write: bool, outcome: &Outcome) -> Result<Row<Source
     }
 }
 
+/// The writes of a command whose renaming is done: with `--safe` those of a plan, with `--write` the changed files.
+fn writes_by(alloc: Global, command: &Command, done: &Renamed) -> Result<Row<SourceFile>, Memory>
+    requires { ListsChanges done.now }
+    ensures { IfOk result (λ writes. writes ≡ writes_by command.now (files_at done.now.files.entries done.now.changed)) }
+{
+    if is_safe(command) {
+        let plan = make_plan(alloc, &done.files, done.changed.as_slice())?;
+        return Ok(Row::from_vec(safe_writes(alloc, plan)?));
+    }
+    if !is_writing(command) {
+        return Ok(Row::new(alloc));
+    }
+    files_at(alloc, done.files.entries(), done.changed.as_slice())
+}
+
 /// The files of these numbers.
 #[tactic(auto, using(crate::proofs::Saying::pushed))]
-fn files_at(alloc: Global, files: &[SourceFile], numbers: &[u32]) -> Result<Row<SourceFile>, Memory>
+pub fn files_at(
+    alloc: Global,
+    files: &[SourceFile],
+    numbers: &[u32],
+) -> Result<Row<SourceFile>, Memory>
     ensures { IfOk result (λ found. found ≡ files_at files.now numbers.now) }
 {
     let mut found = Row::new(alloc);

@@ -4,7 +4,7 @@ ghost use Rattle.std.specs.Option.{ForSome};
 ghost use Rattle.tree_io.specs.Outside.{HasFault, StaysSteady, Rose};
 ghost use Rattle.rotor_app.specs.Words.{command_in};
 ghost use Rattle.rotor_app.specs.Said.{AsksNothing, SomeReply};
-ghost use Rattle.rotor_app.specs.Done.{IsDoneSo};
+ghost use Rattle.rotor_app.specs.Done.{IsDoneSo, IsRecoverable};
 ghost use Rattle.rotor_app.specs.Table.{Ending, seen, IsComplete, Carried, Put, IsQuiet, IsAsSaid, IsFault, TreeStopped, SinkStopped, IsRefusal, AnsweredAlone, CutAlone};
 ghost use Rattle.tree_writes.specs.Writes.{HasRoom};
 
@@ -12,9 +12,10 @@ use crate::reply::{Reply, decide};
 use crate::status::Status;
 use cli_words::undos_are_read;
 use project_load::{loaded_files_are_a_project, new_sources_are_loaded, old_sources_come_back};
+use rename_batch::{batches_are_undone, batches_keep_runs, batches_rewrite};
 use rename_laws::{
-    footprints_are_least, renamings_are_undone, renamings_are_valid, renamings_keep_facts,
-    renamings_keep_runs, renamings_rewrite, undos_have_places,
+    changes_are_listed, footprints_are_least, renamings_are_undone, renamings_are_valid,
+    renamings_keep_facts, renamings_keep_runs, renamings_rewrite, undos_have_places,
 };
 use std::alloc::Global;
 use tree_io::{Sink, Tree, TreeError};
@@ -22,9 +23,10 @@ use tree_writes::write_all;
 
 /// Does what the words ask for, over a folder and an output, and says how it ended.
 ///
-/// The words are `check`, `footprint TARGET`, `sample N`, or `rename TARGET NAME` with `--write`, `--json`, both or none.
-/// `rename --write` writes the changed sources and puts the report; or it leaves the folder as it is, and puts the
-/// refusal. The call takes all memory, the folder's room too, before the first write and the put.
+/// The words are `check`, `footprint TARGET`, `sample N`, `recover`, or `rename TARGET NAME` with `--write` or `--safe`,
+/// with `--json`, both or none. `rename --write` writes the changed sources and puts the report; or it leaves the folder
+/// as it is, and puts the refusal. `rename --safe` first writes a plan, from which `recover` finishes the writes after a
+/// stop. The call takes all memory, the folder's room too, before the first write and the put.
 pub fn rotor<T: Tree, S: Sink>(alloc: Global, words: &[String], tree: &mut T, out: &mut S) -> Status
     // Where no count of faults rose and there was memory: there is a reply that is said, and status, files and text are its.
     ensures answer { ForSome (T.content tree.old) (λ files.
@@ -57,12 +59,16 @@ pub fn rotor<T: Tree, S: Sink>(alloc: Global, words: &[String], tree: &mut T, ou
         (seen (T.faults tree.old) (S.faults out.old) (T.content tree.old) (S.taken out.old))
         (seen (T.faults tree.new) (S.faults out.new) (T.content tree.new) (S.taken out.new)))) }
 
+    // If a write of `--safe` fails, the old project or the new one is recovered, whole. If a write of `recover` fails, a
+    // later one recovers the same.
+    ensures recoverable { (result ≡ Status.TreeFault) → ForSome (T.content tree.old) (λ held. ForSome (T.content tree.new) (IsRecoverable (command_in (map string_bytes words.now)) held)) }
+
     // Refusals and want of memory leave the folder; a folder that failed and want of memory put nothing.
     ensures unchanged { IsRefusal result → T.content tree.new ≡ T.content tree.old }
     ensures quiet { (result ≡ Status.TreeFault) ⊎ (result ≡ Status.Memory) → out.new ≡ out.old }
 
     // A renaming that is done is valid, keeps facts and runs, and changes a least footprint. The files and the text are
-    // those of its reply, and the words of its undo give the old files back.
+    // those of its reply, and the words of its undo give the old files back. A recovery that is done leaves what is recovered.
     ensures renamed { (result ≡ Status.Done) → ForSome (T.content tree.old) (λ files. SomeReply (command_in (map string_bytes words.now)) files (λ reply.
         IsAsSaid reply files
         (seen (T.faults tree.old) (S.faults out.old) (T.content tree.old) (S.taken out.old))
@@ -84,6 +90,10 @@ pub fn rotor<T: Tree, S: Sink>(alloc: Global, words: &[String], tree: &mut T, ou
     renamings_keep_facts();
     renamings_keep_runs();
     footprints_are_least();
+    changes_are_listed();
+    batches_rewrite();
+    batches_are_undone();
+    batches_keep_runs();
     conclude(alloc, words, tree, out)
 }
 

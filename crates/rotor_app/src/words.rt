@@ -1,6 +1,7 @@
 //! What the words of the command line ask for.
 ghost use Rattle.std.specs.Prelude.{◌≡◌, IfOk, map, string_bytes};
-ghost use Rattle.rotor_app.specs.Words.{command_in, is_ready, is_writing, puts_json, sampled_units};
+ghost use Rattle.std.specs.Option.{option_map};
+ghost use Rattle.rotor_app.specs.Words.{asks_gate, batch_file, command_in, is_ready, is_recovery, is_safe, is_writing, puts_json, sampled_units};
 
 use cli_words::{Command, WordsError, read_words};
 use rotor_base::Memory;
@@ -22,9 +23,13 @@ fn is_ready(command: &Command) -> bool
     ensures { result ≡ is_ready command.now }
 {
     match command {
-        Command::Check | Command::Shape(_) | Command::Sample(_) => true,
-        Command::Rename { safe, .. } => !*safe,
-        Command::Verify { .. } | Command::Batch { .. } | Command::Recover => false,
+        Command::Check
+        | Command::Shape(_)
+        | Command::Rename { .. }
+        | Command::Sample(_)
+        | Command::Batch { .. }
+        | Command::Recover => true,
+        Command::Verify { .. } => false,
     }
 }
 
@@ -63,12 +68,63 @@ pub fn is_writing(command: &Command) -> bool
     ensures { result ≡ is_writing command.now }
 {
     match command {
-        Command::Rename { write, .. } => *write,
+        Command::Rename { write, .. } | Command::Batch { write, .. } => *write,
+        Command::Check
+        | Command::Shape(_)
+        | Command::Sample(_)
+        | Command::Verify { .. }
+        | Command::Recover => false,
+    }
+}
+
+/// Whether the command writes by a plan and a gate.
+pub fn is_safe(command: &Command) -> bool
+    ensures { result ≡ is_safe command.now }
+{
+    match command {
+        Command::Rename { safe, .. } => *safe,
         Command::Check
         | Command::Shape(_)
         | Command::Sample(_)
         | Command::Verify { .. }
         | Command::Batch { .. }
         | Command::Recover => false,
+    }
+}
+
+/// Whether the command writes, so that it asks first whether the gate is open.
+pub fn asks_gate(command: &Command) -> bool
+    ensures { result ≡ asks_gate command.now }
+{
+    is_writing(command) || is_safe(command)
+}
+
+/// Whether the command finishes the writes of another one.
+pub fn is_recovery(command: &Command) -> bool
+    ensures { result ≡ is_recovery command.now }
+{
+    match command {
+        Command::Recover => true,
+        Command::Check
+        | Command::Shape(_)
+        | Command::Rename { .. }
+        | Command::Sample(_)
+        | Command::Verify { .. }
+        | Command::Batch { .. } => false,
+    }
+}
+
+/// The file of a batch.
+pub fn batch_file(command: &Command) -> Option<&str>
+    ensures { option_map (λ file. file.now) result ≡ batch_file command.now }
+{
+    match command {
+        Command::Batch { file, .. } => Some(file.as_str()),
+        Command::Check
+        | Command::Shape(_)
+        | Command::Rename { .. }
+        | Command::Sample(_)
+        | Command::Verify { .. }
+        | Command::Recover => None,
     }
 }

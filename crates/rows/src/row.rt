@@ -100,7 +100,8 @@ impl Row {
         })
     }
 
-    /// Runs the row, and returns the status, what was put, and each file that changed.
+    /// Runs the row, and returns the status, what was put, each file that changed, and the plan and the gate if the row
+    /// makes them.
     pub fn run(&self, alloc: Global) -> Result<String, Memory> {
         let files = sources(alloc, &self.files)?;
         if !have_distinct_names(&files) {
@@ -114,15 +115,29 @@ impl Row {
         for file in &self.files {
             let bytes = tree.get(file.name.as_str()).unwrap_or_default();
             if bytes != file.text.as_bytes() {
-                ended.push_str("file ")?;
-                ended.push_str(file.name.as_str())?;
-                ended.push_str("\n>")?;
-                ended.push_str(text_of(bytes))?;
-                ended.push_str("\n")?;
+                push_file(&mut ended, file.name.as_str(), bytes)?;
+            }
+        }
+        for name in ["rotor.plan", "rotor.gate"] {
+            let bytes = tree.get(name).unwrap_or_default();
+            if !bytes.is_empty() && !self.has_file(name) {
+                push_file(&mut ended, name, bytes)?;
             }
         }
         Ok(ended)
     }
+
+    fn has_file(&self, name: &str) -> bool {
+        self.files.iter().any(|file| file.name.as_str() == name)
+    }
+}
+
+fn push_file(ended: &mut String, name: &str, bytes: &[u8]) -> Result<(), AllocError> {
+    ended.push_str("file ")?;
+    ended.push_str(name)?;
+    ended.push_str("\n>")?;
+    ended.push_str(text_of(bytes))?;
+    ended.push_str("\n")
 }
 
 fn number(value: &str) -> u32 {

@@ -4,4 +4,4 @@ use Rattle.rotor_app.proofs.outcome.source_names.Given as goal
 
 -- with the files that are left, the names are those of all of them
 abbrev pub invariant-loop-file : goal.invariant-loop-file
-invariant-loop-file l = map string_bytes l.names.items ++ names_of (drop l.file-index l.file-items) ≡ names_of l.file-items
+invariant-loop-file l = map string_bytes l.names.items ++ names_of (drop l.file-index l.files) ≡ names_of l.files

@@ -1,6 +1,6 @@
 use Rattle.std.proofs.Common.{◌∙◌, sym, map, string_bytes}
 use Rattle.rotor_app.specs.Words.{command_in}
-use Rattle.rotor_app.proofs.Saying.{ready, usage_said, usage_alone, command_said, sample_said, sample_alone, asks_no_sample}
+use Rattle.rotor_app.proofs.Saying.{ready, usage_said, usage_alone, command_said, sample_said, sample_alone}
 use Rattle.rotor_app.proofs.reply.decide.Goals as goal
 
 -- words of no form
@@ -29,14 +29,10 @@ returns-in-Some-sampled_units-clause-said_alone g c = λ asks.
 
 -- a command over the folder's files
 
-pub decide_command-requires : goal.decide_command-requires
-decide_command-requires g c =
-    asks_no_sample c.in-Some.command (ready (map string_bytes c.args.words.now) c.in-Some.command (sym c.in_ok-command_in.ensures ∙ c.in-Some.is))
-    (sym c.sampled_units.ensures ∙ c.in-None-sampled_units.is)
+pub folder_reply-requires-clause-ready : goal.folder_reply-requires-clause-ready
+folder_reply-requires-clause-ready g c = ready (map string_bytes c.args.words.now) c.in-Some.command (sym c.in_ok-command_in.ensures ∙ c.in-Some.is)
 
 pub returns-clause-said : goal.returns-clause-said
 returns-clause-said g c =
-    let request = sym c.in_ok-command_in.ensures ∙ c.in-Some.is in
-    command_said (command_in (map string_bytes c.args.words.now)) c.in-Some.command (g.T.Tree.content c.args.tree.now) c.decide_command.result request
-    (asks_no_sample c.in-Some.command (ready (map string_bytes c.args.words.now) c.in-Some.command request) (sym c.sampled_units.ensures ∙ c.in-None-sampled_units.is))
-    c.decide_command.ensures.said
+    command_said (command_in (map string_bytes c.args.words.now)) c.in-Some.command (g.T.Tree.content c.args.tree.now) c.folder_reply.result
+    (sym c.in_ok-command_in.ensures ∙ c.in-Some.is) c.folder_reply.ensures.said

@@ -1,13 +1,13 @@
-use Rattle.rotor_app.proofs.Saying.{over_kind, said_over, refused_answer}
+use Rattle.rotor_app.proofs.Saying.{loads_by, said_before, refused_answer}
 use Rattle.rotor_app.proofs.reply.loaded_reply.Goals as goal
 
-pub returns-in_ok-reply_over-in-Ok-clause-kind : goal.returns-in_ok-reply_over-in-Ok-clause-kind
-returns-in_ok-reply_over-in-Ok-clause-kind g c = over_kind c.args.command.now c.in-Ok.files c.in_ok-reply_over-in-Ok.field-0 c.in_ok-reply_over-in-Ok.ensures
+pub permitted_reply-requires-clause-loads : goal.permitted_reply-requires-clause-loads
+permitted_reply-requires-clause-loads g c =
+    loads_by (g.T.Tree.content c.args.tree.now) (g.T.Tree.content c.load.new.tree) c.load.result c.in-Ok.files c.load.ensures.content c.in-Ok.is c.load.ensures.answer
 
-pub returns-in_ok-reply_over-in-Ok-clause-said : goal.returns-in_ok-reply_over-in-Ok-clause-said
-returns-in_ok-reply_over-in-Ok-clause-said g c =
-    said_over (g.T.Tree.content c.args.tree.now) c.load.result c.in-Ok.files c.args.command.now c.in_ok-reply_over-in-Ok.field-0 c.in-Ok.is c.load.ensures.answer
-    c.in_ok-reply_over-in-Ok.ensures
+pub returns-in-Ok-clause-said : goal.returns-in-Ok-clause-said
+returns-in-Ok-clause-said g c =
+    said_before (g.T.Tree.content c.args.tree.now) (g.T.Tree.content c.load.new.tree) c.args.command.now c.permitted_reply.result c.load.ensures.content c.permitted_reply.ensures.said
 
 pub returns-in-Err-clause-said : goal.returns-in-Err-clause-said
 returns-in-Err-clause-said g c =

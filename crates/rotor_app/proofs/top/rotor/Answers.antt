@@ -1,9 +1,10 @@
-use Rattle.std.proofs.Common.{◌≡◌, map, string_bytes}
+use Rattle.std.proofs.Common.{◌≡◌, map, string_bytes, Option, subst}
+use Rattle.tree_io.specs.Outside.{FileMap}
 use Rattle.rotor_app.specs.Words.{command_in}
-use Rattle.rotor_app.specs.Table.{seen, IsAsSaid}
+use Rattle.rotor_app.specs.Table.{seen, IsAsSaid, TreeStopped}
 use Rattle.rotor_app.proofs.Endings.{answers, usage_only, alone_same, alone_said, alone_cut, tree_fault, sink_fault, tree_stopped, sink_stopped, unchanged, quiet_sink, done_said}
 use Rattle.rotor_app.proofs.Concluded.{alone_writes}
-use Rattle.rotor_app.proofs.Undoing.{HasLaws, done_so}
+use Rattle.rotor_app.proofs.Undoing.{HasLaws, done_so, recoverable}
 use Rattle.rotor_app.proofs.top.rotor.Goals as goal
 
 pub returns-clause-answer : goal.returns-clause-answer
@@ -97,6 +98,10 @@ returns-clause-renamed g c = λ done files held.
       facts = c.renamings_keep_facts.ensures;
       runs = c.renamings_keep_runs.ensures;
       least = c.footprints_are_least.ensures;
+      changes = c.changes_are_listed.ensures;
+      batch_sources = c.batches_rewrite.ensures;
+      batch_undone = c.batches_are_undone.ensures;
+      batch_runs = c.batches_keep_runs.ensures;
     } in
     done_so laws (command_in (map string_bytes c.args.words.now)) files (λ reply. IsAsSaid reply files
     (seen (g.T.Tree.faults c.args.tree.now) (g.S.Sink.faults c.args.out.now) (g.T.Tree.content c.args.tree.now) (g.S.Sink.taken c.args.out.now))
@@ -105,3 +110,29 @@ returns-clause-renamed g c = λ done files held.
     (seen (g.T.Tree.faults c.args.tree.now) (g.S.Sink.faults c.args.out.now) (g.T.Tree.content c.args.tree.now) (g.S.Sink.taken c.args.out.now))
     (seen (g.T.Tree.faults c.conclude.new.tree) (g.S.Sink.faults c.conclude.new.out) (g.T.Tree.content c.conclude.new.tree) (g.S.Sink.taken c.conclude.new.out))
     (c.conclude.new.tree ≡ c.args.tree.now) (c.conclude.new.out ≡ c.args.out.now) c.conclude.result c.conclude.ensures.ending done files held)
+
+pub returns-clause-recoverable : goal.returns-clause-recoverable
+returns-clause-recoverable g c = λ fault held before now left.
+    let laws : HasLaws = record {
+      project = c.loaded_files_are_a_project.ensures;
+      loaded_new = c.new_sources_are_loaded.ensures;
+      old_back = c.old_sources_come_back.ensures;
+      undos = c.undos_are_read.ensures;
+      rewrite = c.renamings_rewrite.ensures;
+      undone = c.renamings_are_undone.ensures;
+      places = c.undos_have_places.ensures;
+      valid = c.renamings_are_valid.ensures;
+      facts = c.renamings_keep_facts.ensures;
+      runs = c.renamings_keep_runs.ensures;
+      least = c.footprints_are_least.ensures;
+      changes = c.changes_are_listed.ensures;
+      batch_sources = c.batches_rewrite.ensures;
+      batch_undone = c.batches_are_undone.ensures;
+      batch_runs = c.batches_keep_runs.ensures;
+    } in
+    recoverable laws (command_in (map string_bytes c.args.words.now)) held now (
+    subst (λ (o : Option FileMap). TreeStopped (command_in (map string_bytes c.args.words.now)) held o) left (
+    tree_stopped (command_in (map string_bytes c.args.words.now))
+    (seen (g.T.Tree.faults c.args.tree.now) (g.S.Sink.faults c.args.out.now) (g.T.Tree.content c.args.tree.now) (g.S.Sink.taken c.args.out.now))
+    (seen (g.T.Tree.faults c.conclude.new.tree) (g.S.Sink.faults c.conclude.new.out) (g.T.Tree.content c.conclude.new.tree) (g.S.Sink.taken c.conclude.new.out))
+    (c.conclude.new.tree ≡ c.args.tree.now) (c.conclude.new.out ≡ c.args.out.now) c.conclude.result c.conclude.ensures.ending fault held before))

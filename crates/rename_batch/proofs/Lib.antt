@@ -1,0 +1,10 @@
+mod Words
+mod Readings
+mod Runs
+mod Results
+mod Backwards
+mod Texts
+mod Changed
+mod OneReading
+mod Rewritten
+mod Printed

@@ -1,0 +1,4 @@
+pub mod Reading
+pub mod Batch
+pub mod Text
+pub mod Laws
