@@ -77,7 +77,15 @@ module _ (old new : FileSet) (us : List UnitTree) (p : IsProject old) (reads : R
 
     module _ (none : IsLeastHeld us (changes lists (binders_of us)) None) where
       respelling : AreRespelling old new us lists
-      respelling = record { project = p; reads = reads; cut = cut; names = names; manifest = manifest; bytes = bytes; free = all_free us sound lists none }
+      respelling = record {
+        project = p;
+        reads = reads;
+        cut = cut;
+        names = names;
+        manifest = manifest;
+        bytes = bytes;
+        free = all_free us sound lists none;
+      }
 
       none_is_fixed : IsMet (IsFixedAt us r) → ⊥
       none_is_fixed = no_fixed us r old new (all_free us sound lists none)

@@ -60,7 +60,7 @@ pub record AreValidlyRespelled (old new : FileSet) (list : List Changed) : Type 
   pub respelled : AreRespelledBy old new project renaming
   pub listed : (d : Place) (y : Name) → Changes project renaming d y ↔ IsListedChange list d y
 
--- Law: yes comes only for a valid respelling, by the renaming whose changes are reported
+-- Law: the verdict is yes only for a valid respelling, and the changes that it reports are those of the renaming
 abbrev pub YesIsValid : Type 0
 YesIsValid = (old new : FileSet) (list : Vec Changed) → IsProject old → IsProject new → Verdicts old new (Ok (Yes list))
     → AreValidlyRespelled old new list.items

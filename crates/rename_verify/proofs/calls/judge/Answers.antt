@@ -86,7 +86,8 @@ returns-in-Some-clause-verdict c =
     subst (λ (l : List SourceFile). FilesPartAt sources (map source_bytes l) spot.file spot.offset) c.entries-2.ensures.entries
     (subst (λ (l : List (Vec ℕ)). FilesPartAt (map bytes_of l)
     (map source_bytes c.entries-2.result.now) spot.file spot.offset) c.deref-4.ensures.value c.in-Some.ensures) in
-    bytes_part old new us c.requires.project c.requires.reads c.requires.light c.requires.names c.requires.manifest lists cut sources made spot.file spot.offset here
+    bytes_part old new us c.requires.project c.requires.reads c.requires.light c.requires.names c.requires.manifest lists cut sources made spot.file
+    spot.offset here
 
 pub least_fixed-requires-clause-sound : goal.least_fixed-requires-clause-sound
 least_fixed-requires-clause-sound c = read_is_sound c.args.old.now (view_project c.args.read.now.project) c.requires.project c.requires.reads
@@ -191,7 +192,8 @@ broken-requires-clause-same c =
     let held : IsLeastHeld us (changes lists (binders_of us)) c.in_ok-at.field-0 = subst
     (λ (l : List Changed). IsLeastHeld us l c.in_ok-at.field-0) list c.in_ok-at.ensures in
     let none : IsLeastHeld us (changes lists (binders_of us)) None = subst (IsLeastHeld us (changes lists (binders_of us))) c.in_default-2.is held in
-    has_shape old new us c.requires.project c.requires.reads c.requires.light c.requires.names c.requires.manifest lists cut sources made same none c.args.facts.now c.requires.facts
+    has_shape old new us c.requires.project c.requires.reads c.requires.light c.requires.names c.requires.manifest lists cut sources made same none
+    c.args.facts.now c.requires.facts
 
 pub returns-in-Some-3-clause-verdict : goal.returns-in-Some-3-clause-verdict
 returns-in-Some-3-clause-verdict c =
@@ -221,7 +223,8 @@ returns-in-Some-3-clause-verdict c =
     (λ (l : List Changed). IsLeastHeld us l c.in_ok-at.field-0) list c.in_ok-at.ensures in
     let none : IsLeastHeld us (changes lists (binders_of us)) None = subst (IsLeastHeld us (changes lists (binders_of us))) c.in_default-2.is held in
     let fault = c.in-Some-3.fault in
-    is_broken old new us c.requires.project c.requires.reads c.requires.light c.requires.names c.requires.manifest lists cut sources made same none c.args.facts.now c.requires.facts fault (subst (HasFirstFault new c.args.facts.now) c.in-Some-3.is c.in_ok-fault.ensures.fault)
+    is_broken old new us c.requires.project c.requires.reads c.requires.light c.requires.names c.requires.manifest lists cut sources made same none
+    c.args.facts.now c.requires.facts fault (subst (HasFirstFault new c.args.facts.now) c.in-Some-3.is c.in_ok-fault.ensures.fault)
 
 pub returns-clause-verdict : goal.returns-clause-verdict
 returns-clause-verdict c =
@@ -251,6 +254,7 @@ returns-clause-verdict c =
     (λ (l : List Changed). IsLeastHeld us l c.in_ok-at.field-0) list c.in_ok-at.ensures in
     let none : IsLeastHeld us (changes lists (binders_of us)) None = subst (IsLeastHeld us (changes lists (binders_of us))) c.in_default-2.is held in
     let listed : c.in_ok-changes.changes.items ≡ changes lists (binders_of us) = sym c.deref-7.ensures.value ∙ list in (
-      no_reason_is old new us c.requires.project c.requires.reads c.requires.light c.requires.names c.requires.manifest lists cut sources made same none c.args.facts.now c.requires.facts (subst (HasFirstFault new c.args.facts.now) c.in-None.is c.in_ok-fault.ensures.fault),
+      no_reason_is old new us c.requires.project c.requires.reads c.requires.light c.requires.names c.requires.manifest lists cut sources made same
+          none c.args.facts.now c.requires.facts (subst (HasFirstFault new c.args.facts.now) c.in-None.is c.in_ok-fault.ensures.fault),
       (lists, cut, listed),
     )

@@ -18,7 +18,8 @@ one_more words i d start old new h n o =
 
 pub loop-word-preserved : goal.loop-word-preserved
 loop-word-preserved c =
-    one_more c.args.words.now c.loop-word.word-index _ c.args.bytes.now.items c.loop-word.bytes.items c.extend_from_slice.new.self.items c.loop-word-test.true
+    one_more c.args.words.now c.loop-word.word-index _ c.args.bytes.now.items c.loop-word.bytes.items c.extend_from_slice.new.self.items
+    c.loop-word-test.true
     c.in_ok-extend_from_slice.ensures.items c.loop-word.invariant
 
 pub returns : goal.returns
