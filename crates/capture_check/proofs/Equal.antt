@@ -35,20 +35,20 @@ use Rattle.capture_check.proofs.Least.{KeepsPlace, keeps_ref, keeps_link, IsBest
 
 -- ---- goals are equal or not
 
-both : (a b : Bool) → (a && b) ≡ true → (a ≡ true) × (b ≡ true)
+pub both : (a b : Bool) → (a && b) ≡ true → (a ≡ true) × (b ≡ true)
 both true b h = (refl, h)
 both false b h = absurd cc
 
 equal_of : (m n : ℕ) → (m == n) ≡ true → m ≡ n
 equal_of m n h = grind (arith, nat_tests)
 
-behind_equal : (b c : Option Place) → same_behind b c ≡ true → b ≡ c
+pub behind_equal : (b c : Option Place) → same_behind b c ≡ true → b ≡ c
 behind_equal None None h = refl
 behind_equal None (Some q) h = cc
 behind_equal (Some p) None h = cc
 behind_equal (Some p) (Some q) h = ap (λ (r : Place). Some r) (same_is p q h)
 
-goals_equal : (g h : Goal) → same_goal g h ≡ true → g ≡ h
+pub goals_equal : (g h : Goal) → same_goal g h ≡ true → g ≡ h
 goals_equal (Decl p) (Decl q) e = ap (λ (r : Place). Decl r) (same_is p q e)
 goals_equal Outside Outside e = refl
 goals_equal Missing Missing e = refl
@@ -62,10 +62,10 @@ goals_equal (Blur p m b) (Blur q n c) e =
     cc
 goals_equal _ _ e = cc
 
-same_itself : (p : Place) → same_place p p ≡ true
+pub same_itself : (p : Place) → same_place p p ≡ true
 same_itself p = grind (arith, nat_tests)
 
-goal_itself : (g : Goal) → same_goal g g ≡ true
+pub goal_itself : (g : Goal) → same_goal g g ≡ true
 goal_itself (Decl p) = same_itself p
 goal_itself Outside = refl
 goal_itself Missing = refl
@@ -73,7 +73,7 @@ goal_itself Hidden = refl
 goal_itself (Blur p m None) = rw (same_itself p) (grind (arith, nat_tests))
 goal_itself (Blur p m (Some q)) = rw (same_itself p, same_itself q) (grind (arith, nat_tests))
 
-equal_or : (g h : Goal) → (g ≡ h) ⊎ (g ≢ h)
+pub equal_or : (g h : Goal) → (g ≡ h) ⊎ (g ≢ h)
 equal_or g h = by (same_goal g h) refl where
   by : (b : Bool) → same_goal g h ≡ b → (g ≡ h) ⊎ (g ≢ h)
   by true e = inl (goals_equal g h e)

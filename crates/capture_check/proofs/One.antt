@@ -7,6 +7,7 @@ use Rattle.rotor_base.specs.declared.place.Goal.TheVariants.{Decl, Outside, Miss
 use Rattle.rotor_base.specs.declared.place.Ref.{Ref}
 use Rattle.rotor_base.specs.declared.place.Link.{Link}
 use Rattle.rotor_base.specs.Place.{IsBefore}
+use Rattle.rotor_base.proofs.Rising.{some_is}
 use Rattle.capture_check.specs.declared.fault.Fault.{Fault}
 use Rattle.capture_check.specs.declared.fault.Fault.TheVariants.{Clash, Capture, Mislink}
 use Rattle.capture_check.specs.Fault.{Names, IsClash, of_ref, of_link, IsFirstDiffering, IsCapture, IsMislink, before, FaultsAreOne}
@@ -38,9 +39,6 @@ one_clash names groups (Capture at was would) b h k = absurd h
 one_clash names groups (Mislink item was would) b h k = absurd h
 one_clash names groups (Clash f a) (Capture at was would) h k = absurd k
 one_clash names groups (Clash f a) (Mislink item was would) h k = absurd k
-
-some_is : {X : Type 0} (x y : X) → Some x ≡ Some y → x ≡ y
-some_is x y e = cc
 
 module _ {A : Type 0} (make : Place → Goal → A) (keeps : (p q : Place) (g h : Goal) → make p g ≡ make q h → g ≡ h) (old new : List A) where
   goal_is : (xs : List A) (m n : ℕ) (p q : Place) (g h : Goal) → m ≡ n → slice_get xs m ≡ Some (make p g) → slice_get xs n ≡ Some (make q h) → g ≡ h

@@ -2,7 +2,8 @@
 use Rattle.std.proofs.Common.{◌≡◌, ◌∙◌, ◌⊎◌, ℕ, suc, ◌+◌, ◌≤◌, List, [], ◌∷◌, ◌++◌, Option, Some, None, IfNone, IfSome, length, append_assoc, refl, sym, ap, subst, arith}
 use Rattle.std.proofs.lemmas.List.{append-nil, length_push}
 use Rattle.rename_batch.specs.declared.step.Step.{Step}
-use Rattle.rename_batch.specs.Reading.{AreSteps, IsBadLine, IsBatch, IsNoStep, IsStep, max_batch_lines}
+use Rattle.rotor_base.specs.Limits.{max_batch_lines}
+use Rattle.rename_batch.specs.Reading.{AreSteps, IsBadLine, IsBatch, IsNoStep, IsStep}
 
 pub same_length : (lines : List (List ℕ)) (steps : List Step) → AreSteps lines steps → length lines ≡ length steps
 same_length [] [] h = refl

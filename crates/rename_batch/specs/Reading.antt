@@ -2,15 +2,12 @@
 use Rattle.std.specs.Prelude.{◌≡◌, ◌≢◌, ◌⊎◌, ℕ, ◌+◌, ◌≤◌, ◌==◌, List, [], ◌∷◌, ◌++◌, true, false, length}
 use Rattle.std.specs.List.{list_any}
 use Rattle.std.specs.Str.{IsUtf8}
+use Rattle.rotor_base.specs.Limits.{max_batch_lines}
 use Rattle.cli_words.specs.Target.{target_of}
 use Rattle.cli_words.specs.Words.{is_value}
 use Rattle.rename_batch.specs.declared.error.BatchReadError.{BatchReadError}
 use Rattle.rename_batch.specs.declared.error.BatchReadError.TheVariants.{Line, Memory}
 use Rattle.rename_batch.specs.declared.step.Step.{Step}
-
--- the most lines of a batch
-abbrev pub max_batch_lines : ℕ
-max_batch_lines = 1000
 
 -- no byte is a space
 abbrev pub IsWhole : List ℕ → Type 0

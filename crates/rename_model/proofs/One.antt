@@ -15,6 +15,7 @@ use Rattle.rotor_base.specs.declared.target.Target.{Target}
 use Rattle.rotor_base.specs.declared.target.Target.TheVariants.{At, Spot, Dotted}
 use Rattle.rotor_base.specs.Files.{FileSet, are_over}
 use Rattle.rotor_base.specs.Place.{IsBefore}
+use Rattle.rotor_base.proofs.Rising.{some_is}
 use Rattle.dependency_kernel.specs.Foot.{IsFoot}
 use Rattle.dependency_kernel.proofs.Only.{is_the_only}
 use Rattle.ml_lexer.specs.Lexed.{Lexeme, Lexed}
@@ -49,9 +50,6 @@ one_before c d oc od a b (inr h) (inr k) = od a b h.1 k.1
 
 one_end : (r s : Refusal) → no_more r → no_more s → r ≡ s
 one_end r s h k = absurd h
-
-some_is : {X : Type 0} (x y : X) → Some x ≡ Some y → x ≡ y
-some_is x y e = cc
 
 both_some : {X : Type 0} (o : Option X) (x y : X) → o ≡ Some x → o ≡ Some y → x ≡ y
 both_some o x y h k = some_is x y (sym h ∙ k)

@@ -4,6 +4,7 @@ use Rattle.std.proofs.lemmas.List.Elements.{All-get_or}
 use Rattle.std.proofs.lemmas.Option.{slice_get-get_or}
 use Rattle.rotor_base.specs.declared.place.Place.{Place}
 use Rattle.rotor_base.specs.declared.source.SourceFile.{SourceFile}
+use Rattle.rotor_base.proofs.Rising.{some_is}
 use Rattle.ml_lexer.specs.Lexed.{Lexeme, Lexed}
 use Rattle.ml_lexer.proofs.OneCutting.{one_lexed}
 use Rattle.ml_lexer.proofs.Order.{lexemes_are_few}
@@ -48,9 +49,6 @@ few_lexemes bytes xs h w = let k : length xs ≤ length bytes = lexemes_are_few 
 abbrev pub IsTold : List SourceFile → Name → TextSpot → ℕ → Option ℕ → Type 0
 IsTold files name spot n None = (p : Place) → IsSpot files name spot p → ⊥
 IsTold files name spot n (Some t) = IsSpot files name spot (record { file = n; token = t })
-
-some_is : {X : Type 0} (x y : X) → Some x ≡ Some y → x ≡ y
-some_is x y e = cc
 
 pub spot_told : (files : List SourceFile) (name : Name) (spot : TextSpot) (n : ℕ) (d : SourceFile) (xs : List Lexeme) (o : Option ℕ) → number_of files name ≡ Some n → n < length files
     → Lexed (get_or files n d).bytes xs → o ≡ token_over spot (get_or files n d).bytes xs → IsTold files name spot n o

@@ -18,9 +18,6 @@ stopped (Err x) e C h k = subst C (sym h.1) k
 
 -- ---- of a project
 
-some_is : {X : Type 0} (x y : X) → Some x ≡ Some y → x ≡ y
-some_is x y e = cc
-
 pub heavy_free : (us : List UnitTree) → heavy us ≡ None → (r : Refusal) → IsHeavy us r → ⊥
 heavy_free us e (refusal.Heavy at) h = let wrong : None ≡ Some at = sym e ∙ h in cc
 heavy_free us e _ h = h

@@ -45,7 +45,7 @@ site_case : (z : Place × Site) (L : List (Place × Site)) (p : Place) (x : Site
 site_case z L p x true s f h = inl (same_is z.0 p s, (let q : z.1 ≡ x = cc in q))
 site_case z L p x false s f h = inr (f h)
 
-site_found : (L : List (Place × Site)) (p : Place) (x : Site) → at_place L p ≡ Some x → Has (λ e. (e.0 ≡ p) × (e.1 ≡ x)) L
+pub site_found : (L : List (Place × Site)) (p : Place) (x : Site) → at_place L p ≡ Some x → Has (λ e. (e.0 ≡ p) × (e.1 ≡ x)) L
 site_found [] p x e = let wrong : None ≡ Some x = e in absurd cc
 site_found (z ∷ L) p x e = site_case z L p x (same_place z.0 p) refl (site_found L p x) e
 

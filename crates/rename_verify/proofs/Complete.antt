@@ -9,6 +9,7 @@ use Rattle.rotor_base.specs.declared.place.Link.{Link}
 use Rattle.rotor_base.specs.declared.place.Place.{Place}
 use Rattle.rotor_base.specs.declared.place.Ref.{Ref}
 use Rattle.rotor_base.specs.declared.source.SourceFile.{SourceFile}
+use Rattle.rotor_base.proofs.Rising.{some_is}
 use Rattle.ml_lexer.specs.Lexed.{Lexeme}
 use Rattle.ml_syntax.specs.Places.{Site}
 use Rattle.ml_syntax.specs.Sound.{IsSound}
@@ -37,13 +38,13 @@ use Rattle.rename_survey.specs.Survey.{binder_of, binders_of}
 use Rattle.rename_verify.specs.Candidate.{AreLexemesOf, candidate, changes, given_name, word_at}
 use Rattle.rename_verify.specs.Laws.{AreRespelledBy, ChangesAll, IsYes, ValidIsYes}
 use Rattle.rename_verify.proofs.Alone.{more_in}
-use Rattle.rename_verify.proofs.Fixing.{site_found}
 use Rattle.rename_verify.proofs.Given.{changed_is, changed_word, changes_are_changed, in_changed, is_other, is_other_name, keeps_fixed}
 use Rattle.rename_verify.proofs.Listing.{entry_is}
 use Rattle.rename_verify.proofs.Reasons.{no_broken, no_bytes, no_fixed, no_reason, no_sources}
 use Rattle.rename_verify.proofs.Respelt.{cut_is, lists_of, word_is}
 use Rattle.rename_verify.proofs.Sources.{sources_are_renamed}
 use Rattle.rename_verify.proofs.Unrepeated.{good_repeats_none}
+use Rattle.rename_steps.proofs.Found.{site_found}
 
 -- ---- lists
 
@@ -101,9 +102,6 @@ or_second : (a b : Bool) → (a || b ≡ true → ⊥) → b ≡ false
 or_second true b h = absurd (h refl)
 or_second false true h = absurd (h refl)
 or_second false false h = refl
-
-some_is : {A : Type 0} (x y : A) → Some x ≡ Some y → x ≡ y
-some_is x y e = cc
 
 -- equal lists do not differ
 none_differing : {A : Type 0} (make : Place → Goal → A) → ((p : Place) (g h : Goal) → make p g ≡ make p h → g ≡ h) → (old new : List A) → new ≡ old

@@ -2,7 +2,7 @@
 use Rattle.std.proofs.Common.{◌≡◌, ◌⊎◌, ◌||◌, inl, inr, List, [], ◌∷◌, Bool, true, false, Option, Some, None, map, filter, flat_map, Contains, refl, ap, sym, subst, ◌∙◌}
 use Rattle.std.specs.BTreeSet.{BTreeSet, contains}
 use Rattle.std.proofs.lemmas.List.Elements.{Contains-append_left, Contains-append_right, Contains-append_cases}
-use Rattle.rotor_base.specs.Place.{same_place, place_cmp}
+use Rattle.rotor_base.specs.Place.{place_cmp}
 use Rattle.rotor_base.specs.declared.place.Facts.{Facts}
 use Rattle.rotor_base.specs.declared.place.Goal.{Goal}
 use Rattle.rotor_base.specs.declared.place.Goal.TheVariants.{Decl, Outside, Missing, Hidden, Blur}
@@ -12,17 +12,15 @@ use Rattle.rotor_base.specs.declared.place.Ref.{Ref}
 use Rattle.ml_syntax.specs.Places.{Site}
 use Rattle.ml_syntax.specs.Sound.{IsSound}
 use Rattle.ml_syntax.specs.Tree.{UnitTree}
-use Rattle.shape_core.specs.Shape.{or_else, some_if}
 use Rattle.binding_model.specs.Facts.{facts}
 use Rattle.binding_model.specs.Renaming.{places, at_place, HasBehind, IsBlur, IsFixedSite, IsFree}
-use Rattle.binding_model.proofs.LastEntries.{same_is}
 use Rattle.binding_model.proofs.Sounds.{found_all}
 use Rattle.binding_model.proofs.Telltale.{apart_of}
 use Rattle.rename_parts.specs.declared.checks.Hit.{Hit}
 use Rattle.rename_parts.specs.Hits.{all_hits, hit_of}
 use Rattle.rename_parts.specs.Leasts.{IsLeastOrNone}
 use Rattle.rename_parts.specs.Members.{HasPlaces}
-use Rattle.rename_steps.proofs.Found.{set_has, has_set, hits_down, hits_up}
+use Rattle.rename_steps.proofs.Found.{set_has, has_set, hits_down, hits_up, site_found}
 use Rattle.rename_steps.proofs.Having.{Has, has_as, has_mapped, has_unmapped, has_filtered, has_unfiltered, has_contained, contained_has, has_each}
 use Rattle.rename_verify.specs.Changed.{Changed}
 use Rattle.rename_verify.specs.Fixed.{behind, fixed_by, fixed_by_link, fixed_by_ref, fixed_by_use, joined, HasFixedUses, IsHeld, IsLeastHeld}
@@ -54,16 +52,6 @@ here_in x z e = subst (Contains (x ∷ [])) e (first_in x [])
 
 abbrev is_fixed : Hit → Bool
 is_fixed h = h.operator || h.pun
-
-site_case : (z : Place × Site) (L : List (Place × Site)) (p : Place) (x : Site) (b : Bool) → same_place z.0 p ≡ b
-    → (at_place L p ≡ Some x → Has (λ e. (e.0 ≡ p) × (e.1 ≡ x)) L) → or_else (some_if b z.1) (at_place L p) ≡ Some x
-    → Has (λ e. (e.0 ≡ p) × (e.1 ≡ x)) (z ∷ L)
-site_case z L p x true s f h = inl (same_is z.0 p s, (let q : z.1 ≡ x = cc in q))
-site_case z L p x false s f h = inr (f h)
-
-pub site_found : (L : List (Place × Site)) (p : Place) (x : Site) → at_place L p ≡ Some x → Has (λ e. (e.0 ≡ p) × (e.1 ≡ x)) L
-site_found [] p x e = let wrong : None ≡ Some x = e in absurd cc
-site_found (z ∷ L) p x e = site_case z L p x (same_place z.0 p) refl (site_found L p x) e
 
 fixed_site : (o : Option Site) → IsFixedSite o → (x : Site) × (o ≡ Some x) × (x.operator || x.pun ≡ true)
 fixed_site None h = absurd h

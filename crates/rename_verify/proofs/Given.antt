@@ -1,7 +1,6 @@
 -- What the candidate gives to the binders that it changes.
-use Rattle.std.proofs.Common.{◌≡◌, ◌≢◌, ◌||◌, ℕ, zero, suc, inl, inr, List, [], ◌∷◌, Bool, true, false, cond, not, Option, Some, None, map, filter, take, length, get_or, slice_get, unwrap_or, refl, ap, sym, subst, ◌∙◌, arith}
-use Rattle.std.specs.Char.{is_ascii_uppercase}
-use Rattle.std.specs.Prelude.{Contains, IsTrue}
+use Rattle.std.proofs.Common.{◌≡◌, ◌≢◌, ◌||◌, ℕ, zero, suc, inl, inr, List, [], ◌∷◌, Bool, true, false, cond, not, Option, Some, None, map, filter, length, slice_get, unwrap_or, refl, ap, sym, subst, ◌∙◌}
+use Rattle.std.specs.Prelude.{IsTrue}
 use Rattle.std.specs.Str.{bytes_eq}
 use Rattle.std.proofs.lemmas.Slice.Eq.{bytes_eq-Decides}
 use Rattle.rotor_base.specs.Name.{is_value_name}
@@ -9,18 +8,13 @@ use Rattle.rotor_base.specs.Place.{same_place}
 use Rattle.rotor_base.specs.declared.place.Goal.{Goal}
 use Rattle.rotor_base.specs.declared.place.Goal.TheVariants.{Decl, Outside, Missing, Hidden, Blur}
 use Rattle.rotor_base.specs.declared.place.Place.{Place}
-use Rattle.rotor_base.specs.declared.place.Ref.{Ref}
 use Rattle.rotor_base.specs.declared.source.SourceFile.{SourceFile}
 use Rattle.rotor_base.specs.declared.token.Class.{Class}
 use Rattle.rotor_base.specs.declared.token.Class.TheVariants as class
 use Rattle.ml_lexer.specs.declared.piece.Piece.TheVariants as piece
-use Rattle.ml_lexer.specs.Bytes.{word_length}
 use Rattle.ml_lexer.specs.Lexed.{Lexeme}
-use Rattle.ml_lexer.specs.Pieces.{piece_at, word_class}
-use Rattle.ml_lexer.proofs.Apart.{lower_is_word}
-use Rattle.ml_lexer.proofs.Fronts.{lexeme_of_piece}
+use Rattle.ml_lexer.specs.Pieces.{piece_at}
 use Rattle.ml_lexer.proofs.Order.{EachWhole, each_whole}
-use Rattle.ml_lexer.proofs.Words.{lexeme_of_cond, word_at_length}
 use Rattle.ml_syntax.specs.Each.{Each}
 use Rattle.ml_syntax.specs.Places.{Site}
 use Rattle.ml_syntax.specs.Sound.{IsSound}
@@ -40,6 +34,8 @@ use Rattle.rename_respell.specs.Respelled.{changed}
 use Rattle.rename_survey.specs.declared.answer.Binder.{Binder}
 use Rattle.rename_survey.specs.Survey.{binder_of, binders_of}
 use Rattle.rename_verify.specs.Candidate.{AreLexemes, AreLexemesOf, candidate, given_name, if_lower, lexeme_at, lower_word, word_at}
+use Rattle.respelled_reading.proofs.Renamed.{goal_there}
+use Rattle.renamed_sources.proofs.ValueNames.{lower_is_name}
 
 -- ---- maps of names
 
@@ -117,31 +113,6 @@ changes_are_changed us (x ∷ r) d y c = by (same_place x.0 d) refl c.0 (λ k. c
   by false s f rest = passed (is_other us x) s (rest (ap (λ v. or_else (some_if v x.1) (at_place r d)) (sym s) ∙ f, c.1))
 
 -- ---- lower-case words are value names
-
-class_tests : (w : List ℕ) → word_class w ≡ cond (is_ascii_uppercase (get_or w 0 0)) class.Upper (cond (is_value_name w) class.Lower class.Keyword)
-unfolding word_class
-class_tests w = refl
-
-class_of_cond : (t : Bool) (kind k : Class) (n m : ℕ) → cond t piece.LongName (piece.Lexeme kind n) ≡ piece.Lexeme k m → kind ≡ k
-class_of_cond true kind k n m e = cc
-class_of_cond false kind k n m e = cc
-
-lower_of_cond : (u v : Bool) → cond u class.Upper (cond v class.Lower class.Keyword) ≡ class.Lower → v ≡ true
-lower_of_cond true v e = cc
-lower_of_cond false true e = refl
-lower_of_cond false false e = cc
-
-take_whole : (b : List ℕ) → take (length b) b ≡ b
-take_whole [] = refl
-take_whole (x ∷ b) = ap (λ l. x ∷ l) (take_whole b)
-
-lower_is_name : (b : List ℕ) → piece_at b ≡ piece.Lexeme class.Lower (length b) → is_value_name b ≡ true
-lower_is_name b e =
-    let at = lower_is_word b (length b) (lexeme_of_piece b class.Lower (length b) e) in
-    let n : word_length b ≡ length b = lexeme_of_cond _ _ _ _ _ (sym (word_at_length b _ refl) ∙ at) in
-    let kind : word_class (take (length b) b) ≡ class.Lower = class_of_cond _ _ _ _ _ (sym (word_at_length b (length b) n) ∙ at) in
-    let own : word_class b ≡ class.Lower = ap word_class (sym (take_whole b)) ∙ kind in
-    lower_of_cond (is_ascii_uppercase (get_or b 0 0)) (is_value_name b) (sym (class_tests b) ∙ own)
 
 whole_name : (c : Class) (text : List ℕ) (y : Name) → piece_at text ≡ piece.Lexeme c (length text) → if_lower c text ≡ Some y → is_value_name y ≡ true
 whole_name class.Lower text y w e = let same : text ≡ y = cc in ap is_value_name (sym same) ∙ lower_is_name text w
@@ -275,16 +246,6 @@ module _ (us : List UnitTree) (sound : IsSound us) where
     }
 
 -- ---- operators and puns keep their words
-
-goal_there : (rs : List Ref) (p : Place) (g : Goal) → goal_at rs p ≡ Some g → Contains rs (record { at = p; goal = g })
-goal_there [] p g h = let wrong : None ≡ Some g = h in absurd cc
-goal_there (x ∷ rs) p g h = by (same_place x.at p) refl h (goal_there rs p g) where
-  by : (b : Bool) → same_place x.at p ≡ b → or_else (some_if b x.goal) (goal_at rs p) ≡ Some g
-      → (goal_at rs p ≡ Some g → Contains rs (record { at = p; goal = g })) → Contains (x ∷ rs) (record { at = p; goal = g })
-  by true e q rest =
-      let goal : x.goal ≡ g = cc in
-      (0, omega arith, ap (λ z. record { at = z; goal = x.goal }) (same_is x.at p e) ∙ ap (λ z. record { at = p; goal = z }) goal)
-  by false e q rest = let k = rest q in (suc k.0, omega (arith, k.1), k.2)
 
 or_turned : (a b : Bool) → IsTrue (a || b) → IsTrue (b || a)
 or_turned true true h = h

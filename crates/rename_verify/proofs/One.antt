@@ -10,6 +10,7 @@ use Rattle.rotor_base.specs.declared.place.Place.{Place}
 use Rattle.rotor_base.specs.declared.refusal.Refusal.{Refusal}
 use Rattle.rotor_base.specs.declared.report.Counts.{Counts}
 use Rattle.rotor_base.specs.declared.source.SourceFile.{SourceFile}
+use Rattle.rotor_base.proofs.Rising.{some_is}
 use Rattle.ml_syntax.specs.Tree.{UnitTree}
 use Rattle.shape_core.specs.Shape.{Name}
 use Rattle.binding_model.specs.Facts.{facts}
@@ -81,9 +82,6 @@ one_part a b m n h k = elim (which m n) [
   | inl e ↦ e
   | inr o ↦ elim o [ inl less ↦ absurd (h.other (same_before a b n m less k.same)) | inr more ↦ absurd (k.other (same_before a b m n more h.same)) ]
 ]
-
-some_is : {A : Type 0} (x y : A) → Some x ≡ Some y → x ≡ y
-some_is x y e = cc
 
 apart : (xs ys : List (List ℕ)) (f o g : ℕ) → FilesPartAt xs ys f o → take g xs ≡ take g ys → f < g → ⊥
 apart xs ys f o g h same less =

@@ -4,14 +4,12 @@ use Rattle.std.proofs.lemmas.List.{get_or-map, length-map, take_more}
 use Rattle.std.proofs.lemmas.Option.{slice_get-get_or, slice_get_past}
 use Rattle.std.proofs.lemmas.Grind.{common_steps}
 use Rattle.rename_verify.specs.Differ.{PartAt}
+use Rattle.rotor_base.proofs.Rising.{some_is}
 
 pub same_more : {A : Type 0} (xs ys : List A) (n : ℕ) (d e : A) → n < length xs → n < length ys → get_or xs n d ≡ get_or ys n e
     → take n xs ≡ take n ys → take (n + 1) xs ≡ take (n + 1) ys
 same_more xs ys n d e v w x h = take_more xs n d v
     ∙ (ap (λ l. l ++ get_or xs n d ∷ []) h ∙ (ap (λ y. take n ys ++ y ∷ []) x ∙ sym (take_more ys n e w)))
-
-some_is : {A : Type 0} (x y : A) → Some x ≡ Some y → x ≡ y
-some_is x y e = cc
 
 pub parts_here : (xs ys : List ℕ) (n d e : ℕ) → n < length xs → n < length ys → get_or xs n d ≢ get_or ys n e → take n xs ≡ take n ys → PartAt xs ys n
 parts_here xs ys n d e v w x h = record {

@@ -1,8 +1,9 @@
 -- Why a verdict is no, and that there is no reason.
-use Rattle.std.proofs.Common.{◌≡◌, inl, inr, ℕ, suc, List, [], ◌∷◌, Some, None, map, length, Contains, slice_get, refl, ap, sym, subst, ◌∙◌}
+use Rattle.std.proofs.Common.{◌≡◌, inl, inr, ℕ, suc, List, [], ◌∷◌, None, map, length, Contains, slice_get, refl, ap, sym, subst, ◌∙◌}
 use Rattle.rotor_base.specs.Files.{FileSet, names_of}
 use Rattle.rotor_base.specs.declared.place.Place.{Place}
 use Rattle.rotor_base.specs.declared.source.SourceFile.{SourceFile}
+use Rattle.rotor_base.proofs.Rising.{some_is}
 use Rattle.ml_lexer.specs.Lexed.{Lexeme}
 use Rattle.ml_lexer.specs.Respelled.{respelled}
 use Rattle.ml_lexer.proofs.OneCutting.{one_lexed}
@@ -61,9 +62,6 @@ same_sources old new x e m (manifest f n) = n m
 pub no_sources : (old new : FileSet) → names_of old.entries ≡ names_of new.entries → old.manifest ≡ new.manifest → IsMet (IsSources old new) → ⊥
 no_sources old new e m (why.Sources x, h) = same_sources old new x e m h
 no_sources old new e m (_, h) = h
-
-some_is : {A : Type 0} (x y : A) → Some x ≡ Some y → x ≡ y
-some_is x y e = cc
 
 no_part : (files : List (List ℕ)) (file offset : ℕ) → FilesPartAt files files file offset → ⊥
 no_part files file offset h =

@@ -5,6 +5,7 @@ use Rattle.rotor_base.specs.declared.place.Place.{Place}
 use Rattle.rotor_base.specs.declared.source.SourceFile.{SourceFile}
 use Rattle.rotor_base.specs.declared.token.Class.{Class}
 use Rattle.rotor_base.specs.declared.token.Class.TheVariants as class
+use Rattle.rotor_base.proofs.Rising.{some_is}
 use Rattle.ml_lexer.specs.Lexed.{Lexeme, Lexed}
 use Rattle.ml_lexer.specs.Respelled.{respelled_lexemes_from, respelled_lexemes}
 use Rattle.ml_lexer.proofs.OneCutting.{one_lexed}
@@ -49,9 +50,6 @@ cut_is [] [] h = tt
 cut_is [] (xs ∷ lists) h = absurd h
 cut_is (s ∷ ss) [] h = absurd h
 cut_is (s ∷ ss) (xs ∷ lists) h = (inl h.0, cut_is ss lists h.1)
-
-some_is : {A : Type 0} (x y : A) → Some x ≡ Some y → x ≡ y
-some_is x y e = cc
 
 cut_at : (ss : List SourceFile) (lists : List (List Lexeme)) (k : ℕ) (s : SourceFile) (xs : List Lexeme) → AreCut ss lists → slice_get ss k ≡ Some s
     → Lexed s.bytes xs → slice_get lists k ≡ Some xs

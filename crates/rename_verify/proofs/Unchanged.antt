@@ -1,9 +1,8 @@
 -- Two projects without a fault between them have the same facts.
-use Rattle.std.proofs.Common.{◌≡◌, ◌≢◌, ◌⊎◌, ◌==◌, ◌&&◌, inl, inr, ℕ, zero, suc, ◌<◌, ◌≤◌, List, [], ◌∷◌, Bool, true, false, Option, Some, None, map, refl, ap, sym, subst, ◌∙◌, arith}
-use Rattle.std.proofs.lemmas.Bool.Decides.{nat_tests}
-use Rattle.rotor_base.specs.Place.{IsBefore, same_place, same_behind, same_goal}
+use Rattle.std.proofs.Common.{◌≡◌, ◌⊎◌, inl, inr, ℕ, zero, suc, ◌<◌, ◌≤◌, List, [], ◌∷◌, Some, map, refl, ap, sym, subst, ◌∙◌, arith}
+use Rattle.rotor_base.specs.Place.{IsBefore}
 use Rattle.rotor_base.specs.declared.place.Goal.{Goal}
-use Rattle.rotor_base.specs.declared.place.Goal.TheVariants.{Decl, Outside, Missing, Hidden, Blur}
+use Rattle.rotor_base.specs.declared.place.Goal.TheVariants.{Decl}
 use Rattle.rotor_base.specs.declared.place.Link.{Link}
 use Rattle.rotor_base.specs.declared.place.Place.{Place}
 use Rattle.rotor_base.specs.declared.place.Ref.{Ref}
@@ -13,61 +12,14 @@ use Rattle.ml_syntax.specs.Tree.{UnitTree}
 use Rattle.binding_model.specs.Facts.{facts}
 use Rattle.binding_model.specs.Laws.{StaysPut}
 use Rattle.binding_model.specs.Renaming.{name_of}
-use Rattle.binding_model.proofs.LastEntries.{same_is}
 use Rattle.capture_check.specs.declared.fault.Fault.{Fault}
 use Rattle.capture_check.specs.declared.fault.Fault.TheVariants.{Capture, Mislink}
 use Rattle.capture_check.specs.Fault.{IsMet, Differs, IsFirstDiffering, IsClash, IsCapture, IsMislink, before, faults, of_ref, of_link}
-use Rattle.capture_check.proofs.Equal.{IsAtDecl, items_decl}
+use Rattle.capture_check.proofs.Equal.{IsAtDecl, items_decl, equal_or}
 use Rattle.rename_model.specs.Ladder.{IsLeast}
 use Rattle.rename_laws.proofs.Ladder.{not_first, not_rest}
 use Rattle.rename_laws.proofs.Leasts.{no_least_is_none}
 use Rattle.rename_verify.proofs.One.{which}
-
--- ---- goals are one or not
-
-both : (a b : Bool) → (a && b) ≡ true → (a ≡ true) × (b ≡ true)
-both true b h = (refl, h)
-both false b h = cc
-
-behind_equal : (b c : Option Place) → same_behind b c ≡ true → b ≡ c
-behind_equal None None h = refl
-behind_equal None (Some q) h = cc
-behind_equal (Some p) None h = cc
-behind_equal (Some p) (Some q) h = ap (λ (r : Place). Some r) (same_is p q h)
-
-count_equal : (m n : ℕ) → (m == n) ≡ true → m ≡ n
-count_equal m n h = grind (arith, nat_tests)
-
-goals_equal : (g h : Goal) → same_goal g h ≡ true → g ≡ h
-goals_equal (Decl p) (Decl q) e = ap (λ (r : Place). Decl r) (same_is p q e)
-goals_equal Outside Outside e = refl
-goals_equal Missing Missing e = refl
-goals_equal Hidden Hidden e = refl
-goals_equal (Blur p m b) (Blur q n c) e =
-    let outer = both (same_place p q && m == n) (same_behind b c) e in
-    let inner = both (same_place p q) (m == n) outer.0 in
-    let ep : p ≡ q = same_is p q inner.0 in
-    let em : m ≡ n = count_equal m n inner.1 in
-    let eb : b ≡ c = behind_equal b c outer.1 in
-    cc
-goals_equal _ _ e = cc
-
-same_itself : (p : Place) → same_place p p ≡ true
-same_itself p = grind (arith, nat_tests)
-
-goal_itself : (g : Goal) → same_goal g g ≡ true
-goal_itself (Decl p) = same_itself p
-goal_itself Outside = refl
-goal_itself Missing = refl
-goal_itself Hidden = refl
-goal_itself (Blur p m None) = rw (same_itself p) (grind (arith, nat_tests))
-goal_itself (Blur p m (Some q)) = rw (same_itself p, same_itself q) (grind (arith, nat_tests))
-
-equal_or : (g h : Goal) → (g ≡ h) ⊎ (g ≢ h)
-equal_or g h = by (same_goal g h) refl where
-  by : (b : Bool) → same_goal g h ≡ b → (g ≡ h) ⊎ (g ≢ h)
-  by true e = inl (goals_equal g h e)
-  by false e = inr (λ k. let z : true ≡ false = sym (goal_itself g) ∙ (ap (same_goal g) k ∙ e) in absurd cc)
 
 -- ---- if no first thing differs, none does
 

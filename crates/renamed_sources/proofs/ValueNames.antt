@@ -49,7 +49,7 @@ take_all : (b : List ℕ) → take (length b) b ≡ b
 take_all [] = refl
 take_all (x ∷ b) = ap (λ l. x ∷ l) (take_all b)
 
-lower_is_name : (b : List ℕ) → piece_at b ≡ piece.Lexeme class.Lower (length b) → is_value_name b ≡ true
+pub lower_is_name : (b : List ℕ) → piece_at b ≡ piece.Lexeme class.Lower (length b) → is_value_name b ≡ true
 lower_is_name b e =
     let at = lower_is_word b (length b) (lexeme_of_piece b class.Lower (length b) e) in
     let n : word_length b ≡ length b = lexeme_of_cond _ _ _ _ _ (sym (word_at_length b _ refl) ∙ at) in

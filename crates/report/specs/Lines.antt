@@ -70,7 +70,7 @@ sampled_line sampled =
     join (codes "units " ∷ decimal sampled.units ∷ codes " footprint " ∷ decimal sampled.footprint ∷ codes " references " ∷ decimal sampled.references ∷ codes " undone " ∷ undone_text sampled.undone ∷ [])
 
 abbrev pub usage_line : Word
-usage_line = codes "usage: rotor check | footprint TARGET | rename TARGET NAME [--write | --safe] [--json] | sample N | batch FILE [--write] | recover"
+usage_line = codes "usage: rotor check | footprint TARGET | rename TARGET NAME [--write | --safe] [--json] | sample N | verify OLDLIST NEWLIST | batch FILE [--write] | recover"
 
 -- want of memory and a failed read have no line
 abbrev pub notice_lines : Option Notice → List Word

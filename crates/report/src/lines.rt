@@ -9,7 +9,7 @@ use std::alloc::Global;
 
 /// The usage line, with the forms that have a command.
 const USAGE: &str =
-    "usage: rotor check | footprint TARGET | rename TARGET NAME [--write | --safe] [--json] | sample N | batch FILE [--write] | recover";
+    "usage: rotor check | footprint TARGET | rename TARGET NAME [--write | --safe] [--json] | sample N | verify OLDLIST NEWLIST | batch FILE [--write] | recover";
 
 /// The lines of an outcome.
 pub(crate) fn lines(

@@ -69,7 +69,7 @@ refs_have_places us sound =
     (unmapped (IsPlace us) (refs_of (steps us)) (subst (Each (IsPlace us)) (refs_at_uses us) (used (IsPlace us) (places us) all)))
 
 -- the goal at a place is that of a reference there
-goal_there : (rs : List Ref) (p : Place) (g : Goal) → goal_at rs p ≡ Some g → Contains rs (record { at = p; goal = g })
+pub goal_there : (rs : List Ref) (p : Place) (g : Goal) → goal_at rs p ≡ Some g → Contains rs (record { at = p; goal = g })
 goal_there [] p g h = cc
 goal_there (r ∷ rs) p g h = by (same_place r.at p) refl h (goal_there rs p g)
   where

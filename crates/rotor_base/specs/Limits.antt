@@ -36,3 +36,7 @@ max_plan_bytes = 16777216
 -- the deepest tree or shape that is built, in levels
 abbrev pub max_levels : ℕ
 max_levels = 3000
+
+-- the most lines of a batch
+abbrev pub max_batch_lines : ℕ
+max_batch_lines = 1000
