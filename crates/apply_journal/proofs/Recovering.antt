@@ -14,7 +14,7 @@ use Rattle.apply_journal.specs.Plan.{plan_text, IsPlan}
 use Rattle.apply_journal.specs.Recovered.{plan_name, IsOpen, plan_writes, HoldsPlan, HoldsNoPlan, IsLost, ArePlanWrites, IsDue, rests, due, IsRecovered, rested, done, IsStopped, project_in, Recovers, closed, LeavesRecovered, KeepsRecovered}
 use Rattle.apply_journal.proofs.Stops.{stopped_again, whole_again}
 
--- an error that goes on is the one that came
+-- an error that is passed on is the one that was returned
 pub goes_on : {A B E : Type 0} (r : Result A E) (e wanted : E) → IsErr r → IsErrAnd r (λ y. y ≡ e) → IsErrOf r wanted → IsErrOf {T = B} {E = E} (Err e) wanted
 goes_on (Ok x) e wanted h k w = absurd cc
 goes_on (Err y) e wanted h k w = cc

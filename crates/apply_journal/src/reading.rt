@@ -211,7 +211,7 @@ fn is_before(file: &SourceFile, next: &SourceFile) -> bool
     file.name.as_str().cmp(next.name.as_str()).is_lt()
 }
 
-/// Whether all files together keep the limit on bytes, where each of them does.
+/// Whether all files together keep the limit on bytes. Each of them keeps its own.
 fn is_within(files: &[SourceFile]) -> bool
     requires few { length files.now ≤ max_sources }
     requires small { All (λ file. length file.bytes ≤ max_file_bytes) files.now }

@@ -33,13 +33,13 @@ pub enum Recovery {
     },
 }
 
-/// Writes the files of the plan if the gate is open, in byte order of their names, and closes the gate. It takes all its
-/// memory, the folder's room too, before the first write.
+/// Writes the files of the plan if the gate is open, in byte order of their names, and closes the gate. It takes all
+/// its memory, the folder's room too, before the first write.
 ///
 /// # Errors
 ///
-/// `Read` and `Write` after a counted fault of the folder. `BadPlan` if the gate is open, and `rotor.plan` is not in the
-/// folder or holds no plan. `Memory`. A failed write leaves the files before it written, and any bytes in its file;
+/// `Read` and `Write` after a counted fault of the folder. `BadPlan` if the gate is open, and `rotor.plan` is not in
+/// the folder or holds no plan. `Memory`. A failed write leaves the files before it written, and any bytes in its file;
 /// every other error leaves the folder as it was.
 pub fn recover<T: Tree>(alloc: Global, tree: &mut T) -> Result<Recovery, RecoverError>
     ensures recovered { IfOk result (λ recovery. IfSome (T.content tree.old) (λ held. IsRecovered held (T.content tree.new) recovery)) }
@@ -63,8 +63,8 @@ pub fn recover<T: Tree>(alloc: Global, tree: &mut T) -> Result<Recovery, Recover
     }
 }
 
-/// The writes of a recovery, `None` if the gate is not open: the files of the plan in byte order of their names, and the
-/// empty gate. It takes the folder's room for them, and changes neither the files nor, without a fault, the count.
+/// The writes of a recovery, `None` if the gate is not open: the files of the plan in byte order of their names, and
+/// the empty gate. It takes the folder's room for them, and changes neither the files nor, without a fault, the count.
 ///
 /// # Errors
 ///

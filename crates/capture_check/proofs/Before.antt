@@ -32,7 +32,7 @@ pub before_upto : (p q r : Place) → IsBefore p q → Upto q r → IsBefore p r
 before_upto p q r h (inl e) = subst (IsBefore p) e h
 before_upto p q r h (inr k) = before_trans p q r h k
 
--- the test tells the order
+-- the test decides the order
 tested_file : (p q : Place) → nat_lt p.file q.file ≡ true → p.file < q.file
 tested_file p q h = grind arith
 

@@ -1,4 +1,4 @@
--- Where there is no fault, the facts are equal.
+-- If there is no fault, the facts are equal.
 use Rattle.std.proofs.Common.{◌≡◌, ◌≢◌, ℕ, zero, suc, ◌+◌, ◌⊎◌, ◌==◌, ◌&&◌, Bool, true, false, refl, ap, sym, ◌∙◌, subst, inl, inr, arith, List, [], ◌∷◌, map, length, Option, Some, None, slice_get, true≢false}
 use Rattle.std.proofs.lemmas.Bool.Decides.{nat_tests}
 use Rattle.rotor_base.specs.declared.place.Place.{Place}
@@ -85,7 +85,7 @@ place_or p q = by (same_place p q) refl where
   by true e = inl (same_is p q e)
   by false e = inr (λ k. let z : true ≡ false = sym (same_itself p) ∙ (ap (same_place p) k ∙ e) in absurd cc)
 
--- ---- where the least change is none, no thing differs
+-- ---- if there is no least change, no thing differs
 
 module _ {A : Type 0} (make : Place → Goal → A) (keeps : KeepsPlace make) (old new : List A) (tell : (o p : Option A) → (c : Option Change) × Tells make o p c) where
   best_at : (n : ℕ) → (c : Option Change) × IsBest make old new n c
@@ -215,7 +215,7 @@ items_decl us s =
     let named = units_named Anything us none tt (each_map (λ e. at_place (places us) e.0 ≡ Some e.1) (PlaceNamed Anything) (places us) (λ e h. tt) (found_all (places us) (apart_of us s))) in
     each_map (Joins Anything) IsAtDecl (facts us).links item_decl (steps_join Anything (steps us) named)
 
--- Law: where no fault is found, the renamed project has the facts of the old one
+-- Law: if no fault is found, the renamed project has the facts of the old one
 pub no_fault_keeps_facts : NoFaultKeepsFacts
 no_fault_keeps_facts us w s k h =
     let told = looks_tell_facts us w s k in

@@ -46,7 +46,7 @@ module _ (us : List UnitTree) (w : Watch) (s : IsSound us) (k : IsWatched us w) 
         new_name_is w (get place_cmp old d) (get place_cmp new d) d (name_of us d) (n d) (named_is us s old d t here)
 
     module _ (members : BTreeSet Place) (m : (d : Place) → contains place_cmp members d ≡ list_any (same_place d) w.foot.decls) where
-      -- the new facts are those that the looks tell
+      -- the new facts are those that the looks give
       would_be : (ref_looks : BTreeMap Place RefLook) (link_looks : BTreeMap ℕ LinkLook) (refs : List Ref) (links : List Link)
           → HasRefLooks ls.refs ref_looks → HasLinkLooks ls.links link_looks
           → refs ≡ map (ref_by members ref_looks) fs.refs → links ≡ links_by members link_looks 0 fs.links

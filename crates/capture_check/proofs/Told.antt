@@ -1,4 +1,4 @@
--- What the looks tell is the first fault of the renamed project.
+-- The fault that the looks give is the first fault of the renamed project.
 use Rattle.std.proofs.Common.{◌≡◌, Bool, true, false, refl, ap, sym, ◌∙◌, subst, inl, inr, List, Option, Some, None, if◌then◌else◌}
 use Rattle.rotor_base.specs.declared.place.Place.{Place}
 use Rattle.rotor_base.specs.declared.place.Goal.TheVariants.{Decl}

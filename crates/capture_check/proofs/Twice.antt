@@ -24,7 +24,7 @@ lex_trans r s f a (inl h) (inr k) = inl (subst (IsBefore r.again) k.0 h)
 lex_trans r s f a (inr h) (inl k) = let P : Place → Type 0 = λ x. IsBefore x a in inl (subst P (sym h.0) k)
 lex_trans r s f a (inr h) (inr k) = inr (h.0 ∙ k.0, upto_trans r.first s.first f h.1 k.1)
 
--- the test tells that order
+-- the test decides that order
 later_lex : (a b : Repeat) (s t : Bool) → same_place b.again a.again ≡ s → is_before b.first a.first ≡ t → (s && t) ≡ true → Lex b a.first a.again
 later_lex a b true true e f h = inr (same_is b.again a.again e, inr (tested b.first a.first f))
 later_lex a b true false e f h = absurd cc
@@ -94,7 +94,7 @@ module _ (P R : Place → Place → Type 0) (up : Within P R) where
 
 -- ---- one group
 
--- two places that stand somewhere, of one name
+-- two places of one name, both among some places, the first before the second
 abbrev pub Pairs : Names → (Place → Type 0) → Place → Place → Type 0
 Pairs names In f a = In f × In a × IsBefore f a × (names f ≡ names a)
 
@@ -113,7 +113,7 @@ module _ (names : Names) (In More : Place → Type 0) (p : Place) (up : (q : Pla
   P_up : Within P R
   P_up f a h = (up f h.0, up a h.1, h.2, h.3)
 
-  -- a pair is an older one, or has the new place behind or before an older one
+  -- a pair is an older one, or has the new place after or before an older one
   data Case (f a : Place) : Type 0 where
     old : P f a → Case f a
     behind : a ≡ p → In f → IsBefore f p → names f ≡ names p → Case f a
@@ -135,7 +135,7 @@ module _ (names : Names) (In More : Place → Type 0) (p : Place) (up : (q : Pla
   ]
 
   module _ (m : Place) (l : IsLeastOf names In (names p) (Some m)) where
-    -- the new place is behind the least
+    -- the new place is after the least
     pub after : IsBefore m p → (f a : Place) → R f a → P f a ⊎ Lex (record { first = m; again = p }) f a
     after b f a h = elim (case_of f a h) [
       | old k ↦ inl k
@@ -165,7 +165,7 @@ module _ (names : Names) (In More : Place → Type 0) (p : Place) (up : (q : Pla
     ahead_here : IsBefore p m → R p m
     ahead_here b = (last, up m l.0, b, sym l.1)
 
-    -- the new place is the least, and stands there already
+    -- the new place is the least, which is among the places already
     again : m ≡ p → Within R P
     again e f a h = elim (case_of f a h) [
       | old k ↦ k

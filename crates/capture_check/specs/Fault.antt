@@ -16,7 +16,7 @@ use Rattle.capture_check.specs.declared.fault.Fault.TheVariants.{Clash, Capture,
 abbrev pub IsMet : {R : Type 0} → (R → Type 0) → Type 0
 IsMet {R} c = (r : R) × c r
 
--- the first condition where it is met, else the rest
+-- the first condition if it is met, else the rest
 abbrev pub before : {R : Type 0} → (R → Type 0) → (R → Type 0) → R → Type 0
 before c rest r = c r ⊎ ((IsMet c → ⊥) × rest r)
 
@@ -26,7 +26,7 @@ before c rest r = c r ⊎ ((IsMet c → ⊥) × rest r)
 abbrev pub Names : Type 0
 Names = Place → List ℕ
 
--- two places of one group have one name, and `first` stands before `again`
+-- two places of one group have one name, and `first` is before `again`
 pub record Repeats (names : Names) (groups : List (List Place)) (first again : Place) : Type 0 where
   pub group : List Place
   pub among : Contains groups group
@@ -52,13 +52,13 @@ of_ref at goal = record { at = at; goal = goal }
 abbrev pub of_link : Place → Goal → Link
 of_link item source = record { item = Decl item; source = source }
 
--- the things of this number in two lists stand at one place, and have other goals
+-- the things of this number in two lists are at one place, and have different goals
 pub record Differs {A : Type 0} (make : Place → Goal → A) (old new : List A) (number : ℕ) (at : Place) (was would : Goal) : Type 0 where
   pub old_one : slice_get old number ≡ Some (make at was)
   pub new_one : slice_get new number ≡ Some (make at would)
   pub differ : was ≢ would
 
--- the least place that has some, and the first of them there
+-- the least place with a difference, and the first difference there
 pub record IsFirstDiffering {A : Type 0} (make : Place → Goal → A) (old new : List A) (at : Place) (was would : Goal) : Type 0 where
   pub number : ℕ
   pub differs : Differs make old new number at was would

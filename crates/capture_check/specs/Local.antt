@@ -1,4 +1,4 @@
--- The local criterion: the first fault, as the facts and the looks of the old project tell it.
+-- The local criterion: the first fault, as the facts and the looks of the old project give it.
 use Rattle.std.specs.Prelude.{◌≡◌, List, Option, None, if◌then◌else◌}
 use Rattle.rotor_base.specs.declared.place.Goal.TheVariants.{Decl}
 use Rattle.rotor_base.specs.declared.looks.Watch.{Watch}
@@ -16,7 +16,7 @@ use Rattle.capture_check.specs.Fault.{Names, IsFirstFault}
 abbrev pub would_name : Watch → List UnitTree → Names
 would_name w us d = if is_member w (Decl d) then w.new else name_of us d
 
--- the first fault that the looks tell
+-- the first fault that the looks give
 abbrev pub IsToldFault : List UnitTree → Watch → Option Fault → Type 0
 IsToldFault us w o = IsFirstFault (would_name w us) (facts us) (would_facts w (looks w us) (facts us)) o
 
@@ -24,10 +24,10 @@ IsToldFault us w o = IsFirstFault (would_name w us) (facts us) (would_facts w (l
 abbrev pub IsLocalFault : List UnitTree → Watch → Option Fault → Type 0
 IsLocalFault us w o = IsFirstFault (name_of (respell us (renaming w))) (facts us) (facts (respell us (renaming w))) o
 
--- Law: what the looks tell is the first fault of the renamed project
+-- Law: the fault that the looks give is the first fault of the renamed project
 abbrev pub LooksTellFaults : Type 0
 LooksTellFaults = (us : List UnitTree) (w : Watch) (o : Option Fault) → IsSound us → IsWatched us w → IsToldFault us w o → IsLocalFault us w o
 
--- Law: where no fault is found, the renamed project has the facts of the old one
+-- Law: if no fault is found, the renamed project has the facts of the old one
 abbrev pub NoFaultKeepsFacts : Type 0
 NoFaultKeepsFacts = (us : List UnitTree) (w : Watch) → IsSound us → IsWatched us w → IsLocalFault us w None → facts (respell us (renaming w)) ≡ facts us

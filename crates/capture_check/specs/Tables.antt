@@ -9,7 +9,7 @@ use Rattle.ml_syntax.specs.Tree.{FileTree, Body, Face, UnitTree}
 use Rattle.binding_model.specs.Scopes.{here}
 use Rattle.binding_model.specs.Renaming.{places}
 
--- the name of a place in a table, or none
+-- the name of a place in a table, or the empty name
 abbrev pub named : BTreeMap Place (List ℕ) → Place → List ℕ
 named table p = unwrap_or (get place_cmp table p) []
 

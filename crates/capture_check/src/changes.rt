@@ -30,7 +30,7 @@ pub fn first_mislink(old: &[Link], new: &[Link]) -> Option<Change>
     least
 }
 
-/// The change of one reference, where it has one.
+/// The change of one reference, if it has one.
 fn capture(old: Option<Ref>, new: Option<Ref>) -> Option<Change>
     ensures { Tells of_ref old new result }
 {
@@ -48,7 +48,7 @@ fn capture(old: Option<Ref>, new: Option<Ref>) -> Option<Change>
     }
 }
 
-/// The change of one link, where it has one.
+/// The change of one link, if it has one.
 fn mislink(old: Option<Link>, new: Option<Link>) -> Option<Change>
     ensures { Tells of_link old new result }
 {
@@ -76,7 +76,7 @@ fn earlier_change(best: Option<Change>, found: Option<Change>) -> Option<Change>
     }
 }
 
-/// The thing of a number, where there is one.
+/// The thing of a number, if there is one.
 fn thing_at<T: Copy>(list: &[T], i: usize) -> Option<T>
     ensures { result ≡ slice_get list.now i }
 {

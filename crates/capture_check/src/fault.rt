@@ -19,7 +19,7 @@ pub struct Change {
     pub would: Goal,
 }
 
-/// Two places of a group that have one name, of which `first` stands before `again`.
+/// Two places of a group that have one name; `first` is before `again`.
 #[derive(Clone, Copy, Debug)]
 pub struct Repeat {
     pub first: Place,

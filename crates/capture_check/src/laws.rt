@@ -9,7 +9,7 @@ pub fn faults_are_one()
     ensures { FaultsAreOne }
 {}
 
-/// What the looks of a project tell is the first fault of the renamed project against it.
+/// The fault that the looks of a project give is the first fault of the renamed project against it.
 pub fn looks_tell_faults()
     ensures { LooksTellFaults }
 {}

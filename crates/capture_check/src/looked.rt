@@ -87,7 +87,7 @@ fn add_link_look(table: &mut LinkTable, look: LinkLook) -> Result<(), Memory>
     Ok(())
 }
 
-/// The references of the project after a renaming, which stand at the places of the old ones.
+/// The references of the project after a renaming, at the places of the old ones.
 pub fn would_refs(
     alloc: Global,
     members: &Members,

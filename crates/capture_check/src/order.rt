@@ -3,7 +3,7 @@ ghost use Rattle.binding_model.specs.Facts.{is_before};
 
 use rotor_base::Place;
 
-/// Whether a place stands before another.
+/// Whether a place is before another.
 pub fn is_before(p: Place, q: Place) -> bool
     ensures { result ≡ is_before p q }
 {

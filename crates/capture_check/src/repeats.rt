@@ -1,4 +1,4 @@
-//! The first name that stands twice in a group.
+//! The first name that occurs twice in a group.
 
 ghost use Rattle.std.specs.Prelude.{◌≡◌, ◌∷◌, ℕ, List, [], IfOk, OnOk, Some, bytes_eq, if◌then◌else◌};
 ghost use Rattle.shape_core.specs.Names.{at};
@@ -44,7 +44,7 @@ fn repeat_in(alloc: Global, names: &NameTable, group: &[Place]) -> Result<Option
     Ok(least)
 }
 
-/// The name of a place, or none.
+/// The name of a place, or the empty name.
 fn name_at<'a>(names: &'a NameTable, place: Place) -> &'a [u8]
     ensures { result.now ≡ named names.now place }
 {
@@ -54,7 +54,8 @@ fn name_at<'a>(names: &'a NameTable, place: Place) -> &'a [u8]
     }
 }
 
-/// Adds a place of a name, of whose places the least is kept. The result is the repeat that it makes with that one.
+/// Adds a place of a name, and keeps the least place of the name. The result is the repeat that the place makes with
+/// the least one before.
 fn add_place(
     alloc: Global,
     seen: &mut Names<Place>,
@@ -70,7 +71,7 @@ fn add_place(
     Ok(repeat_of(before, place))
 }
 
-/// The lesser of two places, of which there may be but one.
+/// The lesser of two places, or the second if there is no first.
 fn lesser(before: Option<Place>, place: Place) -> Place
     ensures { result ≡ lesser before place }
 {

@@ -60,7 +60,7 @@ fn later(a: Option<Spot>, b: Option<Spot>) -> Option<Spot>
     }
 }
 
-/// What was found, read as a goal, or what stands for nothing.
+/// What was found, read as a goal, or `other` if nothing was found.
 fn would_find(by: Option<Place>, other: Goal, found: Option<Spot>) -> Goal
     ensures { result ≡ would_find by other found }
 {

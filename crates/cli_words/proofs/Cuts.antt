@@ -40,7 +40,7 @@ split_none c word e = by_test (nat_lt i (length word)) refl where
   by_test true g = let bad : ◌≡◌ {A = Option (List ℕ × List ℕ)} None (Some (take i word, drop (i + 1) word)) = rw g at e in cc
   by_test false g = slice_split_none (λ b. b == c) word (λ k d lt. fails_before_first (λ b. b == c) word k d (omega (arith, above i (length word) g)))
 
--- what stands before and behind a place
+-- the bytes before and behind a place
 pub cut_is : (c : ℕ) (word front rest : List ℕ) (i : ℕ) → Some i ≡ position (λ b. b == c) word → front ≡ take i word → rest ≡ drop i word
     → Some (front, take (length rest - 1) (drop 1 rest)) ≡ cut_at c word
 cut_is c word front rest i at f r =

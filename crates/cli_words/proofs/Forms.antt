@@ -92,7 +92,7 @@ module _ (b : ℕ) (bs : List ℕ) (d : ℕ) (ds : List ℕ) (h : (b == 45) ≡ 
   unfolding clap_on_literals
   rename_json_is_heard = record { taken = simp h (simp g refl); read = simp h (simp g refl) }
 
-  -- where the walk stands behind the two values
+  -- the walk behind the two values
   behind_values : walked rename_rules [] (walked rename_rules [] (walk_from nothing_held) (b ∷ bs)) (d ∷ ds) ≡ between b bs d ds
   unfolding clap_on_literals
   behind_values = simp (h, g) refl

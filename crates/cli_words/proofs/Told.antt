@@ -1,4 +1,4 @@
--- `clap` is told of a command argument by argument, and subcommand by subcommand.
+-- A command is declared to `clap` argument by argument, and subcommand by subcommand.
 use Rattle.std.proofs.Common.{◌≡◌, ◌∙◌, ◌||◌, Bool, false, Result, Ok, Err, IfOk, ap₂}
 use Rattle.clap.specs.Words.{AddsArg, AddsSubcommand, App, Rule, rule_of, with_rule, with_subcommand}
 use Rattle.clap.specs.declared.builder.arg.Arg.{Arg}

@@ -1,4 +1,4 @@
--- The command line as `clap` is told of it, and the form that it reads.
+-- The command line as it is declared to `clap`, and the form that it reads.
 use Rattle.std.specs.Prelude.{◌≡◌, List, Bool, true, false, not, ◌==◌, Option, Some, None, option_map, option_and_then, if◌then◌else◌, codes}
 use Rattle.std.specs.Str.{bytes_eq}
 use Rattle.clap.specs.Words.{App, Row, Rule, app_of, count_of, first_of, new_app, new_rule, subcommand_of, takes, with_rule, with_subcommand}
@@ -49,7 +49,7 @@ abbrev pub rotor_app : App
 rotor_app =
     above_app (above_app (above_app (above_app (above_app (above_app (above_app program_app (new_app (codes "check"))) footprint_app) rename_app) sample_app) verify_app) batch_app) (new_app (codes "recover"))
 
--- `clap` is told of this command, and of no argument that its subcommands share
+-- the command is declared as this, and declares no argument that its subcommands share
 pub record IsTold (command : Command) (app : App) : Type 0 where
   pub shape : app_of command ≡ app
   pub local : (fields_of command).has_globals ≡ false
@@ -80,7 +80,7 @@ heard met =
     else (if bytes_eq met.0 (codes "batch") then with_value (λ file. Batch file (is_used met.1 (codes "write"))) (codes "FILE") met.1
     else (if bytes_eq met.0 (codes "recover") then Some Recover else None))))))
 
--- `clap` takes the words, and then reads this form
+-- `clap` accepts the words, and then reads this form
 unfoldable pub is_taken : List Word → Bool
 is_taken words = takes rotor_app words
 

@@ -11,7 +11,7 @@ use Rattle.cli_words.specs.declared.command.Command.TheVariants.{Rename}
 abbrev pub undo_words : Word → ℕ → Word → List Word
 undo_words file n name = codes "rename" ∷ (file ++ (codes "#" ++ decimal n)) ∷ name ∷ codes "--write" ∷ []
 
--- they ask for the renaming of the declaration at that place
+-- they request the renaming of the declaration at that place
 abbrev pub UndosAreRead : Type 0
 UndosAreRead = (file name : Word) (n : ℕ) → is_source_name file ≡ true → is_value_name name ≡ true → 0 < n → n < 2 ^ 32
     → command_of (undo_words file n name) ≡ Some (Rename (At file n) name true false false)

@@ -16,7 +16,7 @@ abbrev pub number_at : List ℕ → Option ℕ
 number_at [] = None
 number_at (d ∷ ds) = if nat_le 49 d && nat_le d 57 then digits_more (d - 48) ds else None
 
--- what stands before and behind the first byte c, where there is one
+-- the bytes before and behind the first byte c, if there is one
 abbrev pub cut_at : ℕ → List ℕ → Option (List ℕ × List ℕ)
 cut_at c word = option_map (λ i. (take i word, drop (i + 1) word)) (position (λ b. b == c) word)
 

@@ -1,4 +1,4 @@
--- The forms of the words of the command line, and what they ask for.
+-- The forms of the words of the command line, and the commands that they request.
 use Rattle.std.specs.Prelude.{ℕ, List, [], ◌∷◌, Bool, true, false, ◌==◌, ◌&&◌, not, Option, Some, None, option_map, option_and_then, if◌then◌else◌, nat_le, codes}
 use Rattle.std.specs.Str.{bytes_eq}
 use Rattle.cli_words.specs.Target.{number_at, target_of}
@@ -89,7 +89,7 @@ abbrev pub asked : List Word → Option (Asked Word)
 asked [] = None
 asked (name ∷ rest) = form_of name rest
 
--- ---- what a form asks for
+-- ---- the command of a form
 
 -- a number of units: 2 to 500, in decimal without a leading zero
 abbrev pub sample_of : ℕ → Option Command
@@ -104,6 +104,6 @@ command_by (form.Verify old new) = Some (command.Verify old new)
 command_by (form.Batch file write) = Some (command.Batch file write)
 command_by form.Recover = Some command.Recover
 
--- the command of the words, where they have one of the forms
+-- the command of the words, if they have one of the forms
 abbrev pub command_of : List Word → Option Command
 command_of words = option_and_then command_by (asked words)

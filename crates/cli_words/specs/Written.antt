@@ -42,7 +42,7 @@ is_written (Verify old new) words = is_value old && is_value new && same_words w
 is_written (Batch file write) words = is_value file && same_words words (batch_words file write)
 is_written Recover words = same_words words (codes "recover" ∷ [])
 
--- a form whose values are lent
+-- a form whose values are borrowed, as a form of words
 abbrev pub in_words : Asked (Bor Word) → Asked Word
 in_words Check = Check
 in_words (Footprint target) = Footprint target.now

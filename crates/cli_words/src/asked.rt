@@ -3,7 +3,7 @@ ghost use Rattle.std.specs.Prelude.{◌≡◌, map, string_bytes};
 ghost use Rattle.cli_words.specs.Words.{is_value as is_value_word};
 ghost use Rattle.cli_words.specs.Written.{are_flags, in_words, is_renaming as is_renaming_of, is_written as is_written_in, same_words};
 
-/// What the words ask for, with the values as they stand there.
+/// The form of the words, with the values as they are written.
 #[derive(Clone, Copy, Debug)]
 pub(crate) enum Asked<T> {
     Check,

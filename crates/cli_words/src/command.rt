@@ -68,12 +68,12 @@ impl From<Memory> for WordsError {
     }
 }
 
-/// The command of the words. They are read with `clap`, and what was read is written out again and compared with
-/// them, so the one spelling of each form is taken.
+/// The command of the words. `clap` reads them, and what it read is written out again and compared with them. So no
+/// other spelling of a form is accepted.
 ///
 /// # Errors
 ///
-/// `Usage` exactly where the words have none of the forms, and `Memory`, which may always come.
+/// `Usage` exactly if the words have none of the forms, and `Memory`, which is always possible.
 pub fn read_words(alloc: Global, words: &[String]) -> Result<Command, WordsError>
     ensures ok { IfOk result (λ command. command_of (map string_bytes words.now) ≡ Some command) }
     ensures usage { result ≡ Err WordsError.Usage → command_of (map string_bytes words.now) ≡ None }
@@ -102,7 +102,7 @@ fn parsed<'a>(alloc: Global, words: &'a [String]) -> Result<ArgMatches<'a>, Word
     }
 }
 
-/// Why `clap` takes the words not.
+/// Why `clap` refuses the words.
 fn refused(error: &clap::Error) -> WordsError
     ensures { result ≡ WordsError.Usage → kind_of error.now ≢ ErrorKind.OutOfMemory }
 {
@@ -144,7 +144,7 @@ fn command_from(alloc: Global, asked: Asked<&str>) -> Result<Command, WordsError
     }
 }
 
-/// The command `sample`, where the number of units is in its range.
+/// The command `sample`, if the number of units is in its range.
 fn sample(units: &str) -> Result<Command, WordsError>
     ensures ok { IfOk result (λ command. option_and_then sample_of (number_at units.now) ≡ Some command) }
     ensures usage { result ≡ Err WordsError.Usage → option_and_then sample_of (number_at units.now) ≡ None }

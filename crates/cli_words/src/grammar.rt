@@ -1,4 +1,4 @@
-//! The command line as `clap` is told of it.
+//! The command line as it is declared to `clap`.
 ghost use Rattle.std.specs.Prelude.{◌≡◌, false, IfOk};
 ghost use Rattle.clap.specs.Words.{new_rule, rule_of};
 ghost use Rattle.cli_words.specs.Grammar.{IsTold, batch_app, flag_rule, footprint_app, program_app, rename_app, rotor_app, sample_app, verify_app};
@@ -70,7 +70,7 @@ fn batch<'a>(alloc: Global) -> Result<Command<'a>, AllocError>
         .arg(flag(alloc, "write"))
 }
 
-/// A value that stands at its place among the words.
+/// A positional argument.
 fn value<'a>(alloc: Global, id: &'a str) -> Arg<'a>
     ensures rule { rule_of result ≡ new_rule id.entry.now }
     ensures local { result.global ≡ false }

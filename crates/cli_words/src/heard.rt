@@ -7,7 +7,7 @@ ghost use Rattle.cli_words.specs.Written.{in_words};
 use crate::asked::{Asked, Flags};
 use clap::ArgMatches;
 
-/// The form that was read, where a subcommand was.
+/// The form that was read, if a subcommand was read.
 pub(crate) fn heard_in<'a>(matches: &ArgMatches<'a>) -> Option<Asked<&'a str>>
     ensures { option_map in_words result ≡ option_and_then heard (subcommand_rows_of matches.now) }
 {

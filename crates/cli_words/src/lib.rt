@@ -1,4 +1,4 @@
-//! The words of the command line, and what they ask for.
+//! The words of the command line, and the commands that they request.
 #![tactic(auto)]
 
 mod asked;

@@ -56,7 +56,7 @@ fn spot(line: &[u8], column: &[u8]) -> Option<(u32, u32)>
     Some((line, column))
 }
 
-/// What stands before and behind the first byte `mark`, where the word has one.
+/// The bytes before and behind the first byte `mark`, if the word has one.
 fn cut(word: &[u8], mark: u8) -> Option<(&[u8], &[u8])>
     ensures { option_map (λ p. (p.0.now, p.1.now)) result ≡ cut_at mark word.now }
 {

@@ -1,9 +1,9 @@
--- What stands in the first part of a list.
+-- What the first part of a list contains.
 use Rattle.std.proofs.Common.{◌≡◌, ℕ, ◌+◌, ◌<◌, ◌≤◌, ◌⊎◌, ap, sym, ◌∙◌, inl, inr, arith, List, length, get_or, Contains}
 use Rattle.std.proofs.lemmas.List.{get_or_default}
 use Rattle.std.proofs.lemmas.Bool.{cases_eq}
 
--- x stands in the list at an index below n
+-- the list has x at an index below n
 abbrev pub FoundBelow : {X : Type 0} → ℕ → List X → X → Type 0
 FoundBelow n xs x = (k : ℕ) × (k < n) × (get_or xs k x ≡ x)
 

@@ -124,7 +124,7 @@ first_is_least n links decls fixed place within is has ordered sound whole none 
             ]
           ]
 
--- where none is fixed there is no least
+-- if none is fixed, there is no least
 pub none_is_fixed : (n : ℕ) (links : List Link) (decls : List Place) (fixed : BTreeSet Place) → length decls ≤ n → ((p : Place) → IsFixed links p → contains place_cmp fixed p ≡ true)
     → NoneFixed n decls fixed → IsLeastFixed links decls None
 none_is_fixed n links decls fixed le whole none = record { member = tt; fixed = tt; least = tt; none = λ q f fix. none q (found_all n decls q le f) (whole q fix) }

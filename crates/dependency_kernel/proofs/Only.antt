@@ -72,7 +72,7 @@ same_members (p ∷ ps) (q ∷ qs) op oq pq qp =
     let rest : ps ≡ qs = same_members ps qs (tail_ordered p ps op) (tail_ordered q qs oq) (tail_within p q ps qs op e pq) (tail_within q p qs ps oq (sym e) qp) in
     ap (λ (x : Place). x ∷ ps) e ∙ ap (λ (xs : List Place). q ∷ xs) rest
 
--- the least is one
+-- there is one least
 same_least : (links : List Link) (ps : List Place) (a b : Option Place) → IsLeastFixed links ps a → IsLeastFixed links ps b → a ≡ b
 same_least links ps None None la lb = refl
 same_least links ps None (Some q) la lb = absurd (la.none q lb.member lb.fixed)

@@ -8,7 +8,7 @@ use Rattle.rotor_base.specs.Place.{place_cmp}
 use Rattle.dependency_kernel.specs.Neighbors.{HasNeighbor}
 use Rattle.rotor_base.proofs.Places.{place_found}
 
--- the place is in the list, where there is one
+-- there is a list, and the place is in it
 abbrev pub InList : Place → Option (Vec Place) → Type 0
 InList b o = IsSomeAnd o (λ list. Contains list.items b)
 
@@ -46,7 +46,7 @@ pub cond_twice : {X : Type 0} (t : Bool) (a b c : X) → cond t a (cond t b c) �
 cond_twice true a b c = refl
 cond_twice false a b c = refl
 
--- the places are those of the list that was taken out, or none where there was none
+-- the places are those of the list that was taken out, or none if there was none
 abbrev pub IsTaken : Option (Vec Place) → List Place → Type 0
 IsTaken taken places = ((list : Vec Place) × (taken ≡ Some list) × (list.items ≡ places)) ⊎ ((taken ≡ None) × (places ≡ []))
 

@@ -6,7 +6,7 @@ use Rattle.rotor_base.specs.declared.place.Link.{Link}
 use Rattle.rotor_base.specs.declared.place.Foot.{Foot}
 use Rattle.rotor_base.specs.declared.place.Goal.TheVariants.{Decl, Outside}
 
--- the link of a declaration with a declaration that meets it
+-- the link of two declarations: a is the item, and b the source
 abbrev pub link_of : Place → Place → Link
 link_of a b = record { item = Decl a; source = Decl b }
 
@@ -31,7 +31,7 @@ IsFixed links p = (link : Link) × Contains links link × IsFixedBy link p
 abbrev pub IsPinned : List Link → Place → Type 0
 IsPinned links d = (p : Place) × Path links d p × IsFixed links p
 
--- the least of some declarations that is in a link with the outside, or none where there is none
+-- the least of some declarations that is in a link with the outside, or none if there is none
 pub record IsLeastFixed (links : List Link) (decls : List Place) (answer : Option Place) : Type 0 where
   pub member : IfSome answer (Contains decls)
   pub fixed : IfSome answer (IsFixed links)

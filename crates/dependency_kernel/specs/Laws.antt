@@ -16,7 +16,7 @@ HasOneName =
     → IsFoot links d foot → AgreesAlong links name
     → (a b : Place) → Contains foot.decls a → Contains foot.decls b → name a ≡ name b
 
--- where old and new names agree along links, new names that change a member change all of them, to one name
+-- if old and new names agree along links, new names that change a member change all of them, to one name
 abbrev pub ChangesAll : Type 0
 ChangesAll =
     (links : List Link) (d : Place) (foot : Foot) (old new : Place → List ℕ)
@@ -24,7 +24,7 @@ ChangesAll =
     → (a : Place) → Contains foot.decls a → new a ≢ old a
     → (b : Place) → Contains foot.decls b → (new b ≢ old b) × (new b ≡ new a)
 
--- where moreover what is linked with the outside keeps its name, and the footprint touches the outside, no member changes
+-- if what is linked with the outside keeps its name too, and the footprint touches the outside, no member changes
 abbrev pub FixedStays : Type 0
 FixedStays =
     (links : List Link) (d : Place) (foot : Foot) (old new : Place → List ℕ)
@@ -32,7 +32,7 @@ FixedStays =
     → ((p : Place) → IsFixed links p → new p ≡ old p) → IsSome foot.outside
     → (b : Place) → Contains foot.decls b → new b ≡ old b
 
--- a footprint touches the outside exactly where its declaration is pinned
+-- a footprint touches the outside exactly if its declaration is pinned
 abbrev pub TellsPinned : Type 0
 TellsPinned = (links : List Link) (d : Place) (foot : Foot) → IsFoot links d foot → IsSome foot.outside ↔ IsPinned links d
 

@@ -12,9 +12,9 @@ mod reached;
 use rotor_base::{Facts, Foot, Memory, Place, Row};
 use std::alloc::Global;
 
-/// The footprint of the declaration at `d`: the declarations that are reached from it along links in either
-/// direction, both of whose ends are declarations, in order of places; and the least of them that is in a link
-/// with the outside where there is one. `Memory` is the only error.
+/// The footprint of the declaration at `d`. It has the declarations that are reached from `d` along links between
+/// declarations, in either direction, in order of places. It names the least of them that is in a link with the
+/// outside, if there is one. `Memory` is the only error.
 pub fn footprint(alloc: Global, facts: &Facts, d: Place) -> Result<Foot, Memory>
     ensures foot { IfOk result (λ foot. IsFoot facts.now.links d foot) }
 {
@@ -27,17 +27,17 @@ pub fn footprint(alloc: Global, facts: &Facts, d: Place) -> Result<Foot, Memory>
     })
 }
 
-/// Law: names that agree along links give a footprint one name. So new names that agree along links and change one
-/// of its declarations change all of them, to one name; and where one of them is linked with the outside and what
-/// is linked with the outside keeps its name, they change none.
+/// Law: names that agree along links give a footprint one name. So new names that agree along links and change one of
+/// its declarations change all of them, to one name. If one of them is linked with the outside, and what is linked with
+/// the outside keeps its name, they change none.
 pub fn footprints_are_least()
     ensures name { HasOneName }
     ensures all { ChangesAll }
     ensures fixed { FixedStays }
 {}
 
-/// Law: links and a declaration have one footprint, and it names a declaration that the outside fixes exactly where
-/// one is reached.
+/// Law: links and a declaration have one footprint, and it names a declaration that the outside fixes exactly if one is
+/// reached.
 pub fn footprints_are_one()
     ensures only { IsTheOnly }
     ensures pinned { TellsPinned }

@@ -25,7 +25,7 @@ pub fn neighbors_of(alloc: Global, links: &[Link]) -> Result<Neighbors, Memory>
     Ok(neighbors)
 }
 
-/// The two ends of a link, where both are declarations.
+/// The two ends of a link, if both are declarations.
 fn both_ends(link: &Link) -> Option<(Place, Place)>
     ensures ends { IfSome result (λ ends. link.now ≡ link_of ends.0 ends.1) }
     ensures others { IfNone result ((a b : Place) → link.now ≡ link_of a b → ⊥) }

@@ -25,7 +25,7 @@ long_enough n a b e h =
 shorter_kept : (m n : ℕ) (a b : List ℕ) → m ≤ n → take n a ≡ take n b → take m a ≡ take m b
 shorter_kept m n a b h e = sym (take-take m n a h) ∙ (ap (take m) e ∙ take-take m n b h)
 
--- what stands before a replaced span stays
+-- the bytes before a replaced span stay
 front_of_span : (from start : ℕ) (a b rest : List ℕ) → from ≤ start → start ≤ length a → take start a ≡ take start b → take from (take start a ++ rest) ≡ take from b
 front_of_span from start a b rest h k e =
     let long : from ≤ length (take start a) = omega (arith, length-take-le start a k) in
@@ -40,7 +40,7 @@ front_stays from src (edit ∷ edits) h =
     front_of_span from edit.start (replaced src edits) src (edit.text ++ drop edit.end (replaced src edits)) h.0 (omega arith)
     (shorter_kept edit.start edit.end (replaced src edits) src (omega arith) kept)
 
--- from `from` on, a replaced span comes after what is kept before it
+-- from `from` on, a replaced span follows the bytes that are kept before it
 rest_of_span : (from start : ℕ) (a b rest : List ℕ) → from ≤ start → start ≤ length a → take start a ≡ take start b → drop from (take start a ++ rest) ≡ slice_range b from start ++ rest
 rest_of_span from start a b rest h k e =
     let long : from ≤ length (take start a) = omega (arith, length-take-le start a k) in

@@ -46,7 +46,7 @@ back_from front src now from (edit ∷ edits) n h =
 pub gives_back : GivesBack
 gives_back src edits h = ap (λ (x : List ℕ). replaced x (inverse src edits)) (rest_is_pieces 0 src edits h) ∙ back_from [] src 0 0 edits refl h
 
--- the inverse edits stand in order among the pieces
+-- the inverse edits are in order among the pieces
 in_order : (src : List ℕ) (now from : ℕ) (edits : List Edit) → AreInOrder from (length src) edits → All IsSmall edits
     → AreInOrder now (now + length (pieces from src edits)) (inverse_from now from src edits)
 in_order src now from [] h small = omega arith

@@ -11,7 +11,7 @@ pub data GiveWords : List Lexeme → List (List ℕ) → List Edit → Type 0 wh
   kept : {x : Lexeme} {xs : List Lexeme} {word : List ℕ} {words : List (List ℕ)} {edits : List Edit} → word ≡ x.bytes → GiveWords xs words edits → GiveWords (x ∷ xs) (word ∷ words) edits
   changed : {x : Lexeme} {xs : List Lexeme} {word : List ℕ} {words : List (List ℕ)} {edits : List Edit} → GiveWords xs words edits → GiveWords (x ∷ xs) (word ∷ words) (record { start = x.start; end = x.end; text = word } ∷ edits)
 
--- such edits stand in order, and make the source with its lexemes respelled
+-- such edits are in order, and make the source with its lexemes respelled
 abbrev pub ReplacedIsRespelled : Type 0
 ReplacedIsRespelled =
     (src : List ℕ) (xs : List Lexeme) (words : List (List ℕ)) (edits : List Edit) → Lexed src xs → GiveWords xs words edits

@@ -16,7 +16,7 @@ HasShortText edit = length edit.text ≤ max_name_bytes
 abbrev pub with_span : List ℕ → Edit → List ℕ
 with_span src edit = take edit.start src ++ (edit.text ++ drop edit.end src)
 
--- the source with each span replaced: the last span first, so that the earlier ones still stand where they stood
+-- the source with each span replaced: the last span first, so that the earlier ones keep their offsets
 abbrev pub replaced : List ℕ → List Edit → List ℕ
 replaced src [] = src
 replaced src (edit ∷ edits) = with_span (replaced src edits) edit
@@ -26,6 +26,6 @@ abbrev pub pieces : ℕ → List ℕ → List Edit → List ℕ
 pieces from src [] = drop from src
 pieces from src (edit ∷ edits) = slice_range src from edit.start ++ (edit.text ++ pieces edit.end src edits)
 
--- replacing spans that stand in order keeps every byte outside them, in its order
+-- replacing spans that are in order keeps every byte outside them, in its order
 abbrev pub KeepsTheRest : Type 0
 KeepsTheRest = (src : List ℕ) (edits : List Edit) → AreInOrder 0 (length src) edits → replaced src edits ≡ pieces 0 src edits

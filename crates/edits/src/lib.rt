@@ -18,7 +18,7 @@ pub struct Edit {
     pub text: Name,
 }
 
-/// The source with each span replaced by its text. The spans stand in order, disjoint, not empty and within the
+/// The source with each span replaced by its text. The spans are in order, disjoint, not empty and within the
 /// source, which has at most 1,048,576 bytes; spans that touch are allowed. `Memory` is the only error.
 pub fn apply(alloc: Global, src: &[u8], list: &[Edit]) -> Result<Vec<u8>, Memory>
     requires spans { AreInOrder 0 (length src.now) list.now }
@@ -59,14 +59,14 @@ pub fn replacing_keeps_the_rest()
     ensures kept { KeepsTheRest }
 {}
 
-/// Law: the inverse edits, which put the source's own bytes back in place of the texts, give the source back; and
-/// where no text is empty and no span is longer than 255 bytes, [`apply`] takes them on the new source.
+/// Law: the inverse edits put the source's own bytes back in place of the texts, and so give the source back. If no
+/// text is empty and no span is longer than 255 bytes, [`apply`] accepts them on the new source.
 pub fn replacing_is_undone()
     ensures back { GivesBack }
     ensures fits { CanGoBack }
 {}
 
-/// Law: edits that replace the spans of lexemes by new words stand in order, and make the source with its lexemes
+/// Law: edits that replace the spans of lexemes by new words are in order, and make the source with its lexemes
 /// respelled.
 #[tactic(auto, using(crate::proofs::Lexemes::replaced_is_respelled))]
 pub fn replaced_is_respelled()

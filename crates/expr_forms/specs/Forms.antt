@@ -12,7 +12,7 @@ use Rattle.expr_forms.specs.declared.branches.Otherwise.{Otherwise as Behind}
 use Rattle.expr_forms.specs.declared.branches.Otherwise.TheVariants as behind
 use Rattle.expr_parts.specs.Rows.{branch_of}
 
--- what stands behind an `else`, as the code holds it
+-- what follows an `else`, as the code holds it
 abbrev pub otherwise_of : Behind → Otherwise
 otherwise_of (behind.Last e) = last_branch (view e.value)
 otherwise_of (behind.If b) = branch_of b

@@ -64,7 +64,7 @@ impl<
         Ok((plain(self.alloc, pat, run, equals, value)?, at))
     }
 
-    /// After a name and the parameters behind it: what it is bound to, or, where there are none, the whole from `start`
+    /// After a name and the parameters behind it: what it is bound to, or, if there are none, the whole from `start`
     /// with a pattern.
     #[tactic(auto, using(crate::proofs::Lists::bound_names))]
     #[inline(never)]

@@ -19,7 +19,7 @@ use parse_base::{ReadError, expect, is, number};
 use rotor_base::Token;
 use std::alloc::Global;
 
-/// What stands behind an `else`.
+/// What follows an `else`.
 #[derive(Drop)]
 pub enum Otherwise {
     Last(Box<Expr>),
@@ -116,7 +116,7 @@ impl<
         Ok(((found, None), at))
     }
 
-    /// The same behind a branch, where it can not take them.
+    /// The same behind a branch, if it cannot take them.
     #[inline(never)]
     pub fn rest_branches(
         &self,

@@ -109,7 +109,7 @@ impl<
         Ok((found, at))
     }
 
-    /// The cases behind the first, where it can not take them.
+    /// The cases behind the first, if it cannot take them.
     #[inline(never)]
     pub fn rest_cases(
         &self,
@@ -127,7 +127,7 @@ impl<
         self.more_cases(tokens, at)
     }
 
-    /// Cases between `|`, and whether one stands before the first.
+    /// Cases between `|`, with or without a `|` before the first.
     #[tactic(auto, unfolding(expr_reading::specs::ExprReading::all_cases))]
     #[inline(never)]
     pub fn all_cases(

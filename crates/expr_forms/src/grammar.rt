@@ -1,4 +1,4 @@
-//! What the readers of expressions are lent.
+//! The context of the readers of expressions.
 
 ghost use Rattle.std.specs.Prelude.{IfOk, IfErr, ◌≡◌, ◌≤◌, length};
 ghost use Rattle.rotor_base.specs.Limits.{max_file_bytes};
@@ -14,8 +14,8 @@ use parse_base::ReadError;
 use rotor_base::Token;
 use std::alloc::Global;
 
-/// What the readers of expressions are lent. Each takes the reader of what nests deeper from here, so that each is
-/// proved by itself.
+/// The context of the readers of expressions. The reader of what nests deeper is `sub`, so that each reader is proved
+/// by itself.
 #[derive(Clone, Copy)]
 pub struct Grammar<F> {
     pub alloc: Global,
@@ -37,7 +37,7 @@ impl<
             usize,
         ) -> Result<(Box<Expr>, usize), ReadError>,
 > Grammar<F> {
-    /// What is wanted at a place, read by what is lent, and the place after it.
+    /// What is wanted at a place, read by `sub`, and the place after it.
     #[inline(never)]
     pub fn sub(
         &self,

@@ -158,8 +158,8 @@ impl<
         }
     }
 
-    /// After the label in parentheses and its type. `first` is the place of the `~` or `?`, and `paren` is the number of
-    /// the `(`.
+    /// After the label in parentheses and its type. `first` is the place of the `~` or `?`, and `paren` is the number
+    /// of the `(`.
     #[tactic(auto, using(ml_syntax::proofs::Variants::param_views))]
     #[inline(never)]
     fn wrapped_end(
@@ -212,7 +212,7 @@ impl<
         self.wrapped_end(tokens, first, optional, paren, name, run, at)
     }
 
-    /// After the `~` or `?` at a place: what stands in parentheses.
+    /// After the `~` or `?` at a place: the part in parentheses.
     #[tactic(auto, using(crate::proofs::Lists::wrapped_by))]
     #[inline(never)]
     fn wrapped_param(

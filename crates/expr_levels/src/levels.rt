@@ -1,4 +1,5 @@
-//! The levels of expressions. A walk of its own, with little of the stack at each level, and as deep as is asked for.
+//! The levels of expressions. The walk takes little of the stack at each level, and goes no deeper than the given
+//! number of levels.
 
 ghost use Rattle.std.specs.Prelude.{◌≡◌, ◌&&◌, nat_le};
 ghost use Rattle.ml_syntax.specs.Tree as pure;
@@ -21,7 +22,7 @@ pub fn fits(expr: &Expr, levels: usize) -> bool
     levels > 0 && inside_fits(expr, levels - 1)
 }
 
-/// Whether what stands inside an expression has at most so many levels.
+/// Whether the inside of an expression has at most so many levels.
 #[cycle(levels)]
 #[tactic(auto, using(crate::proofs::Heights::within, ml_syntax::proofs::Variants::expr_views))]
 fn inside_fits(expr: &Expr, levels: usize) -> bool

@@ -16,7 +16,7 @@ pub fn pattern_fits(pat: &Pat, levels: usize) -> bool
     levels > 0 && inside_fits(pat, levels - 1)
 }
 
-/// Whether what stands inside a pattern has at most so many levels.
+/// Whether the inside of a pattern has at most so many levels.
 #[cycle(pattern_levels)]
 #[tactic(auto, using(crate::proofs::Heights::within, ml_syntax::proofs::Variants::pat_views))]
 fn inside_fits(pat: &Pat, levels: usize) -> bool

@@ -1,4 +1,4 @@
--- The right edge of an expression, where a `Vec` has its last part.
+-- The right edge of an expression whose last part is in a `Vec`.
 use Rattle.std.proofs.Common.{◌≡◌, ℕ, zero, suc, ◌-◌, ◌<◌, List, [], ◌∷◌, ◌++◌, length, Bool, true, false, Option, Some, None, refl, sym, ap, ◌∙◌, arith}
 use Rattle.std.specs.List.{slice_get}
 use Rattle.ml_syntax.specs.declared.word.Word.{Word}

@@ -1,4 +1,4 @@
--- What a loop found, as a row, and a row with what stands before it.
+-- What a loop found, as a row, and a row with the expression before it.
 use Rattle.std.proofs.Common.{◌≡◌, ℕ, ◌<◌, List, [], ◌∷◌, Bool, true, false, length, map, refl, ap, ◌∙◌, arith}
 use Rattle.ml_syntax.specs.declared.word.Word.{Word}
 use Rattle.ml_syntax.specs.declared.expression.LocalArgument.{LocalArgument}
@@ -73,7 +73,7 @@ local_nothing at = refl
 
 pub ruleset local_parts_of = (local_given, local_nothing)
 
--- ---- a row with a part is a row, and one without is what stands before it
+-- ---- a row with a part is a row, and one without is the expression before it
 
 pub chain_more : (n : ℕ) (e : pure.Expr) (xs : List (Word × Expr)) → 0 < length xs → grown_chain n e (ops xs) ≡ pure.Chain n e (ops xs)
 chain_more n e [] h = absurd (omega arith)

@@ -8,7 +8,7 @@ ghost use Rattle.expr_parts.specs.Edges.{test_of};
 
 use ml_syntax::{Case, Expr};
 
-/// What is looked for there.
+/// What is looked for on the right edge.
 #[derive(Clone, Copy, Debug, PartialEq, Eq)]
 pub enum Edge {
     /// A form of level 1.
@@ -20,7 +20,7 @@ pub enum Edge {
     Cases,
 }
 
-/// Whether it stands on the right edge.
+/// Whether the right edge has what is looked for.
 #[tactic(auto, unfolding(ml_syntax::specs::View::view))]
 #[inline(never)]
 pub fn on_edge(looked_for: Edge, expr: &Expr) -> bool

@@ -1,4 +1,4 @@
-//! A row and what stands before it, as one expression.
+//! An expression and the row behind it, as one expression.
 
 ghost use Rattle.std.specs.Prelude.{◌≡◌, ◌+◌, ◌∷◌, [], Some};
 ghost use Rattle.ml_syntax.specs.View.{view, links, commas, ops, arguments, parts};
@@ -21,7 +21,7 @@ pub fn push_boxed<T: Drop>(row: &mut Vec<T>, next: Box<T>) -> Result<(), ReadErr
     Ok(())
 }
 
-/// Expressions between `;`, and whether a last `;` stands behind them.
+/// Expressions between `;`, with or without a last `;`.
 #[tactic(auto, using(crate::proofs::Rows::grown, ml_syntax::proofs::Variants::expr_views))]
 #[inline(never)]
 pub fn grown_seq(

@@ -17,7 +17,7 @@ use parse_base::{Kind, ReadError, expect, is, kind_at, more_uppers, number, text
 use rotor_base::{Class, Token};
 use std::alloc::Global;
 
-/// A last `;`, where it may follow, and the place after it.
+/// A last `;`, if it may follow, and the place after it.
 #[inline(never)]
 pub fn semicolon_if(tokens: &[Token<'_>], may: bool, at: usize) -> (bool, usize)
     requires few { length tokens.now ≤ max_file_bytes }
@@ -32,7 +32,7 @@ pub fn semicolon_if(tokens: &[Token<'_>], may: bool, at: usize) -> (bool, usize)
     }
 }
 
-/// A `|` that may stand before the first case, and the place after it.
+/// An optional `|` before the first case, and the place after it.
 #[inline(never)]
 pub fn first_bar(tokens: &[Token<'_>], at: usize) -> (bool, usize)
     requires few { length tokens.now ≤ max_file_bytes }
@@ -44,7 +44,7 @@ pub fn first_bar(tokens: &[Token<'_>], at: usize) -> (bool, usize)
     }
 }
 
-/// A `!` that may stand behind `open`.
+/// An optional `!` behind `open`.
 #[inline(never)]
 pub fn bang(
     alloc: Global,

@@ -45,7 +45,7 @@ begins_expr (placed key.Lazy at) = true
 begins_expr (word class.Infix x) = true
 begins_expr t = begins_postfix t
 
--- the first word begins an expression; behind one that is an operator stands a word that does too
+-- the first word begins an expression; if it is an operator, the word behind it begins one too
 pub record Begins (ts : List Tok) : Type 0 where
   pub first : Tok
   pub rest : List Tok

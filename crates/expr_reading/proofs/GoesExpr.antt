@@ -47,7 +47,7 @@ pub record Begun (r : List Tok) : Type 0 where
 abbrev pub Headed : Fixed → List Tok → Type 0
 Headed k r = (ts : List Tok) × (r ≡ fixed k ∷ ts)
 
--- how the tokens r can go on with e, where e is read at level n
+-- how the tokens r can go on with e, which is read at level n
 pub data Goes (n : ℕ) (e : Expr) (r : List Tok) : Type 0 where
   by_level : Holds n r → Goes n e r
   by_form : on_edge is_form e ≡ true → Holds 0 r → Goes n e r
@@ -320,7 +320,7 @@ starts_hold ts s = subst (Holds 14) (sym s.is) (omega (arith, start_grip s.first
 pub starts_stop : (ts : List Tok) → Starts ts → Holds 15 ts → ⊥
 starts_stop ts s h = let k : 15 < grip s.first = subst (Holds 15) s.is h in omega (arith, k, start_grip s.first s.starts)
 
--- where what follows goes on with a constructor
+-- e is a constructor, and the first token goes on at level 15
 abbrev pub AtDot : Expr → List Tok → Type 0
 AtDot e r = (is_constr e ≡ true) × Holds 15 r
 

@@ -1,5 +1,5 @@
--- No expression is missed: what is read from its words and more is this expression, or goes farther, where what follows can go
--- on with it.
+-- No expression is missed: what is read from its words and more is this expression, or goes farther. It goes farther
+-- only if what follows can go on with it.
 use Rattle.std.proofs.Common.{◌≡◌, ◌≢◌, ℕ, zero, suc, ◌-◌, ◌<◌, ◌≤◌, ◌⊎◌, inl, inr, List, ◌∷◌, length, Bool, true, false, ◌==◌, Option, Some, refl, sym, ap, subst, ◌∙◌, arith}
 use Rattle.std.proofs.lemmas.Bool.Decides.{nat_tests}
 use Rattle.rotor_base.specs.declared.token.Class.TheVariants as class
@@ -22,7 +22,7 @@ use Rattle.expr_reading.proofs.ReachForms.{FormReach, let_reach, let_open_reach,
 use Rattle.expr_reading.proofs.ReachAtoms.{row_reach, unit_read, paren_read, typed_read, coerced_read, empty_list_read, list_read, empty_begin_read, begin_read, while_read, for_read, constr_reach, opened_read, value_read, literal_read, bool_read, tag_read, prefix_reach, lone_enclosed, lone_bracket, as_postfix, postfix_reach, as_apply, apply_reach, constr_apply_reach, tag_apply_reach, assert_reach, lazy_reach}
 use Rattle.expr_reading.proofs.ReachRecords.{record_read}
 
--- a reading whose tree tells what is left
+-- a reading whose tree depends on what is left
 map_rest : {A B C D : Type 0} {t : A} {r : List Tok} {n : ℕ} {res : Option (A × List Tok)} (g : A → List Tok → B) → (C → D) → Beyond C t r n res → Beyond D (g t r) r n (res >>= λ x. Some (g x.0 x.1, x.1))
 map_rest g to (exact e) = rw e (exact refl)
 map_rest g to (farther c x e lt) = rw e (farther (to c) (g x.0 x.1, x.1) refl lt)
@@ -227,11 +227,11 @@ from_atom e lv p inside at =
     let tiers : Tiers e = λ d le o w f r len. climbs f e r (expr_then e r) 0 (as_unary f e r (omega (arith, lv)) p w (as_apply f e r (expr_then e r) (expr_starts e r (omega (arith, lv)) p w) (post w f r len))) d (omega arith) le in
     record { encloseds = inside; prefixeds = λ _. at; posts = λ _. post; tiers = tiers; seqs = λ w f r len. lone_seq e (omega (arith, lv)) tiers w f r len }
 
--- one that stands in no brackets
+-- an expression that is not in brackets
 from_bare : (e : Expr) → level e ≡ 16 → is_led e ≡ false → is_bracketed e ≡ false → (Wf e → (f : ℕ) (r : List Tok) → length (expr_then e r) ≤ suc f → prefixed_at f (expr_then e r) ≡ Some (e, r)) → Good e
 from_bare e lv p plain at = from_atom e lv p (λ h. absurd (clash h plain)) (λ w f r len. exact (at w f r len))
 
--- one in brackets
+-- an expression in brackets
 from_brackets : (e : Expr) → level e ≡ 16 → is_led e ≡ false → ((f : ℕ) (r : List Tok) → prefixed_at f (expr_then e r) ≡ enclosed_at f (expr_then e r)) → (Wf e → (f : ℕ) (r : List Tok) → length (expr_then e r) ≤ suc f → enclosed_at f (expr_then e r) ≡ Some (e, r)) → Good e
 from_brackets e lv p lone at = from_atom e lv p (λ _ w f r len. at w f r len) (λ w f r len. exact (lone f r ∙ at w f r len))
 

@@ -1,4 +1,4 @@
--- No binding, case or form of levels 1 and 2 is missed, where none of its parts is.
+-- No binding, case or form of levels 1 and 2 is missed, if none of its parts is.
 use Rattle.std.proofs.Common.{◌≡◌, ◌≢◌, ℕ, zero, suc, ◌<◌, ◌≤◌, List, [], ◌∷◌, length, Bool, true, false, not, Option, Some, None, refl, sym, ap, subst, ◌∙◌, arith, codes}
 use Rattle.std.specs.Str.{bytes_eq}
 use Rattle.std.proofs.lemmas.Slice.Eq.{bytes_eq-Decides}
@@ -122,7 +122,7 @@ module _ (f : ℕ) where
     unfolding bindings
     bindings_is ts = refl
 
-    -- bindings are read whole, where nothing goes on with the last value and no `and` follows
+    -- bindings are read whole, if nothing goes on with the last value and no `and` follows
     pub bindings_reach : (b : Binding) (bs : Bindings) → GoodBinding b → GoodBindings bs → WfBinding b → WfBindings bs → (Goes 0 (last_value b bs) r → C) → length (binding_then b (bindings_then bs r)) ≤ f
         → Reach C (b, bs) r (bindings (read_expr f) f (binding_then b (bindings_then bs r)))
     bindings_reach b no_binding g gs w ws to len =
@@ -464,7 +464,7 @@ module _ (f : ℕ) where
   part_shorter : (ts : List Tok) (x : Otherwise × List Tok) → part_at ts ≡ Some x → length x.1 < length ts
   part_shorter ts x e = (part_head ts x e).1
 
-  -- what stands behind `else`, to what it becomes
+  -- the expression behind an `else` is reached, as the last branch
   else_reach : {C : Type 0} (e : Expr) → Good e → 0 < level e → level e ≢ 2 → Wf e → (r : List Tok) → (Goes 3 e r → C) → length (expr_then e r) ≤ f → Reach C (last_branch e) r (part_at (fixed key.Else ∷ expr_then e r))
   else_reach e g lv two w r to len = as_read (last_part_is (expr_then e r) (not_if e r lv two w)) (map_read last_branch to (sub_expr e g lv w f r len))
 
@@ -472,7 +472,7 @@ module _ (f : ℕ) where
       → Reach C (if_branch at c a) r (part_at (fixed key.Else ∷ placed key.If at ∷ expr_then c (fixed key.Then ∷ expr_then a r)))
   else_if_reach at c a gc ga wc la wa r to len = as_read (if_part_is at (expr_then c (fixed key.Then ∷ expr_then a r))) (map_read (λ (x : Expr × Expr). if_branch at x.0 x.1) (λ h. h) (branch_reach c a gc ga wc la wa f r to len))
 
-  -- C: what follows goes on with the last branch, or is an `else`, where the tail has none
+  -- C: what follows goes on with the last branch; or it is an `else`, and the tail has none
   module _ (C : Type 0) (r : List Tok) where
     tail_next : (tail : Tail) → (has_else tail ≡ false → Headed key.Else r → C) → has_else tail ≡ false → (x : Otherwise × List Tok) → part_at r ≡ Some x → C × (length x.1 < length r)
     tail_next tail ends h x e = let p = part_head r x e in (ends h p.0, p.1)

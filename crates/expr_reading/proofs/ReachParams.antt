@@ -1,5 +1,5 @@
--- No expression is missed: what is read from its words and more is this expression, or goes farther. The beginning: what this
--- says of an expression at each level, and module paths, parameters and names.
+-- No expression is missed: what is read from its words and more is this expression, or goes farther. The beginning:
+-- what this says of an expression at each level, and module paths, parameters and names.
 use Rattle.std.proofs.Common.{◌≡◌, ◌≢◌, ℕ, zero, suc, ◌-◌, ◌<◌, ◌≤◌, inl, inr, List, [], ◌∷◌, ◌++◌, length, Bool, true, false, cond, Option, Some, None, refl, sym, ap, subst, ◌∙◌, arith}
 use Rattle.rotor_base.specs.declared.token.Class.{Class}
 use Rattle.rotor_base.specs.declared.token.Class.TheVariants as class
@@ -256,7 +256,7 @@ unit_ends : (at : ℕ) (k : List Tok) (x : ValueName × List Tok) → operator_a
 unit_ends at (fixed key.RightParen ∷ k) x e = absurd cc
 unit_ends at _ x e = absurd cc
 
--- where a name is read before a pattern's end, what follows it is no parameter
+-- if a name is read before a pattern's end, what follows it is no parameter
 name_first : (p : Pat) (k : List Tok) → WfPat p → NoParam k → (x : ValueName × List Tok) → value_name (pat_then p k) ≡ Some x → NoParam x.1
 name_first (AsPat p []) k w h x e = absurd (w.1 refl)
 name_first (AsPat p (y ∷ ys)) k w h x e = name_first p (names_then (y ∷ ys) k) w.3 tt x e
@@ -362,7 +362,7 @@ params_stop : (ps : Params) (k : List Tok) → WfParams ps → EndsParams k → 
 params_stop no_param k w ends h = ends_stop k ends h
 params_stop (more_param p ps) k w ends h = param_stops p (params_then ps k) w.0 h
 
--- no `type` stands here
+-- the tokens do not begin with `type`
 abbrev NotType : List Tok → Type 0
 NotType (fixed key.Type ∷ r) = ⊥
 NotType _ = Unit {0}

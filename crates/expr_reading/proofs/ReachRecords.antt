@@ -1,4 +1,4 @@
--- No record is missed, where none of its parts is.
+-- No record is missed, if none of its parts is.
 use Rattle.std.proofs.Common.{◌≡◌, ℕ, zero, suc, ◌<◌, ◌≤◌, List, [], ◌∷◌, ◌++◌, length, Bool, true, false, not, Option, Some, None, refl, sym, ap, ◌∙◌, arith}
 use Rattle.rotor_base.specs.declared.token.Class.TheVariants as class
 use Rattle.ml_syntax.specs.declared.fixed.Fixed.{Fixed}
@@ -21,7 +21,7 @@ use Rattle.expr_reading.proofs.GoesExpr.{Holds, semicolon_stops}
 use Rattle.expr_reading.proofs.ReachParams.{enclosed_at, Good, GoodMaybe, GoodField, GoodFields, sub_expr, sub_postfix, expr_exact}
 use Rattle.expr_reading.proofs.ReachAtoms.{value_read, as_postfix}
 
--- what follows a field: a `;` where one may, or the `}`
+-- what follows a field: a `;` if one may, or the `}`
 data FollowsField (x : Field) : List Tok → Type 0 where
   before_semicolon : (r : List Tok) → EndsField x → FollowsField x (fixed key.Semicolon ∷ r)
   before_brace : (r : List Tok) → FollowsField x (fixed key.RightBrace ∷ r)
@@ -121,7 +121,7 @@ last_read x fs false r w = by (ends_field (last_field x fs))
     by true = refl
     by false = refl
 
--- ---- what stands before the fields
+-- ---- the part before the fields
 
 post_value : (f : ℕ) (path : List Name) (x : Name) (k : List Tok) → (Holds 15 k → ⊥) → length (qualified_then path (word class.Lower x ∷ k)) ≤ f → read_expr f wanted.Postfix (qualified_then path (word class.Lower x ∷ k)) ≡ Some (Value path (PlainName x), k)
 unfolding read_expr

@@ -83,7 +83,7 @@ abbrev pub last_field : Field → Fields → Field
 last_field f no_field = f
 last_field f (more_field f' fs) = last_field f' fs
 
--- what stands behind an `else`
+-- what follows an `else`
 pub data Otherwise : Type 0 where
   last_branch : Expr → Otherwise
   if_branch : ℕ → Expr → Expr → Otherwise
@@ -96,7 +96,7 @@ abbrev pub branch_ends : Otherwise → Bool
 branch_ends (last_branch e) = false
 branch_ends (if_branch at c a) = no_open_if a
 
--- what stands between the parentheses after a module path
+-- what is between the parentheses after a module path
 pub data LocalPart : Type 0 where
   given_module : ℕ → LocalModule → LocalPart
   given_none : ℕ → LocalPart
@@ -131,7 +131,7 @@ constr_applied f ts o = (f, ts)
 abbrev pub semicolon_if : Bool → List Tok → Bool × List Tok
 semicolon_if b ts = if b then last_semicolon ts else (false, ts)
 
--- a `|` that may stand before the first case
+-- an optional `|` before the first case
 abbrev pub first_bar : List Tok → Bool × List Tok
 first_bar (fixed key.Bar ∷ ts) = (true, ts)
 first_bar ts = (false, ts)
@@ -249,7 +249,7 @@ module _ (sub : Wanted → Read Expr) (n : ℕ) where
   abbrev pub next_field : Read Field
   next_field ts = expect key.Semicolon ts >>= field_expr
 
-  -- a Postfix and `with` may stand before the fields
+  -- an optional Postfix and `with` before the fields
   abbrev pub base_or : List Tok → Option (Expr × List Tok) → MaybeExpr × List Tok
   base_or ts None = (no_expr, ts)
   base_or ts (Some x) = (some_expr x.0, x.1)
@@ -291,7 +291,7 @@ module _ (sub : Wanted → Read Expr) (n : ℕ) where
 
   -- ---- atoms
 
-  -- what may stand behind a module path and a `.` too
+  -- what may follow a module path and a `.` too
   unfoldable pub enclosed : Read Expr
   enclosed (word class.Lower x ∷ ts) = Some (Value [] (PlainName x), ts)
   enclosed (placed key.LeftParen at ∷ ts) = paren_expr at ts

@@ -1,4 +1,4 @@
-//! What a reading of expressions comes back to.
+//! The kinds of expressions that are read inside others.
 
 /// A kind of expression that is read inside others.
 #[derive(Clone, Copy)]

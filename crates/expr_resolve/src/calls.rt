@@ -21,8 +21,8 @@ use rotor_base::{Facts, Looks, MAX_WORK, Memory, Place, Watch};
 use shape_core::{FactError, Scope};
 use std::alloc::Global;
 
-/// The references, links and groups of an expression in its scope, and the sums after it where these are the sums before
-/// it. Of links nothing is said where the work is over its bound. The errors are `Heavy` at the first site to end that is
+/// The references, links and groups of an expression in its scope, and the sums after it if `sums` are those before it.
+/// Nothing is said of the links if the work is over its bound. The errors are `Heavy`, at the first site to end that is
 /// too heavy, and `Memory`. The scope is as it was, also after an `Err`.
 #[tactic(auto, using(crate::proofs::Told::refs_told, crate::proofs::Told::links_told, crate::proofs::Told::groups_told, crate::proofs::Told::sums_told, crate::proofs::Told::light_told, crate::proofs::Told::heavy_told))]
 pub fn expr_refs(
@@ -52,8 +52,8 @@ pub fn expr_refs(
 }
 
 /// What the look-ups of the old or of the new name find in an expression, and would find after the renaming. The links
-/// are numbered from 0. `Memory` is the only error; it comes where there is none, and where the work of the expression is
-/// over its bound. The scope is as it was, also after an `Err`.
+/// are numbered from 0. `Memory` is the only error: there is no memory, or the work of the expression is over its
+/// bound. The scope is as it was, also after an `Err`.
 #[tactic(auto, using(crate::proofs::Told::looks_told))]
 pub fn expr_looks(
     alloc: Global,

@@ -557,7 +557,7 @@ fn binding(
     }
 }
 
-/// Parameters, each in the scope of those before it. The scope goes on with them; after an `Err` it begins as it was.
+/// Parameters, each in the scope of those before it. The scope goes on with them; after an `Err` its old entries stay.
 #[cycle(expressions)]
 #[tactic(auto, using(crate::proofs::Fronts::front_of_front, resolve_base::proofs::Lemmas::scopes_joined, binding_model::proofs::Takings::heavy_stays))]
 fn parameters(
@@ -580,7 +580,7 @@ fn parameters(
     Ok(())
 }
 
-/// A parameter, whose variables are the answer: its default value does not see them.
+/// A parameter. The result is its variables, which its default value does not see.
 #[cycle(expressions)]
 #[tactic(auto, using(ml_syntax::proofs::Variants::param_views, binding_model::proofs::Takings::heavy_stays))]
 fn parameter(
@@ -657,7 +657,7 @@ fn guarded(
     expression(alloc, found, file, &part.body, scope)
 }
 
-/// A part of a `let` with these values: it sees them where the `let` is recursive. The scope is as it was, also after an
+/// A part of a `let` with these values: it sees them if the `let` is recursive. The scope is as it was, also after an
 /// `Err`, as for [`expression`].
 #[cycle(expressions)]
 #[tactic(auto, using(crate::proofs::Fronts::front_of_front, binding_model::proofs::Takings::heavy_stays))]
@@ -685,7 +685,7 @@ pub fn let_part(
     }
 }
 
-/// The same of several parts.
+/// Several parts of a `let`, as for [`let_part`].
 #[cycle(expressions)]
 #[tactic(auto, using(crate::proofs::Fronts::front_of_front, binding_model::proofs::Takings::heavy_stays))]
 pub fn let_parts(

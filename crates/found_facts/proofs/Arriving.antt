@@ -1,5 +1,5 @@
--- A resolver that went on over some steps met no heavy site and has in hand what the steps give; one that stopped names
--- the first heavy site.
+-- A resolver that went on over some steps met no heavy site and has what the steps give. One that stopped names the
+-- first heavy site.
 use Rattle.std.proofs.Common.{◌≡◌, Option, Some, None, refl, sym, ap, subst, ◌∙◌}
 use Rattle.rotor_base.specs.declared.place.Place.{Place}
 use Rattle.binding_model.specs.declared.found.Sums.{Sums}

@@ -29,7 +29,7 @@ module _ {A : Type 0} (lt : A → A → Bool) (o : IsStrictWeakOrder lt) where
   up_of [] h = tt {0}
   up_of (x ∷ xs) h = (above_of x xs (λ k p. h 0 (suc k) x (omega arith) (omega arith)), up_of xs (λ i j d p q. h (suc i) (suc j) d (omega arith) (omega arith)))
 
-  -- what is not less than a thing is not less than what that is not less than
+  -- if y is not less than x, and no thing of a list is less than y, none is less than x
   above_chain : (x y : A) (xs : List A) → lt y x ≡ false → Above y xs → Above x xs
   above_chain x y [] h a = tt {0}
   above_chain x y (z ∷ zs) h a = (o.chain z y x a.0 h, above_chain x y zs h a.1)
@@ -146,7 +146,7 @@ module _ {A : Type 0} (at : A → Place) where
   up_order [] = tt {0}
   up_order (x ∷ xs) = up_put x (in_order at xs) (up_order xs)
 
-  -- what ties with a thing stands as before
+  -- things that tie with one thing keep their order
   ties_both : (w x y : A) → ties less w x ≡ true → ties less w y ≡ true → less y x ≡ false
   ties_both w x y h k = weak.chain y w x (second (less w y) (less y w) k) (first (less w x) (less x w) h)
     where

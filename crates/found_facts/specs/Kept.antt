@@ -1,4 +1,4 @@
--- What a resolver begins with, and what a recorder has in hand at the end, in the order of places.
+-- The state of a resolver at its start, and what a recorder has at the end, in the order of places.
 use Rattle.std.specs.Prelude.{[], Option, Some, None}
 use Rattle.rotor_base.specs.declared.looks.Looks.{Looks}
 use Rattle.binding_model.specs.declared.found.Sums.{Sums}
@@ -11,6 +11,6 @@ abbrev pub looks_kept : Option Recorder → Looks
 looks_kept None = no_looks
 looks_kept (Some r) = record r.looks { refs = in_order (λ look. look.at) r.looks.refs }
 
--- what is found from some sums on
+-- the state at the start, from some sums on
 abbrev pub found_from : Sums → Found
 found_from k = record { refs = []; links = []; groups = []; sums = k; recorder = None }

@@ -1,4 +1,4 @@
-//! What a resolver begins with, and what it has found at its end.
+//! The state of a resolver at its start, and what it has found at its end.
 
 ghost use Rattle.std.specs.Prelude.{◌≡◌, IfOk};
 ghost use Rattle.binding_model.specs.Facts.{in_order};
@@ -10,7 +10,7 @@ use binding_model::{Found, Recorder, Sums};
 use rotor_base::{Facts, Looks, Memory, Place, Row};
 use std::alloc::Global;
 
-/// What a resolver has in hand at its start, with a recorder or without.
+/// The state of a resolver at its start, with a recorder or without.
 pub fn from_nothing(alloc: Global, recorder: Option<Recorder>) -> Found
     ensures { result ≡ nothing_found recorder }
 {
@@ -27,7 +27,7 @@ pub fn from_nothing(alloc: Global, recorder: Option<Recorder>) -> Found
     }
 }
 
-/// What a resolver has in hand that begins with some sums.
+/// The state of a resolver that begins with some sums.
 pub fn from_sums(alloc: Global, sums: Sums) -> Found
     ensures { result ≡ found_from sums }
 {

@@ -15,11 +15,11 @@ use Rattle.capture_check.specs.Fault.{Names, Repeats, IsLeastRepeat}
 abbrev pub HasNoRepeat : Names → List (List Place) → Type 0
 HasNoRepeat names groups = (first again : Place) → IsLeastRepeat names groups first again → ⊥
 
--- Law: then no place repeats one
+-- Law: if no least place repeats a name of its group, no place does
 abbrev pub NoLeastIsNone : Type 0
 NoLeastIsNone = (names : Names) (groups : List (List Place)) → HasNoRepeat names groups → (first again : Place) → Repeats names groups first again → ⊥
 
--- Law: and in a sound project the values of each group have names of their own
+-- Law: in a sound project whose groups repeat no name, the values of each group have names of their own
 abbrev pub NoRepeatIsApart : Type 0
 NoRepeatIsApart = (us : List UnitTree) → IsSound us → HasNoRepeat (name_of us) (facts us).groups → Each (λ es. AreNamedApart (vals es)) (groups_of (steps us))
 

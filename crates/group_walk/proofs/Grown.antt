@@ -1,4 +1,4 @@
--- The groups that are in hand after some steps.
+-- The groups that are found after some steps.
 use Rattle.std.proofs.Common.{◌≡◌, ℕ, List, [], ◌∷◌, ◌++◌, Bool, true, false, if◌then◌else◌, map, refl, sym, ap, ◌∙◌, append-nil, append_assoc, nat_le, nat_lt, ◌+◌, Result, Ok, Err}
 use Rattle.std.specs.Prelude.{OnOk}
 use Rattle.rotor_base.specs.declared.place.Place.{Place}
@@ -13,7 +13,7 @@ use Rattle.binding_model.specs.Taken.{Taken, Going, HeavyAt, taken, with_links, 
 use Rattle.ml_syntax.proofs.KeptSites.{map-both}
 use Rattle.binding_model.proofs.Takings.{heavy_stays}
 
--- what is in hand has the groups of the start and these
+-- the state has the groups of the start and these
 abbrev pub Grew : Found → List Entries → Taken → Type 0
 Grew n gs (Going m) = m.groups ≡ n.groups ++ map decls gs
 Grew n gs (HeavyAt at) = Unit {0}
@@ -94,7 +94,7 @@ pub four_grown : (g0 g1 g2 g3 g4 : List (List Place)) (a b c d : List Entries) �
 four_grown g0 g1 g2 g3 g4 a b c d h i j k =
     three_grown g1 g2 g3 g4 b c d i j k ∙ ap (λ g. g ++ map decls (b ++ (c ++ d))) h ∙ joined_groups a (b ++ (c ++ d)) g0
 
--- a fact of an answer that is a value
+-- what follows of an `Ok`
 pub on_ok : {A E : Type 0} (r : Result A E) (P Q : Type 0) → (P → Q) → OnOk r P → OnOk r Q
 on_ok (Ok x) P Q f h = f h
 on_ok (Err e) P Q f h = h

@@ -32,7 +32,7 @@ use Rattle.lexeme_laws.proofs.Tests.{same_numbers, among_passes, run_over}
 use Rattle.lexeme_laws.proofs.NumberSound.{digits_of}
 use Rattle.lexeme_laws.proofs.WordSound.{run, word_of, word_is_word, run_fits, label_starts, label_short, label_none}
 
--- this says LongName only where a long name begins
+-- this says LongName only if a long name begins
 abbrev Long : List ℕ → Piece → Type 0
 Long bytes p = p ≡ piece.LongName → LongNameBegins bytes
 

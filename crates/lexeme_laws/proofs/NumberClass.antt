@@ -1,4 +1,4 @@
--- Where an Int or a Float of the table is taken whole, it has its class.
+-- If an Int or a Float of the table is taken whole, it has its class.
 use Rattle.std.proofs.Common.{◌≡◌, ℕ, suc, ◌+◌, ◌<◌, ◌≤◌, inl, inr, List, [], ◌∷◌, ◌++◌, true, false, cond, ◌==◌, length, drop, nat_lt, refl, ap}
 use Rattle.std.proofs.Common.{sym, subst, ◌∙◌, arith, append_assoc, append-nil}
 use Rattle.std.specs.Prelude.{codes}

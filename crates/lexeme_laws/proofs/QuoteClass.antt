@@ -1,4 +1,4 @@
--- Where a Char, a Text or a Quoted of the table is taken, it has its class.
+-- If a Char, a Text or a Quoted of the table is taken, it has its class.
 use Rattle.std.proofs.Common.{◌≡◌, ℕ, List, [], ◌∷◌, ◌++◌, length, Option, Some, refl, ap, sym, ◌∙◌, append_assoc}
 use Rattle.std.specs.Prelude.{codes}
 use Rattle.std.specs.Str.{byte}

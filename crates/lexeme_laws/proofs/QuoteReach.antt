@@ -182,7 +182,7 @@ closes_here word rest =
     ∙ ap (pointwise nat_eq (quoted_close word)) (take_front (quoted_close word) rest)
     ∙ (bytes_eq-Decides (quoted_close word) (quoted_close word)).1 refl
 
--- no close here, where the bytes up to the close have none
+-- no close here, if the bytes up to the close have none
 closes_later : (word : List ℕ) (x : ℕ) (b rest : List ℕ) → length word + 2 ≤ length (x ∷ b) → starts_with nat_eq (x ∷ b) (quoted_close word) ≡ false
     → closes_quoted word ((x ∷ b) ++ rest) ≡ false
 closes_later word x b rest fits h =

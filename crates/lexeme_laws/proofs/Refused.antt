@@ -1,4 +1,4 @@
--- Where the bytes are Bad, no lexeme of the table begins, but those that the table refuses.
+-- If the bytes are Bad, no lexeme of the table begins, but those that the table refuses.
 use Rattle.std.proofs.Common.{◌≡◌, ℕ, suc, ◌+◌, ◌<◌, ◌≤◌, ◌⊎◌, inl, inr, List, [], ◌∷◌, ◌++◌, Bool, true, false, not, cond, ◌==◌, ◌&&◌, length}
 use Rattle.std.proofs.Common.{drop, take, get_or, nat_lt, Option, Some, None, refl, ap, sym, subst, ◌∙◌, arith, append_assoc, length-append}
 use Rattle.std.specs.List.{list_all}
@@ -40,7 +40,7 @@ use Rattle.lexeme_laws.proofs.NumberReach.{number_lexeme}
 use Rattle.lexeme_laws.proofs.NumberSpan.{span, int_span, float_span, number_bad}
 use Rattle.lexeme_laws.proofs.Longest.{keyword_is_word, no_char}
 
--- ---- where no trivia opens, the lexeme is Bad
+-- ---- if no trivia opens, the lexeme is Bad
 
 -- a trivia opens, or the lexeme is Bad
 bad_cond : (w o t : Bool) (c a : Option ℕ) (p : Piece) → cond w (piece.Trivia 1) (cond o (trivia c) (cond t (trivia a) p)) ≡ piece.Bad
@@ -50,7 +50,7 @@ bad_cond false true t c a p e = inl refl
 bad_cond false false true c a p e = inr (inl refl)
 bad_cond false false false c a p e = inr (inr e)
 
--- what refuses a lexeme of this length, where the lexeme is Bad
+-- what refuses a lexeme of this length, if the lexeme is Bad
 abbrev Refuses : ℕ → List ℕ → Type 0
 Refuses n bytes = lexeme_at bytes ≡ piece.Bad → IsRefused bytes n
 
@@ -258,7 +258,6 @@ operator_never false n b e =
     let wrong : ◌≡◌ {A = Piece} (piece.Lexeme (operator_of (take (1 + operator_length (drop 1 b)) b)) (1 + operator_length (drop 1 b))) piece.Bad =
     sym (operator_at_length b _ refl) ∙ e in cc
 
--- a run of operator characters is Bad only where a Label is
 -- a Label that begins with the byte
 label_of_run : (x : ℕ) (s : List ℕ) → begins_label (x ∷ s) ≡ true → label_at (x ∷ s) ≡ piece.Bad → IsRefused (x ∷ s) 1
 label_of_run x [] h e = absurd (label_short x h)
@@ -266,6 +265,7 @@ label_of_run x (y ∷ s) h e =
     let starts = label_starts x y s h in
     label_refused x y s 1 starts.0 starts.1 (omega arith) e
 
+-- a run of operator characters is Bad only if a Label is
 run_refuses : (x : ℕ) (s : List ℕ) → starts_run x ≡ true → Refuses 1 (x ∷ s)
 run_refuses x s h e =
     let at = sym (run_choice x s h) ∙ e in
@@ -342,7 +342,7 @@ some_cond : (t : Bool) (n m : ℕ) → 0 < n → 0 < m → 0 < cond t n m
 some_cond true n m one two = one
 some_cond false n m one two = two
 
--- where a Mark of one byte begins, a Mark begins
+-- if the first byte is a Mark of one byte, a Mark begins
 mark_positive : (b : List ℕ) → among "()[]{};,.:" (get_or b 0 0) ≡ true → 0 < mark_length b
 unfolding mark_length
 mark_positive b h = rw h (

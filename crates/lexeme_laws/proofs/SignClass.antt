@@ -1,4 +1,4 @@
--- Where a Prefix, an Infix or a Mark of the table is taken whole, it has its class, but an Infix may be a Mark.
+-- If a Prefix, an Infix or a Mark of the table is taken whole, it has its class, but an Infix may be a Mark.
 use Rattle.std.proofs.Common.{◌≡◌, ℕ, ◌+◌, ◌⊎◌, inl, inr, List, [], ◌∷◌, ◌++◌, Bool, true, false, not, cond, ◌==◌, ◌&&◌, length, drop, take}
 use Rattle.std.proofs.Common.{get_or, nat_lt, refl, ap, sym, ◌∙◌, arith}
 use Rattle.std.specs.List.{list_all}
@@ -199,7 +199,7 @@ pub mark_of_class : (t : Bool) (n : ℕ) (k : Class) (m : ℕ) → cond t (piece
 mark_of_class true n k m e = cc
 mark_of_class false n k m e = cc
 
--- where no operator begins, a sign is a Mark
+-- if no operator begins, a sign is a Mark
 no_operator : (b : List ℕ) (k : Class) (m : ℕ) → begins_operator b ≡ false → sign_at b ≡ piece.Lexeme k m → class.Mark ≡ k
 no_operator b k m nay e = elim (which (nat_lt 1 (mark_length b))) [
   | inl long ↦

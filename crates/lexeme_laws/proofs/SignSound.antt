@@ -53,7 +53,7 @@ front_three (x ∷ y ∷ z ∷ b) l = refl
 
 -- ---- marks
 
--- the first bytes are a mark, where there are any
+-- the first bytes are a mark, if there are any
 abbrev MarkThere : List ℕ → ℕ → Type 0
 MarkThere b n = 0 < n → (n ≤ length b) × (is_mark (take n b) ≡ true)
 

@@ -138,7 +138,7 @@ plain_tests : (b : List ℕ) (t q : Bool) → is_at "\"" 0 b ≡ t → opens_quo
 unfolding plain_part
 plain_tests b t q e f = rw (e, f) refl
 
--- a part that is skipped whole, or one byte where none begins
+-- a part that is skipped whole; if none begins, one byte
 abbrev Skips : List ℕ → ℕ → Type 0
 Skips b k = ((k ≤ length b) × IsSkipped (take k b)) ⊎ ((k ≡ 1) × IsPlain b)
 

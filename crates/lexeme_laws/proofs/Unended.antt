@@ -1,4 +1,4 @@
--- Where the bytes are Bad, no trivia, no Text and no Quoted begins.
+-- If the bytes are Bad, no trivia, no Text and no Quoted begins.
 use Rattle.std.proofs.Common.{◌≡◌, ℕ, List, ◌++◌, false, drop, take, refl, ap, sym, ◌∙◌}
 use Rattle.std.proofs.lemmas.List.{take-append-drop}
 use Rattle.ml_lexer.specs.declared.piece.Piece.{Piece}

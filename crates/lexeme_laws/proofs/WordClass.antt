@@ -1,4 +1,4 @@
--- Where a word, a TypeVar, a Tag or a Label of the table is taken whole, it has its class.
+-- If a word, a TypeVar, a Tag or a Label of the table is taken whole, it has its class.
 use Rattle.std.proofs.Common.{◌≡◌, ℕ, ◌+◌, inl, inr, List, [], ◌∷◌, ◌++◌, Bool, true, false, not, cond, ◌==◌, ◌&&◌, ◌||◌, length, drop, take}
 use Rattle.std.proofs.Common.{get_or, nat_le, None, refl, ap, sym, ◌∙◌, arith}
 use Rattle.std.specs.List.{list_all}

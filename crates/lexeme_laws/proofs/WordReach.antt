@@ -125,7 +125,7 @@ variable_reaches (x ∷ w) rest h none k m e =
     marked_reaches class.TypeVar (byte "'") w rest (and_right (among "'" x) (is_word w) h) k m
     (sym (variable_of _ (byte "'" ∷ (w ++ rest)) none') ∙ sym (quote_lexeme (w ++ rest)) ∙ moved)
 
--- a Label has the bytes of its word and its mark, and one more where a `:` follows
+-- a Label has the bytes of its word and its mark; if a `:` follows, one more
 label_reaches_at : (x y : ℕ) (w rest : List ℕ) → among "~?" x ≡ true → is_word (y ∷ w) ≡ true → (k : Class) (m : ℕ)
     → piece_at ((x ∷ y ∷ w) ++ rest) ≡ piece.Lexeme k m
     → 1 + word_length ((y ∷ w) ++ rest) + cond (is_at ":" (1 + word_length ((y ∷ w) ++ rest)) ((x ∷ y ∷ w) ++ rest)) 1 0 ≡ m

@@ -213,7 +213,7 @@ tag_fine (x ∷ y ∷ s) h k m e =
     subst (λ n. Begins k n (x ∷ y ∷ s)) parts.1
     (subst (λ c. Begins c (suc (suc (run s))) (x ∷ y ∷ s)) parts.2 (marked_row "`" x y s (is_one (byte "`") x h) parts.0))
 
--- where no Char is read, none begins
+-- if no Char is read, none begins
 pub no_char_begins : (b : List ℕ) → char_length b ≡ None → NoCharBegins b
 no_char_begins b none n fits is =
     let whole : char_length b ≡ Some (length (take n b)) = ap char_length (sym (take-append-drop n b)) ∙ char_whole (take n b) (drop n b) is in

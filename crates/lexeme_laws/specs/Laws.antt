@@ -34,7 +34,7 @@ ClassesAreApart =
 
 -- ---- trivia
 
--- where a trivia of the table begins, `piece_at` takes it, and so no lexeme and no other trivia
+-- if a trivia of the table begins, `piece_at` takes it, and so no lexeme and no other trivia
 abbrev pub TriviaAreTaken : Type 0
 TriviaAreTaken = (bytes : List ℕ) (n : ℕ) → TriviaBegins n bytes → piece_at bytes ≡ piece.Trivia n
 
@@ -58,7 +58,7 @@ pub data IsRefused (bytes : List ℕ) (m : ℕ) : Type 0 where
   attribute : IsTrue (is_at "[" 0 bytes && is_at "@" 1 bytes) → IsRefused bytes m
   quoted : IsTrue (opens_quoted bytes) → IsRefused bytes m
 
--- where the bytes are Bad, each lexeme of the table that begins is refused so
+-- if the bytes are Bad, each lexeme of the table that begins is refused so
 abbrev pub BadIsRefused : Type 0
 BadIsRefused =
     (bytes : List ℕ) → piece_at bytes ≡ piece.Bad
@@ -74,7 +74,7 @@ BadDoesNotEnd =
 abbrev pub LongNamesAreLong : Type 0
 LongNamesAreLong = (bytes : List ℕ) → piece_at bytes ≡ piece.LongName → LongNameBegins bytes
 
--- where such a word begins, the bytes are a LongName
+-- if such a word begins, the bytes are a LongName
 abbrev pub LongWordsAreRefused : Type 0
 LongWordsAreRefused = (bytes : List ℕ) → LongWordBegins bytes → piece_at bytes ≡ piece.LongName
 

@@ -79,7 +79,8 @@ is_base_letter Octal c = among "oO" c
 is_base_letter Binary c = among "bB" c
 is_base_letter Decimal c = false
 
--- decimal digits and `_` after a first digit; or `0x`, `0o`, `0b` with a digit of that base and then such digits and `_`
+-- decimal digits and `_` after a first digit; or `0x`, `0o`, `0b` with a digit of that base and then such digits and
+-- `_`
 pub data AreDigits : Base → List ℕ → Type 0 where
   decimal :
       (first : ℕ) (rest : List ℕ) → IsTrue (is_digit_of Decimal first) → IsTrue (are_digits Decimal rest)
@@ -125,8 +126,8 @@ pub data IsFloat : List ℕ → Type 0 where
 
 -- ---- characters, texts and quoted texts (the manual, "Character literals" and "String literals")
 
--- `'`, one byte other than `'`, `\`, LF and CR, `'`; or `'\`, one of `\ " ' n t b r` or a space, three decimal digits, `x`
--- with two hexadecimal digits, or `o` with three octal digits, and `'`
+-- `'`, one byte other than `'`, `\`, LF and CR, `'`; or `'\`, one of `\ " ' n t b r` or a space, three decimal digits,
+-- `x` with two hexadecimal digits, or `o` with three octal digits, and `'`
 pub data IsChar : List ℕ → Type 0 where
   plain : (c : ℕ) → IsFalse (among "'\\\n\r" c) → IsChar (byte "'" ∷ c ∷ byte "'" ∷ [])
   short : (c : ℕ) → IsTrue (among "\\\"'ntbr " c) → IsChar (byte "'" ∷ byte "\\" ∷ c ∷ byte "'" ∷ [])

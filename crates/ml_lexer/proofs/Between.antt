@@ -1,4 +1,4 @@
--- Replaced names keep the lexemes, by what stands beside each.
+-- Replaced names keep the lexemes, by the lexemes beside each.
 use Rattle.std.proofs.Common.{◌≡◌, ℕ, suc, ◌+◌, inl, inr, List, [], ◌∷◌, ◌++◌, true, false, ◌==◌, length, get_or, Option, Some, None, refl, ap, sym, ◌∙◌, arith}
 use Rattle.std.specs.Str.{byte}
 use Rattle.std.proofs.lemmas.Bool.Decides.{nat_tests}
@@ -19,7 +19,8 @@ use Rattle.ml_lexer.proofs.Fronts.{piece_same, trivia_same, piece_tests, opens_f
 use Rattle.ml_lexer.proofs.Replaced.{lower_front, name_piece, name_starts, name_opens, run_of_piece, run_of_trivia}
 use Rattle.ml_lexer.proofs.Respelling.{no_still_lexeme, no_still_trivia, from_cut, skip_bytes, lexeme_of, skip_lexemes, here_bytes, here_lexemes, lone_opens, alike_words}
 
--- what stood at an offset is cut as before, is alike, and opens no Quoted behind a `{` where none opened
+-- The bytes from an offset on are cut as before, and their front is alike. Behind a `{` they open no Quoted, if they
+-- opened none before.
 record Kept (before : Option Lexeme) (at now : ℕ) (bytes bytes' : List ℕ) (lexemes : List Lexeme) : Type 0 where
   pub cut : LexedFrom now bytes' lexemes
   pub alike : Alike bytes bytes'
@@ -32,7 +33,7 @@ kept_as e f g k = rw (e, f, g) k
 bar_piece : (s : List ℕ) (n : ℕ) → piece_at (124 ∷ s) ≡ piece.Trivia n → ⊥
 bar_piece s n e = lexeme_is_no_trivia (124 ∷ s) n (sym (piece_tests (124 ∷ s) false false refl refl) ∙ e)
 
--- where `|` stands a lexeme begins with it
+-- if the bytes begin with `|`, their first lexeme does too
 bar_lexeme : {at : ℕ} {bytes : List ℕ} {olds : List Lexeme} → LexedFrom at bytes olds → get_or bytes 0 0 ≡ 124 → BarFollows at olds
 bar_lexeme lexed.nothing e = cc
 bar_lexeme (lexed.trivia [] rest e p cut) b = absurd (no_still_trivia cut (ap piece_at (sym e) ∙ p))

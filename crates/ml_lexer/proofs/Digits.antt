@@ -1,4 +1,4 @@
--- A number that ends with the front is the same whatever follows, where the first byte behind is alike.
+-- A number that ends with the front is the same whatever follows, if the first byte behind is alike.
 use Rattle.std.proofs.Common.{◌≡◌, ℕ, ◌+◌, ◌<◌, ◌≤◌, inl, inr, List, [], ◌∷◌, ◌++◌, Bool, true, false, cond, ◌==◌, ◌&&◌, ◌||◌, length, drop, get_or, nat_lt, refl, ap, sym, ◌∙◌, arith, length-drop}
 use Rattle.std.specs.Char.{is_ascii_digit, is_ascii_hexdigit}
 use Rattle.std.specs.List.{prefix_len, list_all, list_any}
@@ -291,7 +291,7 @@ number_same k q rest rest' both_end e = e
 number_same k q rest rest' (same_byte {c = c} {r = r} {r' = r'}) e = number_closed k q c r r' (number_followed k q (c ∷ r) e) e
 number_same k q rest rest' (both_words {c = c} {r = r} h h') e = let wrong : true ≡ false = sym (word_byte_is_identifier c h) ∙ number_followed k q (c ∷ r) e in cc
 
--- a number that ends with the front is one where nothing follows
+-- a number that ends with the front is one also if nothing follows
 run_alone : (p : ℕ → Bool) (q : List ℕ) (c : ℕ) (s : List ℕ) → p c ≡ false → prefix_len p (q ++ []) ≡ prefix_len p (q ++ (c ∷ s))
 run_alone p [] c s nay = rw nay refl
 run_alone p (x ∷ q) c s nay = rw (run_alone p q c s nay) refl

@@ -1,4 +1,4 @@
--- A lexeme or a trivia that ends with the front is the same whatever follows, where the first byte behind is alike.
+-- A lexeme or a trivia that ends with the front is the same whatever follows, if the first byte behind is alike.
 use Rattle.std.proofs.Common.{◌≡◌, ℕ, suc, ◌+◌, ◌<◌, ◌≤◌, ◌⊎◌, inl, inr, List, [], ◌∷◌, ◌++◌, Bool, true, false, not, cond, ◌==◌, ◌&&◌, length, get_or, Option, Some, None, refl, ap, sym, ◌∙◌, arith, append-nil}
 use Rattle.std.specs.Char.{is_ascii_digit, is_ascii_hexdigit}
 use Rattle.std.specs.List.{prefix_len}
@@ -261,7 +261,7 @@ trivia_same x f rest rest' alike e =
     cond_same (is_at "[" 0 ((x ∷ f) ++ rest) && is_at "@" 1 ((x ∷ f) ++ rest)) (λ h. ap trivia (attribute_exact (x ∷ f) rest rest' alike (trivia_some _ _ h))) (λ h. absurd (lexeme_is_no_trivia ((x ∷ f) ++ rest) (suc (length f)) h))))
     (sym (piece_tests ((x ∷ f) ++ rest) _ _ refl refl) ∙ e)
 
--- ---- a lexeme that ends with the front is one where nothing follows
+-- ---- a lexeme that ends with the front is one also if nothing follows
 
 no_third : (x y : ℕ) → fit plain_char 0 (x ∷ y ∷ []) ≡ false
 no_third x y = ap (λ v. is "'" x && v) (and_false (not (among "'\\\n\r" y))) ∙ and_false (is "'" x)

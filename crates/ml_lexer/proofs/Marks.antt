@@ -1,4 +1,4 @@
--- A mark or a sign that ends with the front is the same whatever follows, where the first byte behind is alike.
+-- A mark or a sign that ends with the front is the same whatever follows, if the first byte behind is alike.
 use Rattle.std.proofs.Common.{◌≡◌, ℕ, ◌+◌, ◌<◌, inl, inr, List, [], ◌∷◌, ◌++◌, Bool, true, false, cond, ◌==◌, ◌&&◌, length, drop, get_or, nat_lt, refl, ap, sym, ◌∙◌, arith}
 use Rattle.std.specs.Prelude.{codes}
 use Rattle.std.specs.Str.{byte}
@@ -102,7 +102,7 @@ operator_first : (b b' : List ℕ) → get_or b 0 0 ≡ get_or b' 0 0 → begins
 unfolding begins_operator
 operator_first b b' e = rw e refl
 
--- a choice is the same where both its sides are
+-- if both sides of a choice are the same, so is the choice
 pub cond_same : (t : Bool) {a a' c c' p : Piece} → (a ≡ p → a' ≡ p) → (c ≡ p → c' ≡ p) → cond t a c ≡ p → cond t a' c' ≡ p
 cond_same true f g e = f e
 cond_same false f g e = g e
@@ -157,7 +157,7 @@ sign_same k (x ∷ []) rest rest' alike e =
     ]
 sign_same k (x ∷ y ∷ f) rest rest' alike e = sign_from k (x ∷ y ∷ f) rest rest' alike (omega arith) (mark_long x y f rest rest' alike) (operator_first ((x ∷ y ∷ f) ++ rest) ((x ∷ y ∷ f) ++ rest') refl) e
 
--- a mark or a sign that ends with the front, where nothing follows
+-- a mark or a sign that ends with the front, if nothing follows
 short_choice : (t a b c d e f z : Bool) → nat_lt 1 (cond t 3 (cond a 2 (cond b 2 (cond c 2 (cond d 2 (cond e 2 (cond f 2 (cond z 1 0)))))))) ≡ false
     → ◌≡◌ {A = ℕ} (cond t 3 (cond a 2 (cond b 2 (cond c 2 (cond d 2 (cond e 2 (cond f 2 (cond z 1 0)))))))) (cond z 1 0)
 short_choice true a b c d e f z h = cc

@@ -1,4 +1,4 @@
--- The lexemes of a file are whole, stand in order, and are no more than its bytes.
+-- The lexemes of a file are whole, are in order, and are no more than its bytes.
 use Rattle.std.proofs.Common.{◌≡◌, ℕ, zero, suc, ◌+◌, ◌-◌, ◌≤◌, List, [], ◌∷◌, ◌++◌, All, length, take, drop, refl, ap, sym, subst, ◌∙◌, arith, append_assoc, length-append, length-take}
 use Rattle.std.proofs.lemmas.List.{take-append-drop}
 use Rattle.rotor_base.specs.declared.token.Token.{Token}

@@ -181,7 +181,7 @@ run_of_trivia x f rest e = elim (which (is_quoted_word_byte x)) [
   | inr y ↦ let none = run_none is_quoted_word_byte x (f ++ rest) y in omega (arith, none)
 ]
 
--- where a name opens a Quoted, a `|` follows it
+-- if a name opens a Quoted, a `|` follows it
 pub name_opens : (w rest : List ℕ) → is_value_name w ≡ true → prefix_len is_identifier_byte rest ≡ 0 → (get_or rest 0 0 == byte "|") ≡ false → opens_quoted (123 ∷ (w ++ rest)) ≡ false
 name_opens w rest e stops bar =
     let n = named w e in

@@ -28,7 +28,7 @@ lexeme_sizes kind k n m e = cc
 trivia_sizes : (n m : ℕ) → ◌≡◌ {A = Piece} (piece.Trivia n) (piece.Trivia m) → n ≡ m
 trivia_sizes n m e = cc
 
--- a cutting never stands still
+-- no cutting has an empty piece
 pub no_still_lexeme : {at : ℕ} {bytes : List ℕ} {lexemes : List Lexeme} → LexedFrom at bytes lexemes → (k : Class) → piece_at bytes ≡ piece.Lexeme k 0 → ⊥
 no_still_lexeme lexed.nothing k h = let ends = end_piece in cc
 no_still_lexeme (lexed.trivia front rest e p cut) k h = cc
@@ -111,7 +111,8 @@ here_lexemes at now kind front word olds words =
     let start : now + (at - at) ≡ now = omega arith in
     ap (λ s. lexeme_of kind s word ∷ respelled_lexemes_from (at + length front) (s + length word) olds words) start
 
--- what stood at an offset is cut as before, is alike, and opens no Quoted behind a `{` where none opened
+-- The bytes from an offset on are cut as before, and their front is alike. Behind a `{` they open no Quoted, if they
+-- opened none before.
 record Kept (whole : List ℕ) (at now : ℕ) (bytes bytes' : List ℕ) (lexemes : List Lexeme) : Type 0 where
   pub cut : LexedFrom now bytes' lexemes
   pub alike : Alike bytes bytes'
@@ -142,7 +143,7 @@ plus_zero n = omega arith
 pub lone_opens : (kind : Class) (rest : List ℕ) → piece_at (123 ∷ rest) ≡ piece.Lexeme kind 1 → opens_quoted (123 ∷ rest) ≡ true → ⊥
 lone_opens kind rest p opened = quoted_is_long kind rest 1 (lexeme_of_piece (123 ∷ rest) kind 1 p) opened (omega arith)
 
--- the Quoted that a lone `{` does not opened
+-- the Quoted that a lone `{` does not open
 lone_brace : (whole : List ℕ) (kind : Class) (at now x : ℕ) (f rest rest' : List ℕ) (lexemes : List Lexeme) → drop at whole ≡ (x ∷ f) ++ rest → piece_at ((x ∷ f) ++ rest) ≡ piece.Lexeme kind (suc (length f)) → Kept whole (at + suc (length f)) now rest rest' lexemes → x ≡ 123 → f ≡ [] → opens_quoted (123 ∷ rest') ≡ opens_quoted (123 ∷ rest)
 lone_brace whole kind at now x f rest rest' lexemes w p k is_brace empty = elim (which (opens_quoted (123 ∷ rest))) [
   | inl opened ↦ absurd (lone_opens kind rest (ap (λ g. piece_at (123 ∷ (g ++ rest))) (sym empty) ∙ ap (λ c. piece_at (c ∷ (f ++ rest))) (sym is_brace) ∙ p ∙ ap (λ g. piece.Lexeme kind (suc (length g))) empty) opened)

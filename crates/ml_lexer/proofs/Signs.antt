@@ -1,4 +1,4 @@
--- A marked word, a label, an operator or a mark that ends with the front is the same whatever follows, where the first
+-- A marked word, a label, an operator or a mark that ends with the front is the same whatever follows, if the first
 -- byte behind is alike.
 use Rattle.std.proofs.Common.{◌≡◌, ℕ, suc, ◌+◌, ◌<◌, ◌≤◌, inl, inr, List, [], ◌∷◌, ◌++◌, Bool, true, false, not, cond, ◌==◌, length, take, drop, get_or, refl, ap, sym, ◌∙◌, arith}
 use Rattle.std.specs.List.{prefix_len, list_all, list_any}
@@ -144,7 +144,7 @@ operator_same k (x ∷ f) rest rest' alike e =
     ∙ sym (operator_at_length ((x ∷ f) ++ rest) (suc (length f)) now)
     ∙ e
 
--- what ends with the front, where nothing follows
+-- what ends with the front, if nothing follows
 run_alone : (x : ℕ) (f rest : List ℕ) → word_length ((x ∷ f) ++ rest) ≡ suc (length f) → word_length ((x ∷ f) ++ []) ≡ suc (length f)
 run_alone x f rest n =
     let run : prefix_len is_identifier_byte (f ++ rest) ≡ length f = omega (arith, n) in

@@ -1,4 +1,4 @@
--- A word, a number or a mark that ends with the front is the same whatever follows, where the first byte behind is alike.
+-- A word, a number or a mark that ends with the front is the same whatever follows, if the first byte behind is alike.
 use Rattle.std.proofs.Common.{◌≡◌, ℕ, suc, ◌+◌, inl, inr, List, [], ◌∷◌, ◌++◌, Bool, true, false, cond, length, take, refl, ap, sym, ◌∙◌, arith}
 use Rattle.std.specs.List.{prefix_len}
 use Rattle.std.proofs.lemmas.Bool.Decides.{nat_tests}
@@ -52,7 +52,7 @@ word_same kind (x ∷ f) rest rest' alike e =
     ∙ sym (word_at_length ((x ∷ f) ++ rest) (suc (length f)) n)
     ∙ e
 
--- a word that ends with the front is one where nothing follows
+-- a word that ends with the front is one also if nothing follows
 pub word_alone : (kind : Class) (front rest : List ℕ) → word_at (front ++ rest) ≡ piece.Lexeme kind (length front) → word_at (front ++ []) ≡ piece.Lexeme kind (length front)
 word_alone kind [] rest e = let n = lexeme_of_cond _ _ _ _ _ (sym (word_at_length rest _ refl) ∙ e) in absurd (omega (arith, n))
 word_alone kind (x ∷ f) rest e =

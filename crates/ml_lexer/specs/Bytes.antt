@@ -10,7 +10,7 @@ use Prim.Native.String.{String}
 abbrev pub among : String → ℕ → Bool
 among characters c = list_any (λ x. x == c) (codes characters)
 
--- the byte at a place is this one; past the end stands none, which counts as the byte 0
+-- the byte at a place is this one; a place past the end counts as the byte 0
 abbrev pub is_at : String → ℕ → List ℕ → Bool
 is_at character i bytes = slice_index bytes i == byte character
 

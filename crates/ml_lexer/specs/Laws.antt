@@ -17,7 +17,7 @@ OneFault = (bytes : List ℕ) (one other : Fault) → LexFault bytes one → Lex
 abbrev pub LexedOrFault : Type 0
 LexedOrFault = (bytes : List ℕ) (lexemes : List Lexeme) (fault : Fault) → Lexed bytes lexemes → LexFault bytes fault → ⊥
 
--- a lexeme is one where nothing follows
+-- a lexeme is one also if nothing follows
 abbrev pub LexemesEndAlone : Type 0
 LexemesEndAlone = (bytes : List ℕ) (kind : Class) (n : ℕ) → n ≤ length bytes → piece_at bytes ≡ piece.Lexeme kind n → piece_at (take n bytes) ≡ piece.Lexeme kind n
 
@@ -35,7 +35,7 @@ abbrev pub AreInOrder : List ℕ → ℕ → List Lexeme → Type 0
 AreInOrder bytes low [] = low ≤ length bytes
 AreInOrder bytes low (x ∷ xs) = (low ≤ x.start) × (x.start < x.end) × (x.end ≤ length bytes) × (x.bytes ≡ take (x.end - x.start) (drop x.start bytes)) × AreInOrder bytes x.end xs
 
--- the lexemes of a file stand in order
+-- the lexemes of a file are in order
 abbrev pub LexemesAreInOrder : Type 0
 LexemesAreInOrder = (bytes : List ℕ) (lexemes : List Lexeme) → Lexed bytes lexemes → AreInOrder bytes 0 lexemes
 

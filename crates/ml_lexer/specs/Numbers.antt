@@ -53,7 +53,7 @@ begins_exponent _ c = false
 abbrev pub sign_end : List ℕ → ℕ
 sign_end bytes = if among "+-" (slice_index bytes 1) then 2 else 1
 
--- an exponent: the letter, an optional sign and one decimal digit or more; 0 where there is none
+-- an exponent: the letter, an optional sign and one decimal digit or more; if there is none, 0
 unfoldable pub exponent_length : Base → List ℕ → ℕ
 exponent_length base bytes =
     let sign = sign_end bytes in
@@ -66,7 +66,7 @@ has_floats Decimal = true
 has_floats Hexadecimal = true
 has_floats _ = false
 
--- a fraction, or an exponent, or both; 0 where there is neither
+-- a fraction, or an exponent, or both; if there is neither, 0
 unfoldable pub float_part_length : Base → List ℕ → ℕ
 float_part_length base bytes =
     let fraction = fraction_length base bytes in

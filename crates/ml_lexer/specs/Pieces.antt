@@ -15,7 +15,7 @@ use Rattle.ml_lexer.specs.Numbers.{number_at}
 use Rattle.ml_lexer.specs.Quotes.{char_length, text_length, opens_quoted, quoted_length}
 use Rattle.ml_lexer.specs.Trivia.{opens_comment, comment_length, attribute_length}
 
--- a trivia that ends, and a lexeme that ends; Bad where they do not
+-- a trivia that ends, and a lexeme that ends; if they do not, Bad
 abbrev pub trivia : Option ℕ → Piece
 trivia (Some n) = piece.Trivia n
 trivia None = piece.Bad
@@ -53,7 +53,7 @@ abbrev pub is_keyword_class : Class → Bool
 is_keyword_class class.Keyword = true
 is_keyword_class _ = false
 
--- a `~` or `?` and a word, and a `:` that follows directly; Bad where the word is a keyword or `_`
+-- a `~` or `?` and a word, and a `:` that follows directly; if the word is a keyword or `_`, Bad
 unfoldable pub label_at : List ℕ → Piece
 label_at bytes =
     let n = word_length (drop 1 bytes) in
@@ -102,7 +102,7 @@ mark_length bytes =
 abbrev pub mark_of : ℕ → Piece
 mark_of n = if nat_lt 0 n then piece.Lexeme class.Mark n else piece.Bad
 
--- where a `'` stands: a Char, or a TypeVar where no Char begins
+-- what begins with `'`: a Char; if no Char begins, a TypeVar
 abbrev pub char_or_variable : Option ℕ → List ℕ → Piece
 char_or_variable (Some n) bytes = piece.Lexeme class.Char n
 char_or_variable None bytes = marked_word_at class.TypeVar bytes

@@ -34,7 +34,7 @@ hexadecimal_escape = is "'" ∷ is "\\" ∷ is "x" ∷ is_ascii_hexdigit ∷ is_
 abbrev pub octal_escape : List (ℕ → Bool)
 octal_escape = is "'" ∷ is "\\" ∷ is "o" ∷ is_octal_digit ∷ is_octal_digit ∷ is_octal_digit ∷ is "'" ∷ []
 
--- the length of the Char that begins here, where one begins
+-- the length of the Char that begins here, if one begins
 unfoldable pub char_length : List ℕ → Option ℕ
 char_length bytes =
     if fit plain_char 0 bytes then Some 3 else
@@ -50,7 +50,7 @@ text_end n taken [] = None
 text_end n true (c ∷ bytes) = text_end (n + 1) false bytes
 text_end n false (c ∷ bytes) = if c == byte "\"" then Some (n + 1) else text_end (n + 1) (c == byte "\\") bytes
 
--- the length of the Text that begins here, where it ends
+-- the length of the Text that begins here, if it ends
 abbrev pub text_length : List ℕ → Option ℕ
 text_length bytes = text_end 1 false (drop 1 bytes)
 
@@ -71,7 +71,7 @@ unfoldable pub quoted_end : List ℕ → ℕ → List ℕ → Option ℕ
 quoted_end word n [] = None
 quoted_end word n (c ∷ bytes) = if closes_quoted word (c ∷ bytes) then Some (n + length word + 2) else quoted_end word (n + 1) bytes
 
--- the length of the Quoted that begins here, where it ends
+-- the length of the Quoted that begins here, if it ends
 unfoldable pub quoted_length : List ℕ → Option ℕ
 quoted_length bytes =
     let n = quoted_word_length bytes in

@@ -5,11 +5,11 @@ use Rattle.rotor_base.specs.Name.{is_value_name}
 use Rattle.rotor_base.specs.declared.token.Class.TheVariants as class
 use Rattle.ml_lexer.specs.Lexed.{Lexeme, Lexed}
 
--- the lexeme stands directly after a byte `{` and directly before a byte `|`
+-- the lexeme is directly after a byte `{` and directly before a byte `|`
 abbrev pub StandsInBraces : List ℕ → Lexeme → Type 0
 StandsInBraces bytes old = (before : ℕ) × (old.start ≡ suc before) × (slice_index bytes before ≡ byte "{") × (slice_index bytes old.end ≡ byte "|")
 
--- a lexeme keeps its bytes, or it is a Lower, its word becomes a value name, and it does not stand so
+-- a lexeme keeps its bytes, or it is a Lower, its word becomes a value name, and it is not between such bytes
 abbrev pub MayBecome : List ℕ → Lexeme → List ℕ → Type 0
 MayBecome bytes old word = (word ≡ old.bytes) ⊎ ((old.class ≡ class.Lower) × IsTrue (is_value_name word) × (StandsInBraces bytes old → ⊥))
 
@@ -26,7 +26,7 @@ respelled_from at bytes [] words = bytes
 respelled_from at bytes (old ∷ olds) [] = bytes
 respelled_from at bytes (old ∷ olds) (word ∷ words) = take (old.start - at) bytes ++ word ++ respelled_from old.end (drop (old.end - at) bytes) olds words
 
--- the lexemes after it: the same number and classes, the words, and the spans shifted; what stood at `at` stands at `now`
+-- the lexemes after it: the same number and classes, the words, and the spans shifted, from the offset `at` to `now`
 abbrev pub respelled_lexemes_from : ℕ → ℕ → List Lexeme → List (List ℕ) → List Lexeme
 respelled_lexemes_from at now [] words = []
 respelled_lexemes_from at now (old ∷ olds) [] = []
@@ -62,8 +62,8 @@ abbrev pub BarFollows : ℕ → List Lexeme → Type 0
 BarFollows end [] = ⊥
 BarFollows end (next ∷ rest) = (next.start ≡ end) × (slice_index next.bytes 0 ≡ byte "|")
 
--- a lexeme keeps its bytes, or it is a Lower, its word becomes a value name, and it does not stand directly between a
--- lexeme `{` and one that begins with `|`
+-- a lexeme keeps its bytes, or it is a Lower, its word becomes a value name, and it is not directly between a lexeme
+-- `{` and one that begins with `|`
 abbrev pub MayBecomeBetween : Option Lexeme → Lexeme → List Lexeme → List ℕ → Type 0
 MayBecomeBetween before old behind word = (word ≡ old.bytes) ⊎ ((old.class ≡ class.Lower) × IsTrue (is_value_name word) × (IsBehindBrace before old.start → BarFollows old.end behind → ⊥))
 

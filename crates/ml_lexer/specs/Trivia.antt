@@ -5,7 +5,7 @@ use Rattle.ml_lexer.specs.Quotes.{char_length, text_length, opens_quoted, quoted
 use Rattle.ml_lexer.specs.declared.trivia.Part.{Part}
 use Rattle.ml_lexer.specs.declared.trivia.Part.TheVariants.{Opens, Closes, Whole, Unended}
 
--- what is skipped whole, where it ends
+-- what is skipped whole, if it ends
 abbrev pub whole : Option ℕ → Part
 whole (Some n) = Whole n
 whole None = Unended
@@ -15,7 +15,7 @@ abbrev pub or_one_byte : Option ℕ → Part
 or_one_byte (Some n) = Whole n
 or_one_byte None = Whole 1
 
--- a Text, Quoted or Char whole where it begins, and one byte elsewhere
+-- a Text, Quoted or Char whole, if one begins here; else one byte
 unfoldable pub plain_part : List ℕ → Part
 plain_part bytes =
     if is_at "\"" 0 bytes then whole (text_length bytes) else
@@ -59,7 +59,7 @@ level_end part_at depth zero n (c ∷ bytes) =
     if depth_after part depth == 0 then Some (n + size_of part) else
     level_end part_at (depth_after part depth) (size_of part - 1) (n + 1) bytes
 
--- the length of the comment that begins here, where it ends
+-- the length of the comment that begins here, if it ends
 unfoldable pub comment_length : List ℕ → Option ℕ
 comment_length bytes = level_end comment_part 1 0 2 (drop 2 bytes)
 
@@ -71,7 +71,7 @@ attribute_part bytes =
     if is_at "]" 0 bytes then Closes 1 else
     plain_part bytes
 
--- the length of the attribute that begins here, where it ends
+-- the length of the attribute that begins here, if it ends
 unfoldable pub attribute_length : List ℕ → Option ℕ
 attribute_length bytes = level_end attribute_part 1 0 2 (drop 2 bytes)
 

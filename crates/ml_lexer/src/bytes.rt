@@ -20,7 +20,7 @@ pub fn after(bytes: &[u8], at: usize) -> &[u8]
     if at < bytes.len() { &bytes[at..] } else { &[] }
 }
 
-/// The first bytes, all where there are not so many.
+/// The first bytes; if there are not so many, all.
 pub fn front(bytes: &[u8], len: usize) -> &[u8]
     ensures { result.now ≡ take len bytes.now }
 {
@@ -47,14 +47,14 @@ pub fn word_len(bytes: &[u8]) -> usize
     1 + identifier_len(after(bytes, 1))
 }
 
-/// Whether a byte may stand in a word.
+/// Whether a byte is an identifier character.
 pub fn is_identifier(byte: u8) -> bool
     ensures { result ≡ is_identifier_byte byte }
 {
     byte.is_ascii_alphanumeric() || byte == b'_' || byte == b'\''
 }
 
-/// How many identifier characters stand at the front.
+/// How many identifier characters are at the front.
 pub fn identifier_len(bytes: &[u8]) -> usize
     ensures value { result ≡ identifier_length bytes.now }
     ensures within { result ≤ length bytes.now }
@@ -72,7 +72,7 @@ pub fn is_operator(byte: u8) -> bool
     b"!$%&*+-./:<=>?@^|~".contains(&byte)
 }
 
-/// How many operator characters stand at the front.
+/// How many operator characters are at the front.
 pub fn operator_len(bytes: &[u8]) -> usize
     ensures value { result ≡ operator_length bytes.now }
     ensures within { result ≤ length bytes.now }
@@ -80,7 +80,7 @@ pub fn operator_len(bytes: &[u8]) -> usize
     bytes.iter().take_while(|byte| is_operator(**byte)).count()
 }
 
-/// How many lower-case letters and `_` stand at the front.
+/// How many lower-case letters and `_` are at the front.
 pub fn quoted_word_len(bytes: &[u8]) -> usize
     ensures value { result ≡ prefix_len is_quoted_word_byte bytes.now }
     ensures within { result ≤ length bytes.now }

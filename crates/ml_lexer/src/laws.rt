@@ -22,7 +22,7 @@ pub fn lexemes_are_whole()
     ensures lexemes { LexemesAreWhole }
 {}
 
-/// The lexemes of a file stand in order, each with the bytes of its span, and are no more than its bytes.
+/// The lexemes of a file are in order, each with the bytes of its span, and are no more than the bytes of the file.
 #[tactic(auto, using(crate::proofs::Order::lexemes_are_in_order, crate::proofs::Order::lexemes_are_few))]
 pub fn lexemes_are_in_order()
     ensures order { LexemesAreInOrder }
@@ -35,7 +35,7 @@ pub fn respelled_back()
     ensures { RespelledBack }
 {}
 
-/// The same by what stands beside each name: not directly between a lexeme `{` and one that begins with `|`.
+/// The same by the lexemes beside each name: it is not directly between a lexeme `{` and one that begins with `|`.
 #[tactic(auto, using(crate::proofs::Between::names_keep_lexemes))]
 pub fn names_between()
     ensures { NamesKeepLexemes }

@@ -1,4 +1,4 @@
-//! The lexer: a file of bytes is cut into lexemes, or the first fault is told.
+//! The lexer: it cuts a file of bytes into lexemes, or returns the first fault.
 #![tactic(auto)]
 
 mod bytes;

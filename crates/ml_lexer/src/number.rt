@@ -39,7 +39,7 @@ pub fn number_at(bytes: &[u8]) -> Piece
     }
 }
 
-/// The base that the first bytes tell: `0x`, `0o` or `0b` with a digit of it, or decimal.
+/// The base that the first bytes determine: `0x`, `0o` or `0b` with a digit of it, or decimal.
 #[tactic(auto, unfolding(crate::specs::Numbers::base_of))]
 fn base_of(bytes: &[u8]) -> Base
     ensures value { result ≡ base_spec bytes.now }
@@ -56,7 +56,7 @@ fn base_of(bytes: &[u8]) -> Base
     }
 }
 
-/// Whether `0`, one of two letters and a digit of a base stand at the front.
+/// Whether `0`, one of two letters and a digit of a base are at the front.
 fn has_head(letters: &[u8], base: Base, bytes: &[u8]) -> bool
     ensures value { result ≡ (slice_index bytes.now 0 == 48 && list_any (λ x. x == slice_index bytes.now 1) letters.now && is_digit_of base (slice_index bytes.now 2)) }
     ensures within { result ≡ true → 3 ≤ length bytes.now }
@@ -79,7 +79,7 @@ fn is_digit(base: Base, byte: u8) -> bool
     }
 }
 
-/// How many bytes stand up to the first digit, with it.
+/// How many bytes there are up to the first digit, with it.
 fn head_len(base: Base) -> usize
     ensures value { result ≡ head_length base }
     ensures small { result ≤ 3 }
@@ -91,7 +91,7 @@ fn head_len(base: Base) -> usize
     }
 }
 
-/// How many digits and `_` stand at the front.
+/// How many digits and `_` are at the front.
 #[tactic(auto, unfolding(crate::specs::Numbers::digits_length))]
 fn digits_len(base: Base, bytes: &[u8]) -> usize
     ensures value { result ≡ digits_length base bytes.now }
@@ -103,7 +103,7 @@ fn digits_len(base: Base, bytes: &[u8]) -> usize
         .count()
 }
 
-/// The length of a `.` with digits and `_`, 0 where there is none.
+/// The length of a `.` with digits and `_`; if there is none, 0.
 #[tactic(auto, unfolding(crate::specs::Numbers::fraction_length))]
 fn fraction_len(base: Base, bytes: &[u8]) -> usize
     ensures value { result ≡ fraction_length base bytes.now }
@@ -140,7 +140,7 @@ fn sign_end(bytes: &[u8]) -> usize
     }
 }
 
-/// How many decimal digits stand at the front.
+/// How many decimal digits are at the front.
 fn decimal_len(bytes: &[u8]) -> usize
     ensures value { result ≡ prefix_len is_ascii_digit bytes.now }
     ensures within { result ≤ length bytes.now }
@@ -151,7 +151,7 @@ fn decimal_len(bytes: &[u8]) -> usize
         .count()
 }
 
-/// The length of an exponent, 0 where there is none.
+/// The length of an exponent; if there is none, 0.
 #[tactic(auto, unfolding(crate::specs::Numbers::exponent_length))]
 fn exponent_len(base: Base, bytes: &[u8]) -> usize
     ensures value { result ≡ exponent_length base bytes.now }
@@ -173,7 +173,7 @@ fn has_floats(base: Base) -> bool
     matches!(base, Base::Decimal | Base::Hexadecimal)
 }
 
-/// The length of a fraction, an exponent or both, 0 where there is neither.
+/// The length of a fraction, an exponent or both; if there is neither, 0.
 #[tactic(auto, unfolding(crate::specs::Numbers::float_part_length))]
 fn float_part_len(base: Base, bytes: &[u8]) -> usize
     requires few { length bytes.now ≤ 2 ^ 20 }
@@ -188,7 +188,7 @@ fn float_part_len(base: Base, bytes: &[u8]) -> usize
     }
 }
 
-/// The length of the suffix of an Int, 0 where there is none.
+/// The length of the suffix of an Int; if there is none, 0.
 fn suffix_len(bytes: &[u8]) -> usize
     ensures value { result ≡ suffix_length bytes.now }
     ensures within { result ≤ length bytes.now }
@@ -200,7 +200,7 @@ fn suffix_len(bytes: &[u8]) -> usize
     }
 }
 
-/// A number of this length, which is Bad where an identifier character follows directly.
+/// A number of this length; if an identifier character follows directly, Bad.
 fn unless_identifier_follows(class: Class, len: usize, bytes: &[u8]) -> Piece
     requires some { 0 < len }
     requires within { len ≤ length bytes.now }

@@ -21,7 +21,7 @@ pub enum Piece {
     LongName,
 }
 
-/// Trivia of this length, Bad where it does not end.
+/// Trivia of this length; if it does not end, Bad.
 fn trivia(len: Option<usize>) -> Piece
     ensures { result ≡ trivia_spec len }
 {
@@ -31,7 +31,7 @@ fn trivia(len: Option<usize>) -> Piece
     }
 }
 
-/// A lexeme of this length, Bad where it does not end.
+/// A lexeme of this length; if it does not end, Bad.
 fn ended(class: Class, len: Option<usize>) -> Piece
     ensures { result ≡ ended_spec class len }
 {
@@ -174,7 +174,7 @@ fn operator_at(bytes: &[u8]) -> Piece
     Piece::Lexeme(operator_class(front(bytes, len)), len)
 }
 
-/// The length of the Mark that begins here and is no run of operator characters, 0 where there is none.
+/// The length of the Mark that begins here and is no run of operator characters; if there is none, 0.
 #[tactic(auto, unfolding(crate::specs::Pieces::mark_length))]
 fn mark_len(bytes: &[u8]) -> usize
     ensures value { result ≡ mark_length bytes.now }
@@ -203,7 +203,7 @@ fn mark_len(bytes: &[u8]) -> usize
     }
 }
 
-/// The Char that begins here, or the TypeVar where no Char begins.
+/// The Char that begins here; if no Char begins, the TypeVar.
 fn char_or_variable(len: Option<usize>, bytes: &[u8]) -> Piece
     requires within { IfSome len (λ n. (0 < n) × (n ≤ length bytes.now)) }
     ensures value { result ≡ char_spec len bytes.now }

@@ -94,7 +94,7 @@ pub fn char_len(bytes: &[u8]) -> Option<usize>
     }
 }
 
-/// The length of the Text that begins here, where it ends.
+/// The length of the Text that begins here, if it ends.
 #[tactic(auto, using(crate::proofs::Steps::texts))]
 pub fn text_len(bytes: &[u8]) -> Option<usize>
     requires { 0 < length bytes.now }
@@ -140,7 +140,7 @@ fn closes_quoted(word: &[u8], bytes: &[u8]) -> bool
         && byte_at(bytes, 1 + word.len()) == b'}'
 }
 
-/// The length of the Quoted that begins here, where it ends.
+/// The length of the Quoted that begins here, if it ends.
 #[tactic(auto, using(crate::proofs::Steps::quoteds), unfolding(crate::specs::Quotes::quoted_length))]
 pub fn quoted_len(bytes: &[u8]) -> Option<usize>
     requires few { length bytes.now ≤ 2 ^ 20 }

@@ -11,7 +11,7 @@ use crate::piece::{Piece, piece_at};
 use rotor_base::Token;
 use std::alloc::Global;
 
-/// The lexemes of a file of at most 1,048,576 bytes, each with its class and where it stands, in order.
+/// The lexemes of a file of at most 1,048,576 bytes, each with its class and its span, in order.
 pub fn lex<'a>(alloc: Global, src: &'a [u8]) -> Result<Vec<Token<'a>>, LexError>
     requires { length src.now ≤ max_file_bytes }
     ensures found { IfOk result (λ tokens. Lexed src.now (view_tokens tokens.items)) }

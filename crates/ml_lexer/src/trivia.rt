@@ -19,7 +19,7 @@ pub enum Part {
     Unended,
 }
 
-/// What is skipped whole, where it ends.
+/// What is skipped whole, if it ends.
 fn whole(len: Option<usize>) -> Part
     ensures { result ≡ whole_spec len }
 {
@@ -29,7 +29,7 @@ fn whole(len: Option<usize>) -> Part
     }
 }
 
-/// What is skipped whole, and one byte where there is nothing.
+/// What is skipped whole; if there is nothing, one byte.
 fn or_one_byte(len: Option<usize>) -> Part
     ensures { result ≡ or_one_byte_spec len }
 {
@@ -39,7 +39,7 @@ fn or_one_byte(len: Option<usize>) -> Part
     }
 }
 
-/// A Text, Quoted or Char whole where it begins, and one byte elsewhere.
+/// A Text, Quoted or Char whole, if one begins here; else one byte.
 #[tactic(auto, unfolding(crate::specs::Trivia::plain_part))]
 fn plain_part(bytes: &[u8]) -> Part
     requires few { length bytes.now ≤ 2 ^ 20 }
@@ -81,7 +81,7 @@ fn comment_part(bytes: &[u8]) -> Part
     }
 }
 
-/// The length of the comment that begins here, where it ends.
+/// The length of the comment that begins here, if it ends.
 #[tactic(auto, using(crate::proofs::Steps::levels), unfolding(crate::specs::Trivia::comment_length))]
 pub fn comment_len(bytes: &[u8]) -> Option<usize>
     requires few { length bytes.now ≤ 2 ^ 20 }
@@ -131,7 +131,7 @@ fn attribute_part(bytes: &[u8]) -> Part
     }
 }
 
-/// The length of the attribute that begins here, where it ends.
+/// The length of the attribute that begins here, if it ends.
 #[tactic(auto, using(crate::proofs::Steps::levels), unfolding(crate::specs::Trivia::attribute_length))]
 pub fn attribute_len(bytes: &[u8]) -> Option<usize>
     requires few { length bytes.now ≤ 2 ^ 20 }

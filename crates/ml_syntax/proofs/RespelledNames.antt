@@ -114,7 +114,7 @@ brace_tok y at whole e =
 
 -- ---- the names
 
--- the words so far end with a `{` where the lexeme before is one
+-- if the lexeme before is a `{`, the words so far end with a `{`
 abbrev Ends : List Tok → Option Lexeme → Type 0
 Ends past None = Unit {0}
 Ends past (Some y) = y.bytes ≡ codes "{" → EndsInBrace past
@@ -138,7 +138,7 @@ back_same [] (p ∷ b) x y u v size e = absurd (omega (arith, size))
 back_same (p ∷ a) [] x y u v size e = absurd (omega (arith, size))
 back_same (p ∷ a) (q ∷ b) x y u v size e = back_same a b x y u v (omega (arith, size)) (tail_same p q (a ++ x ∷ u) (b ++ y ∷ v) e)
 
--- a place that stands among the words
+-- a place that is among the words
 pub record Found (ts : List Tok) (s : Site) : Type 0 where
   pub count : ℕ
   pub numbered : s.at ≡ suc count

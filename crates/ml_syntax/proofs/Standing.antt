@@ -1,4 +1,4 @@
--- The places of a well-formed tree stand among its words, in their order.
+-- The places of a well-formed tree are among its words, in their order.
 use Rattle.std.proofs.Common.{ℕ, suc, List, [], ◌∷◌, length}
 use Rattle.ml_syntax.specs.Tok.{Tok}
 use Rattle.ml_syntax.specs.Words.{words}

@@ -7,7 +7,7 @@ use Rattle.ml_syntax.specs.Tok.{Name, Tok, placed, word}
 use Rattle.ml_syntax.specs.Places.{Site, label_site, operated}
 use Rattle.ml_syntax.specs.Standing.{is_brace, is_safe, EndsInBrace, IsNamed, IsWordOf, a_name, a_label, an_equals, a_sign, a_minus, StandsAt}
 
--- and the last stands before so many words
+-- these places are among the words, in order: the first behind at least `low` words, the last among the first `high`
 abbrev pub Between : List Tok → ℕ → List Site → ℕ → Type 0
 Between ts low [] high = low ≤ high
 Between ts low (s ∷ ss) high = (count : ℕ) × (low ≤ count) × StandsAt ts count s × Between ts (suc count) ss high

@@ -36,7 +36,7 @@ operator_sites found binds (placed key.Equals at) = found ++ operated binds at (
 operator_sites found binds (word c x) = found ++ operated binds x.at x.text ∷ []
 operator_sites found binds _ = found
 
--- the place of an operator, where a word is one
+-- the place of an operator, if a word is one
 abbrev pub operated_at : Bool → ℕ → Option (List ℕ) → List Site
 operated_at binds at None = []
 operated_at binds at (Some x) = operated binds at x ∷ []
@@ -45,10 +45,11 @@ abbrev pub name_sites : List Site → Bool → ValueName → List Site
 name_sites found binds (PlainName x) = found ++ plain binds x ∷ []
 name_sites found binds (OperatorName at t) = operator_sites found binds t
 
--- the word of a label: what stands between the `~` or `?` and the colon
+-- a text without the colon at its end
 abbrev pub without_colon : List ℕ → List ℕ
 without_colon text = if has_colon text then take (length text - 1) text else text
 
+-- the word of a label: what is between the `~` or `?` and the colon
 abbrev pub label_name : List ℕ → List ℕ
 label_name text = without_colon (drop 1 text)
 

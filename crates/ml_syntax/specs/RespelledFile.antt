@@ -25,9 +25,9 @@ new_words w at (x ∷ xs) = (spelled w x.class (record { at = at; text = x.bytes
 abbrev pub RespelledTokens : Type 0
 RespelledTokens = (w : Spelling) (xs : List Lexeme) → lexeme_toks 1 (respelled_lexemes xs (new_words w 1 xs)) ≡ map (spell_tok w) (lexeme_toks 1 xs)
 
--- Where each lexeme may become its new word, the respelled bytes are cut into the respelled lexemes, the respelled tree
--- is well formed, and it has their words. That no form is refused among them and that their nesting is not over the
--- limit is all that reading them asks for besides.
+-- If each lexeme may become its new word, the respelled bytes are cut into the respelled lexemes, the respelled tree is
+-- well formed, and it has their words. Besides, reading them requires only that no form is refused among them and that
+-- their nesting is not over the limit.
 abbrev pub RespelledFilesAreRead : Type 0
 RespelledFilesAreRead =
     (w : Spelling) (t : FileTree) (bytes : List ℕ) (xs : List Lexeme) → WfFile t → Lexed bytes xs → lexeme_toks 1 xs ≡ words t → AllMayBecome bytes xs (new_words w 1 xs)
@@ -49,7 +49,7 @@ SitesMayBecome =
     (w : Spelling) (t : FileTree) (bytes : List ℕ) (xs : List Lexeme) → WfFile t → Lexed bytes xs → lexeme_toks 1 xs ≡ words t → ChangesNames w (sites t)
     → AllMayBecomeBehind None xs (new_words w 1 xs)
 
--- Where names of places alone are changed, to value names, the respelled bytes are cut into the respelled lexemes, the
+-- If names of places alone are changed, to value names, the respelled bytes are cut into the respelled lexemes, the
 -- respelled tree is well formed, and it has their words.
 abbrev pub RespelledNamesAreRead : Type 0
 RespelledNamesAreRead =

@@ -25,7 +25,7 @@ bracketing (fixed key.RightBracket) = closes key.RightBracket
 bracketing (fixed key.RightBrace) = closes key.RightBrace
 bracketing _ = neither
 
--- the words that are still to close the brackets, after one more token; none where the token may not stand there
+-- the words that are still to close the brackets, after one more token; if the token may not follow, `None`
 abbrev pub after_bracket : (Tok → Bool) → (Tok → Bool) → Tok → Bracketing → List Fixed → Option (List Fixed)
 after_bracket outside inside t (opens close) open_words = Some (close ∷ open_words)
 after_bracket outside inside t (closes close) [] = None
@@ -43,7 +43,7 @@ is_matched outside inside (Some xs) (t ∷ ts) = is_matched outside inside (afte
 
 -- ---- types
 
--- the fixed words that stand inside the brackets of a type: no `;;`, and of the keywords
+-- the fixed words that may be inside the brackets of a type: no `;;`, and of the keywords
 -- `as of mutable private type _`
 abbrev pub type_word : Fixed → Bool
 type_word key.And = false

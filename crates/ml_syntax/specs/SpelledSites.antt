@@ -12,6 +12,6 @@ IsKept w s = IsTrue (s.pun || s.operator) → w s.at s.name ≡ s.name
 abbrev pub spell_site : Spelling → Site → Site
 spell_site w s = record { binds = s.binds; at = s.at; name = w s.at s.name; pun = s.pun; operator = s.operator }
 
--- the places of a respelled tree are its places, respelled, where puns and operators are kept
+-- the places of a respelled tree are its places, respelled, if puns and operators are kept
 abbrev pub SitesAreRespelled : Type 0
 SitesAreRespelled = (w : Spelling) (t : FileTree) → Each (IsKept w) (sites t) → sites (spell_file w t) ≡ map (spell_site w) (sites t)

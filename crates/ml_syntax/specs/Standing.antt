@@ -1,4 +1,4 @@
--- Where the places of a tree stand among its words.
+-- The places of a tree among its words.
 use Rattle.std.specs.Prelude.{◌≡◌, ℕ, suc, ◌<◌, ◌≤◌, List, [], ◌∷◌, ◌++◌, Bool, true, false, not, ◌==◌, Contains, length, slice_index, codes}
 use Rattle.std.specs.Str.{byte}
 use Rattle.rotor_base.specs.declared.token.Class.{Class}
@@ -43,8 +43,8 @@ pub data IsWordOf (s : Site) : Tok → Type 0 where
   a_sign : (c : Class) (x : Name) → s.at ≡ x.at → s.name ≡ x.text → s.operator ≡ true → IsWordOf s (word c x)
   a_minus : (x : Name) → s.at ≡ x.at → s.name ≡ 126 ∷ x.text → s.operator ≡ true → IsWordOf s (word class.Infix x)
 
--- the place stands among these words, with so many before it, and where it is no operator and directly behind a `{`,
--- no word that begins with `|` is directly behind it
+-- the place is among these words, with so many before it; if it is no operator and is directly behind a `{`, no word
+-- that begins with `|` is directly behind it
 pub record StandsAt (ts : List Tok) (count : ℕ) (s : Site) : Type 0 where
   pub before : List Tok
   pub here : Tok
@@ -54,7 +54,7 @@ pub record StandsAt (ts : List Tok) (count : ℕ) (s : Site) : Type 0 where
   pub same : IsWordOf s here
   pub apart : s.operator ≡ false → EndsInBrace before → is_safe behind ≡ true
 
--- these places stand among the words, each behind the one before it, the first behind at least so many words
+-- these places are among the words, each behind the one before it, the first behind at least so many words
 abbrev pub StandFrom : List Tok → ℕ → List Site → Type 0
 StandFrom ts low [] = Unit {0}
 StandFrom ts low (s ∷ ss) = (count : ℕ) × (low ≤ count) × StandsAt ts count s × StandFrom ts (suc count) ss
@@ -86,7 +86,7 @@ SitesAreWords =
     (t : FileTree) → WfFile t → AreNumbered 1 (words t) → (s : Site) → Contains (sites t) s → s.pun ≡ false → s.operator ≡ false
     → Contains (words t) (word class.Lower (record { at = s.at; text = s.name }))
 
--- a place that is no operator does not stand directly between a `{` and a word that begins with `|`
+-- a place that is no operator is not directly between a `{` and a word that begins with `|`
 abbrev pub NoSiteOpensAQuoted : Type 0
 NoSiteOpensAQuoted =
     (t : FileTree) → WfFile t → AreNumbered 1 (words t) → (s : Site) → Contains (sites t) s → s.operator ≡ false

@@ -35,9 +35,9 @@ mutual
     ParenPat : ℕ → Pat → Pat
     TypedPat : ℕ → Pat → List Tok → Pat
     EmptyPat : ℕ → Bracket → Pat
-    -- whether a last `;` stands there
+    -- whether there is a last `;`
     ListPat : ℕ → Bracket → Pat → Pats → Bool → Pat
-    -- the token of a last `_`, and whether a last `;` stands there
+    -- the token of a last `_`, and whether there is a last `;`
     RecordPat : ℕ → PatField → PatFields → Option ℕ → Bool → Pat
     OpenedPat : List Name → ℕ → Pat → Pat
 
@@ -74,16 +74,16 @@ mutual
 
 mutual
   pub data Expr : Type 0 where
-    -- whether a last `;` stands there
+    -- whether there is a last `;`
     Seq : Expr → Links → Bool → Expr
-    -- whether `rec` stands there
+    -- whether there is a `rec`
     Let : ℕ → Bool → Binding → Bindings → Expr → Expr
     -- the tokens of `let` and `open`, and a `!`
     LetOpen : ℕ → ℕ → Option Name → List Name → Expr → Expr
     -- the tokens of `let`, `module` and `=`
     LetModule : ℕ → ℕ → Name → ℕ → LocalModule → Expr → Expr
     Fun : ℕ → Params → Expr → Expr
-    -- whether a `|` stands before the first case
+    -- whether a `|` precedes the first case
     Function : ℕ → Bool → Case → Cases → Expr
     Match : ℕ → Expr → Bool → Case → Cases → Expr
     Try : ℕ → Expr → Bool → Case → Cases → Expr
@@ -175,7 +175,7 @@ mutual
     no_param : Params
     more_param : Param → Params → Params
 
-  -- what stands after a `.`
+  -- what follows a `.`
   pub data Part : Type 0 where
     LabelPart : List Name → Name → Part
     IndexPart : ℕ → Expr → Part
@@ -201,7 +201,7 @@ pub data ModuleName : Type 0 where
   UpperName : Name → ModuleName
   AnyName : ℕ → ModuleName
 
--- a type, `=` or `:=`, whether `private` stands there, and a type
+-- a type, `=` or `:=`, whether `private` follows, and a type
 pub data Constraint : Type 0 where
   ConstraintOf : List Tok → Tok → Bool → List Tok → Constraint
 

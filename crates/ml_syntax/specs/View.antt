@@ -47,7 +47,7 @@ use Rattle.ml_syntax.specs.Tree as pure
 abbrev pub view_word : Word → Name
 view_word w = record { at = w.token; text = w.name }
 
--- a word that stands for itself: an operator, or a word of a type
+-- a word as a token: an operator, or a word of a type
 abbrev pub view_tok : Word → Tok
 view_tok w = tok w.class w.token w.name
 

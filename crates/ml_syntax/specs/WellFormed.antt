@@ -1,4 +1,4 @@
--- Which trees are well formed: what may stand where, and the rules on right edges (the OCaml manual, "Patterns",
+-- Which trees are well formed: what may occur where, and the rules on right edges (the OCaml manual, "Patterns",
 -- "Expressions", "Module types", "Module expressions" and "Compilation units").
 use Rattle.std.specs.Prelude.{◌≡◌, ◌≢◌, ℕ, ◌<◌, ◌≤◌, ◌⊎◌, List, [], ◌∷◌, Bool, true, false, ◌||◌, ◌&&◌, ◌==◌, not, Option, Some, None, if◌then◌else◌, codes, nat_le}
 use Rattle.std.specs.List.{list_any}
@@ -38,7 +38,7 @@ keyword_level text =
     if bytes_eq text (codes "lsl") || bytes_eq text (codes "lsr") || bytes_eq text (codes "asr") then 12 else
     0
 
--- what may stand between parentheses as an operator
+-- what may be in parentheses as an operator
 abbrev pub is_operator : Tok → Bool
 is_operator (placed key.Equals at) = true
 is_operator (word class.Prefix x) = true
@@ -293,7 +293,7 @@ abbrev pub is_postfix : Expr → Bool
 is_postfix (Postfix e ps) = true
 is_postfix _ = false
 
--- what stands before a `<-` is a Postfix with a part
+-- what precedes a `<-` is a Postfix with a part
 abbrev pub CanBeAssigned : Tok → Expr → Type 0
 CanBeAssigned (fixed key.LeftArrow) e = is_postfix e ≡ true
 CanBeAssigned t e = Unit {0}
@@ -310,7 +310,7 @@ is_constr (Constr path) = true
 is_constr (Prefixed x e) = is_constr e
 is_constr _ = false
 
--- what may stand after a module path and a `.`
+-- what may follow a module path and a `.`
 abbrev pub is_bracketed : Expr → Bool
 is_bracketed (UnitExpr at) = true
 is_bracketed (Paren at e) = true
@@ -539,7 +539,7 @@ abbrev mutual
   WfSignature no_type = Unit {0}
   WfSignature (some_type s) = WfModType s
 
-  -- whether an expression item may stand there
+  -- whether the item may be an expression
   pub WfItem : Bool → Item → Type 0
   WfItem fresh (ExprItem e) = (fresh ≡ true) × Wf e
   WfItem fresh SeparatorItem = Unit {0}
@@ -552,7 +552,7 @@ abbrev mutual
   WfItem fresh (OpenItem at bang path) = WfOpen bang path
   WfItem fresh (IncludeItem at m) = WfMod m
 
-  -- at the beginning and after `;;` an expression item may stand
+  -- the item at the beginning and one after `;;` may be an expression
   pub WfItems : Bool → Items → Type 0
   WfItems fresh no_item = Unit {0}
   WfItems fresh (more_item i is) = WfItem fresh i × WfItems (is_separator i) is

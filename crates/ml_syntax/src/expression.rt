@@ -1,8 +1,8 @@
 use crate::pattern::Pat;
 use crate::word::{Bracket, Path, Run, ValueName, Word};
 
-/// An expression (the manual's chapter on expressions). `at` is the token of its first word, where that word is
-/// fixed; other fixed words that have a place, as the `=` of a binding, stand under their own names.
+/// An expression (the manual's chapter on expressions). `at` is the token of its first word, if that word is fixed.
+/// Other fixed words that have a place, as the `=` of a binding, have fields of their own.
 #[cycle(expression)]
 pub enum Expr {
     /// Expressions between `;`, with or without a last `;`.
@@ -41,7 +41,7 @@ pub enum Expr {
         params: Vec<Param>,
         body: Box<Expr>,
     },
-    /// `function` with cases between `|`. `bar` says whether one stands before the first.
+    /// `function` with cases between `|`. `bar` says whether one precedes the first.
     Function {
         at: u32,
         bar: bool,

@@ -12,15 +12,15 @@ pub fn respelling_keeps_the_tree()
     ensures { RespellingKeepsTheTree }
 {}
 
-/// The places of a well-formed file stand among its words, each behind the one before it: a lower-case word, a label or
-/// an operator. Where one that is no operator stands directly behind a `{`, no word that begins with `|` is directly
-/// behind it.
+/// The places of a well-formed file are among its words, each behind the one before it: a lower-case word, a label or
+/// an operator. If one that is no operator is directly behind a `{`, no word that begins with `|` is directly behind
+/// it.
 #[tactic(auto, using(crate::proofs::Standing::sites_stand))]
 pub fn sites_stand()
     ensures { SitesStand }
 {}
 
-/// Where the words of a well-formed file are numbered from 1, the number of each place is that of its word.
+/// If the words of a well-formed file are numbered from 1, the number of each place is that of its word.
 #[tactic(auto, using(crate::proofs::Numbers::sites_are_numbered))]
 pub fn sites_are_numbered()
     ensures { SitesAreNumbered }
@@ -32,15 +32,15 @@ pub fn sites_are_ordered()
     ensures { SitesAreOrdered }
 {}
 
-/// The places of a respelled file are its places with the new words, where operators and words that are labels or
-/// fields too are kept.
+/// The places of a respelled file are its places with the new words, if operators and words that are labels or fields
+/// too are kept.
 #[tactic(auto, using(crate::proofs::SpelledSites::sites_are_respelled))]
 pub fn sites_are_respelled()
     ensures { SitesAreRespelled }
 {}
 
-/// The tokens of respelled lexemes are the tokens, respelled; and where each lexeme may become its new word, the
-/// respelled bytes are cut into them, and they are the words of the respelled tree, which is well formed.
+/// The tokens of respelled lexemes are the tokens, respelled. If each lexeme may become its new word, the respelled
+/// bytes are cut into them, and they are the words of the respelled tree, which is well formed.
 #[tactic(auto, using(crate::proofs::RespelledFile::respelled_tokens, crate::proofs::RespelledFile::respelled_files_are_read))]
 pub fn respelled_files_are_read()
     ensures tokens { RespelledTokens }
@@ -53,15 +53,15 @@ pub fn lexemes_are_numbered()
     ensures { LexemesAreNumbered }
 {}
 
-/// Where the names of places alone are changed, to value names, each lexeme may become its new word: the respelled
-/// bytes are cut into the respelled lexemes, which are the words of the respelled tree.
+/// If the names of places alone are changed, to value names, each lexeme may become its new word: the respelled bytes
+/// are cut into the respelled lexemes, which are the words of the respelled tree.
 pub fn respelled_names_are_read()
     ensures lexemes { SitesMayBecome }
     ensures files { RespelledNamesAreRead }
 {}
 
-/// A place that is no pun and no operator is a lower-case word of the file with its number and text; and one that is no
-/// operator does not stand directly between a `{` and a word that begins with `|`.
+/// A place that is no pun and no operator is a lower-case word of the file with its number and text. A place that is no
+/// operator is not directly between a `{` and a word that begins with `|`.
 pub fn sites_are_words()
     ensures words { SitesAreWords }
     ensures quoted { NoSiteOpensAQuoted }

@@ -1,8 +1,8 @@
 use crate::expression::{Binding, Expr};
 use crate::word::{Path, Run, ValueName, Word};
 
-/// A module expression (the manual's chapter on module expressions). `at` is the token of its first word, where
-/// that word is fixed.
+/// A module expression (the manual's chapter on module expressions). `at` is the token of its first word, if that word
+/// is fixed.
 #[cycle(module)]
 pub enum ModExpr {
     ModPath(Path),

@@ -9,7 +9,7 @@ abbrev pub maybe_shape : Entries → Option FileTree → Option Shape
 maybe_shape sc None = None
 maybe_shape sc (Some t) = Some (file_shape sc t)
 
--- a body and an interface: the body meets the interface
+-- a body is matched with its interface, and an interface alone is pinned
 abbrev pub joined_steps : Option Shape → Option Shape → Steps
 joined_steps None None = quiet
 joined_steps (Some body) None = quiet

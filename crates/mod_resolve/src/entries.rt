@@ -14,7 +14,7 @@ use rotor_base::{Memory, Name};
 use shape_core::{Shared, SharedEntry};
 use std::alloc::Global;
 
-/// What an item adds to its structure and to the scope behind it, and what it opens in the scope alone.
+/// What an item adds to its structure and to the scope after it, and what it opens in the scope alone.
 #[derive(Drop)]
 pub struct Added {
     pub shown: Vec<SharedEntry>,

@@ -77,7 +77,8 @@ pub fn no_param(alloc: Global, found: &mut Found, file: u32, paren: u32) -> Resu
     }
 }
 
-/// Matches a module with its signature, if there is one, and gives the shape that it has then. `Memory` is the only error.
+/// Matches a module with its signature, if there is one, and returns the shape that the module then has. `Memory` is
+/// the only error.
 fn seal(
     alloc: Global,
     found: &mut Found,
@@ -116,7 +117,7 @@ pub fn module_site(
     Ok(shape)
 }
 
-/// The module type that a path names: Opaque where it names none. `Memory` is the only error.
+/// The module type that a path names: Opaque if it names none. `Memory` is the only error.
 pub fn type_at(alloc: Global, path: &[Word], scope: &Scope) -> Result<Shared, Memory>
     ensures { IfOk result (λ shape. shape ≡ type_under (Struct (entries_of scope.now)) (texts (view_words path.now))) }
 {
@@ -136,7 +137,7 @@ fn type_in_scope<'a>(path: &[Word], scope: &'a Scope) -> Option<&'a Shared>
     }
 }
 
-/// The module type of a name in the module at the end of a path, or in the scope where there is no path.
+/// The module type of a name in the module at the end of a path, or in the scope if there is no path.
 #[tactic(auto, using(crate::proofs::Types::type_alone, crate::proofs::Types::type_behind_so))]
 fn type_behind<'a>(front: &[Word], last: &Word, scope: &'a Scope) -> Option<&'a Shared>
     ensures { or_value (option_copied result) Opaque ≡ type_under (Struct (entries_of scope.now)) (texts (view_words (front.now ++ last.now ∷ []))) }

@@ -27,8 +27,8 @@ use rotor_base::Place;
 use shape_core::{FactError, Scope, Shared, SharedEntry, bring, make_functor, make_struct};
 use std::alloc::Global;
 
-/// The shape of a module expression in its scope, which is as it was after an `Ok`. `Heavy` at the first site that is too
-/// heavy, or `Memory`. It takes stack at each level of the module.
+/// The shape of a module expression in its scope. After an `Ok` the scope is as it was. The errors are `Heavy`, at the
+/// first site that is too heavy, and `Memory`. It takes stack at each level of the module.
 #[cycle(modules)]
 #[tactic(auto, using(ml_syntax::proofs::Variants::mod_expr_views, crate::proofs::Parameters::given_so, expr_resolve::proofs::Fronts::front_of_front, binding_model::proofs::Takings::heavy_stays))]
 pub fn module(
@@ -135,8 +135,8 @@ fn application(
     Ok(applied(alloc, function)?)
 }
 
-/// Parameters of a functor, each in the scope of those before it, with the shapes of those that have one. The scope goes
-/// on with them.
+/// Parameters of a functor, each in the scope of those before it, with the shapes of those that have one. The scope
+/// goes on with them.
 #[cycle(modules)]
 #[tactic(auto, using(resolve_base::proofs::Lemmas::scopes_joined, expr_resolve::proofs::Fronts::front_of_front, crate::proofs::Parameters::given_so, binding_model::proofs::Takings::heavy_stays))]
 fn functor_params(
@@ -294,7 +294,7 @@ pub fn structure(
     Ok(entries)
 }
 
-/// The same; the scope goes on with them and with what is opened.
+/// The entries of a structure. The scope goes on with them and with what the items open.
 #[cycle(modules)]
 #[tactic(auto, using(resolve_base::proofs::Lemmas::scopes_joined, expr_resolve::proofs::Fronts::front_of_front, binding_model::proofs::Takings::heavy_stays))]
 fn all_items(
@@ -341,7 +341,7 @@ pub fn signature(
     Ok(entries)
 }
 
-/// The same; the scope goes on with them and with what is opened.
+/// The entries of a signature. The scope goes on with them and with what the items open.
 #[cycle(modules)]
 #[tactic(auto, using(resolve_base::proofs::Lemmas::scopes_joined, expr_resolve::proofs::Fronts::front_of_front, binding_model::proofs::Takings::heavy_stays))]
 fn all_sig_items(

@@ -49,7 +49,7 @@ fn file(
     }
 }
 
-/// The same, if there is one.
+/// The shape of a file, if there is one, in the scope of the units before it.
 #[tactic(auto, using(binding_model::proofs::Takings::heavy_stays))]
 fn optional_file(
     alloc: Global,
@@ -88,7 +88,8 @@ fn unit_parts(
     Ok(Parts { body, face })
 }
 
-/// A body meets its interface, and an interface alone comes from the outside. `Memory` is the only error.
+/// Matches a body with its interface, and pins an interface alone. The result is the unit's shape. `Memory` is the only
+/// error.
 fn joined(alloc: Global, found: &mut Found, parts: Parts) -> Result<Shared, Memory>
     ensures taken { OnOk result (taken (Going found.old) (joined_steps parts.body parts.face) ≡ Going found.new) }
     ensures shape { IfOk result (λ shape. shape ≡ joined_shape parts.body parts.face) }
@@ -106,7 +107,7 @@ fn joined(alloc: Global, found: &mut Found, parts: Parts) -> Result<Shared, Memo
     }
 }
 
-/// A body, if there is one, meets an interface; an interface alone comes from the outside. `Memory` is the only error.
+/// Matches a body, if there is one, with an interface, and pins an interface alone. `Memory` is the only error.
 fn met(alloc: Global, found: &mut Found, body: Option<Shared>, face: &Shared) -> Result<(), Memory>
     ensures { OnOk result (taken (Going found.old) (joined_steps body (Some face.now)) ≡ Going found.new) }
 {

@@ -1,5 +1,5 @@
--- Units that are resolved one after another from nothing have the facts and the looks of the project in hand, or name
--- its first heavy site.
+-- A resolver of units, one after another from nothing, has the facts and the looks of the project, or names its first
+-- heavy site.
 use Rattle.std.proofs.Common.{◌≡◌, ℕ, ◌+◌, ◌≤◌, ◌<◌, ◌||◌, List, [], ◌∷◌, ◌++◌, Bool, true, false, map, length, Option, Some, None, refl, sym, ap, subst, ◌∙◌, arith, nat_lt}
 use Rattle.std.proofs.lemmas.Bool.Decides.{leb_tells}
 use Rattle.rotor_base.specs.declared.place.Place.{Place}
@@ -48,7 +48,7 @@ rest_light : (o p : Option Place) → or_else o p ≡ None → p ≡ None
 rest_light None p h = h
 rest_light (Some at) p h = absurd cc
 
--- the last step of some, where none is heavy
+-- the last of some steps, if no site is heavy
 last_light : (n : Sums) (a : Steps) (at : Place) (s : Shape) → heavy_from n (a ⨾ WeighedSite at s) ≡ None → (sums_after n (a ⨾ WeighedSite at s)).work ≤ 4194304
 last_light n a at s h = site_light (weight s) (sums_after (sums_after n a) (WeighedSite at s)) at (rest_light (heavy_from n a) (heavy_from (sums_after n a) (WeighedSite at s)) h)
 
@@ -74,14 +74,14 @@ units_light (u ∷ us) sc n l h =
     let b = rest_light (heavy_from n (unit_steps sc u)) (heavy_from (sums_after n (unit_steps sc u)) (units_steps (after_unit sc u) us)) h in
     units_light us (after_unit sc u) (sums_after n (unit_steps sc u)) (unit_light u sc n a) b
 
--- a resolver that begins with nothing in hand, in a scope without entries
+-- a resolver that begins with nothing, in a scope without entries
 pub from_start : (r : Option Recorder) (n : Found) (s : List SharedEntry) (l us : List Unit_tree) (t : Taken) → n ≡ nothing_found r → s ≡ [] → l ≡ us
     → taken (Going n) (units_steps (entries_of s) (map view_unit l)) ≡ t → taken (Going (nothing_found r)) (steps (map view_unit us)) ≡ t
 from_start r n s l us t a b c h =
     sym (ap (λ x. taken (Going x) (steps (map view_unit us))) a) ∙ sym (ap (λ x. taken (Going n) (units_steps (entries_of x) (map view_unit us))) b)
     ∙ sym (ap (λ x. taken (Going n) (units_steps (entries_of s) (map view_unit x))) c) ∙ h
 
--- what a resolver has in hand at the end
+-- the state of a resolver at the end
 at_start : (r : Option Recorder) → Tracks no_sums (nothing_found r).sums
 at_start r = record { weight = refl; work = refl; opened = refl }
 

@@ -43,8 +43,8 @@ pub fn facts(alloc: Global, project: &Project) -> Result<Resolved, FactError>
     Ok(Resolved { facts, top })
 }
 
-/// The groups of a project, in which no name may occur twice. They depend on the trees alone, so a project has them
-/// also where it is too heavy. `Memory` is the only error.
+/// The groups of a project, in which no name may occur twice. They depend on the trees alone, so a project that is too
+/// heavy has them too. `Memory` is the only error.
 #[tactic(auto, using(crate::proofs::Resolving::groups_told))]
 pub fn groups(alloc: Global, project: &Project) -> Result<Row<Row<Place>>, Memory>
     ensures { IfOk result (λ groups. groups ≡ (facts_of (view_project project.now)).groups) }

@@ -94,7 +94,7 @@ mutual
 pub pat_front : (p : Pat) (k : List Tok) → pat_then p k ≡ pat_words p ++ k
 pat_front p k = pat_then_more p [] k
 
--- ---- what a reading tells of another tree
+-- ---- what a reading shows of another tree
 
 pub not_longer : {A : Type 0} (C : Type 0) (e e' : A) (r r' : List Tok) (o : Option (A × List Tok)) → o ≡ Some (e, r) → Reach C e' r' o → length r ≤ length r'
 not_longer {A = A} C e e' r r' o h (exact k) = let q : ◌≡◌ {A = A × List Tok} (e, r) (e', r') = some_is (sym h ∙ k) in omega (arith, ap length (ap (λ (z : A × List Tok). z.1) q))

@@ -103,7 +103,7 @@ begins_pat (placed key.Exception at) = true
 begins_pat (word c x) = true
 begins_pat _ = false
 
--- a first word that begins a pattern; behind one that is an operator stands a word with a text of its own
+-- a first word that begins a pattern; if it is an operator, the word behind it has a text of its own
 pub record Opens (ts : List Tok) : Type 0 where
   pub first : Tok
   pub rest : List Tok

@@ -1,4 +1,4 @@
--- The stack of marks, whose last mark stands last in the code and first in the rules.
+-- The stack of marks, whose last mark is last in the code and first in the rules.
 use Rattle.std.proofs.Common.{◌≡◌, ℕ, zero, suc, ◌+◌, ◌-◌, ◌<◌, ◌≤◌, List, [], ◌∷◌, ◌++◌, length, take, get_or, reverse, Bool, true, false, cond, refl, sym, ap, ◌∙◌, arith, eqb}
 use Rattle.std.proofs.lemmas.List.{reverse-append, take_more, take_all, length-reverse}
 use Rattle.std.proofs.lemmas.Bool.{eqb-true, eqb-false}
@@ -10,7 +10,7 @@ use Rattle.parse_base.specs.Nesting.{down_to, without_last, last_is, where_last,
 pub reversed_push : (xs : List Mark) (x : Mark) → reverse (xs ++ x ∷ []) ≡ x ∷ reverse xs
 reversed_push xs x = reverse-append xs (x ∷ [])
 
--- the first n marks, where one stands there
+-- the first n marks, the last of them first
 pub reversed_take : (xs : List Mark) (n : ℕ) (d : Mark) → 0 < n → n ≤ length xs → reverse (take n xs) ≡ get_or xs (n - 1) d ∷ reverse (take (n - 1) xs)
 reversed_take xs n d some le =
     let e : n ≡ n - 1 + 1 = omega arith in

@@ -43,7 +43,7 @@ operator_ok : (at : ℕ) (ts : List Tok) (x : ValueName × List Tok) → operato
 operator_ok at (t ∷ fixed key.RightParen ∷ ts) x e = operator_by at t ts x (is_operator t) refl e
 operator_ok at _ x e = absurd cc
 
--- ---- what stands behind a `(`
+-- ---- what follows a `(`
 
 module _ (sub : Read Pat) (n at : ℕ) where
   paren_closed : (t : Tok) (r : List Tok) → is_operator t ≡ true → paren_pat sub n at (t ∷ fixed key.RightParen ∷ r) ≡ Some (ValuePat (OperatorName at t), r)

@@ -1,4 +1,4 @@
--- The tokens from a place on, and what stands there.
+-- The tokens from a place on, and what is at the place.
 use Rattle.std.proofs.Common.{◌≡◌, ℕ, zero, suc, ◌+◌, ◌≤◌, ◌<◌, ◌⊎◌, inl, inr, min, List, [], ◌∷◌, length, drop, map, Bool, true, false, Option, Some, None, refl, sym, ap, ◌∙◌, arith, get_or, length-drop}
 use Rattle.std.proofs.lemmas.List.{length-map, drop_more, drop_all}
 use Rattle.std.proofs.lemmas.Bool.{eqb-false}
@@ -13,7 +13,7 @@ use Rattle.parse_base.specs.Steps.{expect, expect_at}
 use Rattle.parse_base.specs.Gives.{lexeme, from, text_at, head_text, name_at, kind_or, kind_of, Sees, IsThere, starts}
 use Rattle.parse_base.proofs.Stepping.{same_is}
 
--- the tokens from a place on, where a token stands there
+-- the tokens from a place on, if there is a token at it
 pub from_there : (ts : List Token) (at : ℕ) (t : Token) → at < length ts → from ts at ≡ tok (get_or ts at t).class (at + 1) (get_or ts at t).bytes.now ∷ from ts (at + 1)
 unfolding from
 from_there ts at t lt =

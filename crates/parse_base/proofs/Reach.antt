@@ -1,4 +1,5 @@
--- A reading reaches a tree: it gives this tree and what follows it, or it goes farther, where what follows can go on with the tree.
+-- A reading reaches a tree: it gives this tree and what follows it, or it goes farther. It goes farther only if what
+-- follows can go on with the tree.
 use Rattle.std.proofs.Common.{◌≡◌, ℕ, zero, suc, ◌<◌, ◌≤◌, ◌⊎◌, inl, inr, List, ◌∷◌, length, Bool, true, false, cond, Option, Some, None, refl, sym, ap, subst, ◌∙◌, arith}
 use Rattle.std.proofs.lemmas.Bool.Decides.{nat_tests}
 use Rattle.ml_syntax.specs.declared.fixed.Fixed.{Fixed}

@@ -71,7 +71,7 @@ module _ (f m : ℕ) (sep : Fixed) (one : Read Pat) (found : Finds m one) where
   next_head : (ts : List Tok) (x : Pat × List Tok) → next_pat (read_pat f) f sep one ts ≡ Some x → (r : List Tok) × (ts ≡ fixed sep ∷ r)
   next_head ts x e = let p = part_found (read_pat f) f (pat_found f) m sep one found ts x e in (p.0, p.1)
 
-  -- one level up, where none of this level follows
+  -- one level up, if none of this level follows
   module _ (g : ℕ) (grown : Pat → Pats → Pat) (lone : (p : Pat) → grown p no_pat ≡ p) (goes : g < grip (fixed sep)) where
     goes_by : (r : List Tok) (x : Pat × List Tok) → next_pat (read_pat f) f sep one r ≡ Some x → Goes g r
     goes_by r x e = let h = next_head r x e in subst (Goes g) (sym h.1) goes
@@ -505,8 +505,8 @@ mutual
   fields_good no_pat_field = tt
   fields_good (more_pat_field f fs) = (field_good f, fields_good fs)
 
--- what is read from a pattern's words and more: this pattern, or one that goes farther, where what follows can go on
--- with a pattern
+-- What is read from a pattern's words and more: this pattern, or one that goes farther. It goes farther only if what
+-- follows can go on with a pattern.
 pub pat_reach : (p : Pat) → WfPat p → (f : ℕ) (r : List Tok) → length (pat_then p r) ≤ f → Reach (Goes 0 r) p r (read_pat f (pat_then p r))
 pat_reach p w f r len = sub_hits p (pat_good p) w f r len
 

@@ -20,7 +20,7 @@ dot_shorter : (ts : List Tok) (x : Name × List Tok) → dot_upper ts ≡ Some x
 dot_shorter (fixed key.Dot ∷ word class.Upper y ∷ ts) x e = from_some (λ (z : Name × List Tok). length z.1 < length (fixed key.Dot ∷ word class.Upper y ∷ ts)) e (omega arith)
 dot_shorter _ x e = absurd cc
 
--- a path goes on only where a `.` and a module's name follow
+-- a path goes on only if a `.` and a module's name follow
 pub uppers_reach : (C : Type 0) (ys : List Name) (r : List Tok) (n : ℕ) → length (dotted_then ys r) ≤ n → ((x : Name × List Tok) → dot_upper r ≡ Some x → C × (length x.1 < length r)) → Reach C ys r (Some (more_uppers n (dotted_then ys r)))
 uppers_reach C [] r n len next = no_turn [] ◌∷◌ always dot_upper dot_shorter C true r (length r) n (λ _ x e. next x e)
 uppers_reach C (y ∷ ys) r zero len next = absurd (omega arith)
@@ -31,7 +31,7 @@ qualifier_shorter : (ts : List Tok) (x : Name × List Tok) → upper_dot ts ≡ 
 qualifier_shorter (word class.Upper y ∷ fixed key.Dot ∷ ts) x e = from_some (λ (z : Name × List Tok). length z.1 < length (word class.Upper y ∷ fixed key.Dot ∷ ts)) e (omega arith)
 qualifier_shorter _ x e = absurd cc
 
--- qualifiers end where no module's name and `.` follow
+-- qualifiers end if no module's name and `.` follow
 pub qualifiers_reach : (ys : List Name) (r : List Tok) (n : ℕ) → length (qualified_then ys r) ≤ n → upper_dot r ≡ None → qualifiers n (qualified_then ys r) ≡ (ys, r)
 qualifiers_reach ys r n len none = some_is (stop {C = ⊥} (λ c. c) (go ys n len))
   where
@@ -48,7 +48,7 @@ name_read (OperatorName at t) r w = rw w refl
 
 -- ---- runs
 
--- behind a run stands no token that it takes
+-- the token behind a run is none that it takes
 abbrev pub Blocked : (Tok → Bool) → (Tok → Bool) → List Tok → Type 0
 Blocked outside inside [] = Unit {0}
 Blocked outside inside (t ∷ ts) = after_bracket outside inside t (bracketing t) [] ≡ None

@@ -25,7 +25,7 @@ unfolding declaration_run
 declaration_by_length [] = refl
 declaration_by_length (t ∷ ts) = refl
 
--- a count that is no 0 stands for itself
+-- a count other than 0 is counted as it is
 counts : (n : ℕ) → 0 < n → counted n ≡ Some n
 counts n h = by (n == 0) refl
   where
@@ -82,7 +82,7 @@ module _ (outside inside : Tok → Bool) where
   none_more [] = refl
   none_more (t ∷ ts) = refl
 
-  -- where nothing more is taken, the run is the one that was found
+  -- if nothing more is taken, the run is the one that was found
   stopped : (xs : List Fixed) (count done : ℕ) → 0 < done → (xs ≡ [] → count ≡ done) → or_later count done (or_none (Some xs)) ≡ counted count
   stopped [] count done h k = found_before count done h (k refl)
   stopped (x ∷ xs) count done h k = refl

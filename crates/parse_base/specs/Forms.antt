@@ -148,7 +148,7 @@ abbrev pub is_binding_operator : List Token → Bool
 is_binding_operator [] = false
 is_binding_operator (t ∷ ts) = keyword_among (codes "let" ∷ codes "and" ∷ []) t && alone (λ u. is_binder u && t.end == u.start) ts
 
--- the last rows, which are told by a sign
+-- the last rows, which are recognized by a sign
 abbrev pub sign_form_here : List Token → Option FormKind
 sign_form_here ts =
     if is_extension ts then Some form.Extension else
@@ -157,7 +157,7 @@ sign_form_here ts =
     if alone (infix_is (codes "&")) ts || alone (keyword "or") ts then Some form.AmpOr else
     None
 
--- the form that begins at the first of these tokens: the first row that stands there
+-- the form that begins at the first of these tokens: the first row that holds there
 abbrev pub form_here : List Token → Option FormKind
 form_here ts =
     if alone (keyword_among object_words) ts then Some form.Object else

@@ -38,7 +38,7 @@ text_at ts at = head_text (drop at ts)
 abbrev pub name_at : List Token → ℕ → Name
 name_at ts at = record { at = at + 1; text = text_at ts at }
 
--- ---- what stands at a place
+-- ---- what is at a place
 
 abbrev pub kind_or : Class → Option Fixed → Kind
 kind_or c None = kind.Word c

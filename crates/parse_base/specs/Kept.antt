@@ -32,7 +32,7 @@ touches t (u ∷ us) = t.end == u.start
 abbrev pub IsAlike : Token → Token → Type 0
 IsAlike t u = (u.class ≡ t.class) × ((u.bytes.now ≡ t.bytes.now) ⊎ (t.class ≡ class.Lower))
 
--- as many tokens, each like the other, which touch where they touched
+-- as many tokens, each like the other; each touches the next exactly if the other does
 abbrev pub AreAlike : List Token → List Token → Type 0
 AreAlike [] [] = Unit {0}
 AreAlike [] (u ∷ us) = ⊥
@@ -43,14 +43,15 @@ AreAlike (t ∷ ts) (u ∷ us) = IsAlike t u × (touches u us ≡ touches t ts) 
 abbrev pub FormsAreKept : Type 0
 FormsAreKept = (ts us : List Token) (at : ℕ) → AreAlike ts us → first_form at us ≡ first_form at ts
 
--- the tokens of respelled lexemes are the tokens respelled, and such tokens
+-- the tokens of respelled lexemes are the tokens respelled; the two lists are alike so
 abbrev pub RespelledTokensAreKept : Type 0
 RespelledTokensAreKept =
     (w : Spelling) (bytes : List ℕ) (ts us : List Token) → Lexed bytes (view_tokens ts) → view_tokens us ≡ respelled_lexemes (view_tokens ts) (new_words w 1 (view_tokens ts))
     → AreRespelled w ts us × AreAlike ts us
 
--- Respelling keeps the reading: tokens of bytes in which names of places alone are changed, to value names, have no
--- refused form, are not nested over the limit, and are the words of the respelled tree, where that held of the old ones.
+-- Respelling keeps the reading. The old tokens have no refused form, are not nested over the limit, and are the words
+-- of a tree. If names of places alone are changed, to value names, the new tokens have no refused form, are not nested
+-- over the limit, and are the words of the respelled tree.
 abbrev pub RespellingKeepsTheReading : Type 0
 RespellingKeepsTheReading =
     (w : Spelling) (t : FileTree) (bytes : List ℕ) (ts us : List Token)

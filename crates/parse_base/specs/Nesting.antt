@@ -93,7 +93,7 @@ abbrev pub is_else : Role → Bool
 is_else role.Else = true
 is_else _ = false
 
--- what a sign may stand before for a weak mark
+-- a sign before it may push a weak mark
 abbrev pub is_signed : Role → Bool
 is_signed role.Prefix = true
 is_signed role.Minus = true
@@ -103,7 +103,7 @@ is_signed role.Body = true
 is_signed role.If = true
 is_signed _ = false
 
--- ---- marks; the last one stands first
+-- ---- marks; the last one is first
 
 abbrev pub is_bracket : Mark → Bool
 is_bracket mark.Bracket = true
@@ -127,7 +127,7 @@ abbrev pub is_no_weak : Mark → Bool
 is_no_weak mark.Weak = false
 is_no_weak _ = true
 
--- without the marks after the last that passes a test; without any where none does
+-- the marks up to the last that passes a test; if none does, no mark
 abbrev pub down_to : (Mark → Bool) → List Mark → List Mark
 down_to q [] = []
 down_to q (m ∷ ms) = if q m then m ∷ ms else down_to q ms
@@ -140,13 +140,13 @@ abbrev pub last_is : (Mark → Bool) → List Mark → Bool
 last_is q [] = false
 last_is q (m ∷ ms) = q m
 
--- these marks, where the last of them passes a test, or else the others
+-- these marks, if the last of them passes a test, or else the others
 abbrev pub where_last : (Mark → Bool) → List Mark → List Mark → List Mark
 where_last q back ms = if last_is q back then back else ms
 
 -- ---- the rules
 
--- the marks after a token, by what it is, what stands before it and what stands behind it
+-- the marks after a token, by what it is, what precedes it and what follows it
 abbrev pub after : Role → Role → Role → List Mark → List Mark
 -- 1: an opening token pushes a bracket mark
 after before role.Opening next ms = mark.Bracket ∷ ms
@@ -162,20 +162,20 @@ after before role.Let next ms =
     if starts_item before then down_to is_bracket ms else
     if is_in_or_semicolon before && last_is is_let ms then ms else
     mark.Let ∷ ms
--- 5: `in` removes the marks after the last let mark, where one stands after the last bracket mark
+-- 5: `in` removes the marks after the last let mark, if it is after the last bracket mark
 after before role.In next ms = where_last is_let (down_to is_let_or_bracket ms) ms
 -- 6: `match`, `function` and `try` push a case mark, `fun` and `functor` a body mark, and `if` a weak mark, unless it
 -- directly follows `else`
 after before role.Cases next ms = mark.Case ∷ ms
 after before role.Body next ms = mark.Body ∷ ms
 after before role.If next ms = if is_else before then ms else mark.Weak ∷ ms
--- 7: a Prefix, and a `-` or `-.` that does not directly follow an ender, push a weak mark where the next token is again
+-- 7: a Prefix, and a `-` or `-.` that does not directly follow an ender, push a weak mark if the next token is again
 -- one of these, `let` or a keyword of rule 6
 after before role.Prefix next ms = if is_signed next then mark.Weak ∷ ms else ms
 after before role.Minus next ms = if not (is_ender before) && is_signed next then mark.Weak ∷ ms else ms
 -- 8: `;` removes the weak marks at the end of the stack
 after before role.Semicolon next ms = down_to is_no_weak ms
--- 9: `|` removes the marks after the last case mark, where one stands after the last bracket mark
+-- 9: `|` removes the marks after the last case mark, if it is after the last bracket mark
 after before role.Bar next ms = where_last is_case (down_to is_case_or_bracket ms) ms
 -- 10: `and` removes the marks after the last let or bracket mark
 after before role.And next ms = down_to is_let_or_bracket ms

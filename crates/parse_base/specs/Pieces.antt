@@ -75,7 +75,7 @@ unfoldable pub declaration_run : Read (List Tok)
 declaration_run [] = None
 declaration_run (t ∷ ts) = cut_at (t ∷ ts) (one_more (longest in_declaration in_declaration (after_bracket in_declaration in_declaration t (bracketing t) []) ts) None)
 
--- an optional `:` and type; where a type does not begin, the `:` is not read
+-- an optional `:` and type; if no type begins, the `:` is not read
 abbrev pub type_or : List Tok → Option (List Tok × List Tok) → Option (List Tok) × List Tok
 type_or ts None = (None, ts)
 type_or ts (Some x) = (Some x.0, x.1)

@@ -17,7 +17,7 @@ abbrev pub is_beside : RunKind → Tok → Bool
 is_beside run.Type = beside_type
 is_beside run.Declaration = in_declaration
 
--- where it is the first token
+-- a token that is no bracket may be the first
 abbrev pub is_first : RunKind → Tok → Bool
 is_first run.Type = begins_type
 is_first run.Declaration = in_declaration
@@ -40,7 +40,7 @@ abbrev pub first_after : (Tok → Bool) → (Tok → Bool) → List Tok → List
 first_after outside inside [] xs = None
 first_after outside inside (t ∷ ts) xs = after_bracket outside inside t (bracketing t) xs
 
--- a token may stand there and leaves these, or may not
+-- a token may follow and leaves these words to close, or may not follow
 abbrev pub StepsTo : Bool → Option (List Fixed) → List Fixed → Type 0
 StepsTo true o xs = o ≡ Some xs
 StepsTo false o xs = o ≡ None
@@ -50,7 +50,7 @@ abbrev pub run_length : RunKind → List Tok → Option ℕ
 run_length k [] = None
 run_length k (t ∷ ts) = one_more (longest (is_beside k) (is_inside k) (after_bracket (is_first k) (is_inside k) t (bracketing t) []) ts) None
 
--- a number of tokens, where 0 stands for none
+-- a number of tokens; if it is 0, none
 abbrev pub counted : ℕ → Option ℕ
 counted n = if n == 0 then None else Some n
 
@@ -59,6 +59,6 @@ abbrev pub or_later : ℕ → ℕ → Option ℕ → Option ℕ
 or_later count done (Some n) = Some (done + n)
 or_later count done None = counted count
 
--- how many tokens are read where all brackets are closed, or else those that were found before
+-- how many tokens are read if all brackets are closed, or else those that were found before
 abbrev pub count_after : List Fixed → ℕ → ℕ → ℕ
 count_after ys done count = if length ys == 0 then done else count

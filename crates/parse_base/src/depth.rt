@@ -17,7 +17,7 @@ use std::alloc::Global;
 /// What a token is to the rules of the nesting.
 #[derive(Clone, Copy)]
 pub enum Role {
-    /// No token stands there.
+    /// There is no token.
     Nothing,
     Opening,
     /// `struct` or `sig`, which open too.
@@ -146,7 +146,7 @@ fn stops(stop: Stop, mark: Mark) -> bool
     }
 }
 
-/// How many marks are left where those after the last stop are removed.
+/// How many marks are left if those after the last stop are removed.
 fn kept(marks: &[Mark], stop: Stop) -> usize
     ensures left { reverse (take result marks.now) ≡ down_to (test_of stop) (reverse marks.now) }
     ensures within { result ≤ length marks.now }
@@ -198,7 +198,7 @@ fn ends_with_let(marks: &[Mark]) -> bool
     }
 }
 
-/// Removes the marks after the last let mark, where one stands after the last bracket mark.
+/// Removes the marks after the last let mark, if it is after the last bracket mark.
 fn cut_to_let(marks: &mut Vec<Mark>)
     ensures { reverse marks.new.items ≡ where_last is_let (down_to is_let_or_bracket (reverse marks.old.items)) (reverse marks.old.items) }
 {
@@ -218,7 +218,7 @@ fn ends_with_case(marks: &[Mark]) -> bool
     }
 }
 
-/// Removes the marks after the last case mark, where one stands after the last bracket mark.
+/// Removes the marks after the last case mark, if it is after the last bracket mark.
 fn cut_to_case(marks: &mut Vec<Mark>)
     ensures { reverse marks.new.items ≡ where_last is_case (down_to is_case_or_bracket (reverse marks.old.items)) (reverse marks.old.items) }
 {
@@ -280,7 +280,7 @@ fn step_let(marks: &mut Vec<Mark>, before: Role) -> Result<(), Memory>
     push(marks, Mark::Let)
 }
 
-/// A weak mark where it is asked for.
+/// Pushes a weak mark, if `weak`.
 fn push_weak(marks: &mut Vec<Mark>, weak: bool) -> Result<(), Memory>
     ensures { IfOk result (λ _. reverse marks.new.items ≡ (if weak then mark.Weak ∷ reverse marks.old.items else reverse marks.old.items)) }
 {

@@ -315,7 +315,7 @@ fn form_at(tokens: &[Token]) -> Option<FormKind>
     sign_form_at(tokens)
 }
 
-/// The form of the last rows of the table, which are told by a sign.
+/// The form of the last rows of the table, which are recognized by a sign.
 fn sign_form_at(tokens: &[Token]) -> Option<FormKind>
     ensures { result ≡ sign_form_here tokens.now }
 {
@@ -334,8 +334,8 @@ fn sign_form_at(tokens: &[Token]) -> Option<FormKind>
     None
 }
 
-/// The first token, from 1, at which a refused form begins, with the kind of the first row of the table that stands
-/// there; none where there is no such token (the manual's chapters of these forms, and this project's own profile).
+/// The first token, from 1, at which a refused form begins, with the kind of the first row of the table that holds
+/// there (the manual's chapters of these forms, and this project's own profile). If there is no such token, `None`.
 /// There are at most 1,048,576 tokens. It takes no memory.
 pub fn scan_forms(tokens: &[Token]) -> Option<(u32, FormKind)>
     requires { length tokens.now ≤ max_file_bytes }

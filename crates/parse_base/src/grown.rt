@@ -1,4 +1,4 @@
-//! A row and what stands before it, as one pattern.
+//! A pattern and the row behind it, as one pattern.
 
 ghost use Rattle.std.specs.Prelude.{Some};
 ghost use Rattle.ml_syntax.specs.View.{view_names, view_pat, pats};

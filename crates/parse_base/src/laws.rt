@@ -14,18 +14,18 @@ pub fn nesting_is_kept()
     ensures nesting { NestingIsKept }
 {}
 
-/// Tokens of the same classes, where lower-case names alone may differ, and which touch where they touched, have the
-/// same first refused form.
+/// If tokens keep their classes, lower-case names alone differ, and each touches the next exactly if it did, the first
+/// refused form is the same.
 pub fn forms_are_kept()
     ensures forms { FormsAreKept }
 {}
 
-/// The tokens of respelled lexemes are the tokens respelled, and touch where they touched.
+/// The tokens of respelled lexemes are the tokens respelled, and each touches the next exactly if it did.
 pub fn respelled_tokens_are_kept()
     ensures tokens { RespelledTokensAreKept }
 {}
 
-/// Respelling keeps the reading: where names of places alone are changed, to value names, the tokens of the respelled
+/// Respelling keeps the reading. If names of places alone are changed, to value names, the tokens of the respelled
 /// bytes have no refused form, are not nested over the limit, and are the words of the respelled tree.
 pub fn respelling_keeps_the_reading()
     ensures reading { RespellingKeepsTheReading }

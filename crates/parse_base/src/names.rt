@@ -123,7 +123,7 @@ fn is_keyword_operator(bytes: &[u8]) -> bool
         || bytes == b"asr".as_slice()
 }
 
-/// Whether the token at a place is an operator that may stand in parentheses.
+/// Whether the token at a place is an operator that may be in parentheses.
 #[tactic(auto, using(crate::proofs::Operators::operators))]
 pub fn is_operator(tokens: &[Token<'_>], at: usize) -> bool
     ensures value { result ≡ first_is is_operator_token (from tokens.now at) }

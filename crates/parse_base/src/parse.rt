@@ -13,12 +13,12 @@ use ml_syntax::Pat;
 use rotor_base::{MAX_LEVELS, Token};
 use std::alloc::Global;
 
-/// How often the form of a tree may nest in another: each such form stands for three of the levels that a tree may have.
+/// How often the form of a tree may nest in another: each such form takes three of the levels that a tree may have.
 pub const MAX_NESTED: usize = MAX_LEVELS / 3;
 
 /// The longest pattern that begins at a token (the manual's chapter on patterns), and the place after it. Places are
-/// counted from 0, and there are at most 1,048,576 tokens. The Err is `Syntax` where no pattern begins there, or else
-/// `Memory`, which also stands for a pattern that nests past the bound on levels.
+/// counted from 0, and there are at most 1,048,576 tokens. The Err is `Syntax` if no pattern begins there, or else
+/// `Memory`. `Memory` is also the answer for a pattern that nests past the bound on levels.
 pub fn parse_pat(
     alloc: Global,
     tokens: &[Token<'_>],

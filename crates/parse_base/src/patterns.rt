@@ -1,9 +1,9 @@
 //! Patterns. Each reader takes the reader of what nests deeper as a parameter, so that each is proved by itself.
 //!
-//! Where a part fails behind what was read (the argument of a constructor, the pattern behind a separator or an `=`,
-//! the parenthesis behind a path and its `.`), the reader keeps what stands before it and goes on at the place where
-//! the part began; there it asks only for separators and closing brackets, none of which begins such a part. So no
-//! part is read twice from one place, and the reading is linear without a table of failed readings.
+//! If a part fails behind what was read (the argument of a constructor, the pattern behind a separator or an `=`, the
+//! parenthesis behind a path and its `.`), the reader keeps what precedes the part, and goes on at the place where the
+//! part began. There it tests only for separators and closing brackets, none of which begins such a part. So no part is
+//! read twice from one place, and the reading is linear without a table of failed readings.
 //!
 //! What a level of nesting does not go through is kept out of line, so that the stack of a level stays small.
 
@@ -31,7 +31,7 @@ use ml_syntax::{Bracket, Fixed, Pat, PatField, Path, ValueName, Word};
 use rotor_base::{Class, Token};
 use std::alloc::Global;
 
-/// What the readers of patterns are lent.
+/// The context of the readers of patterns.
 #[derive(Clone, Copy)]
 pub struct Grammar<F> {
     pub alloc: Global,
@@ -453,7 +453,7 @@ impl<F: Fn(Global, &[Token<'_>], usize, usize, usize) -> Result<(Pat, usize), Re
         }
     }
 
-    /// What a pattern is applied to, where it is a constructor or a tag.
+    /// What a pattern is applied to, if it is a constructor or a tag.
     #[tactic(auto, using(ml_syntax::proofs::Variants::pat_views))]
     #[inline(never)]
     fn argument(

@@ -22,7 +22,7 @@ pub enum RunKind {
     Declaration,
 }
 
-/// What a token is to the brackets of a run: an opening one comes with the word that closes it.
+/// What a token is to the brackets of a run: an opening one has the word that closes it.
 #[derive(Clone, Copy)]
 pub enum BracketKind {
     Opens(Fixed),
@@ -30,7 +30,7 @@ pub enum BracketKind {
     Neither,
 }
 
-/// Whether a fixed word may stand inside the brackets of a type.
+/// Whether a fixed word may be inside the brackets of a type.
 fn is_type_word(fixed: Fixed) -> bool
     ensures { result ≡ type_word fixed }
 {
@@ -76,7 +76,7 @@ fn is_type_word(fixed: Fixed) -> bool
     }
 }
 
-/// Whether a fixed word may stand in a declaration.
+/// Whether a fixed word may be in a declaration.
 fn is_declaration_word(fixed: Fixed) -> bool
     ensures { result ≡ declaration_word fixed }
 {
@@ -120,7 +120,7 @@ fn is_declaration_word(fixed: Fixed) -> bool
     }
 }
 
-/// Whether the token at a place may stand inside the brackets of a run.
+/// Whether the token at a place may be inside the brackets of a run.
 fn is_inside(run: RunKind, tokens: &[Token<'_>], at: usize) -> bool
     ensures { result ≡ first_is (is_inside run) (from tokens.now at) }
 {
@@ -145,7 +145,7 @@ fn is_optional_label(bytes: &[u8]) -> bool
     }
 }
 
-/// Whether the token at a place may stand outside the brackets of a type.
+/// Whether the token at a place may be outside the brackets of a type.
 fn is_beside_type(tokens: &[Token<'_>], at: usize) -> bool
     ensures { result ≡ first_is beside_type (from tokens.now at) }
 {
@@ -160,7 +160,7 @@ fn is_beside_type(tokens: &[Token<'_>], at: usize) -> bool
     }
 }
 
-/// Whether the token at a place may stand outside the brackets of a run.
+/// Whether the token at a place may be outside the brackets of a run.
 fn is_beside(run: RunKind, tokens: &[Token<'_>], at: usize) -> bool
     ensures { result ≡ first_is (is_beside run) (from tokens.now at) }
 {
@@ -170,7 +170,7 @@ fn is_beside(run: RunKind, tokens: &[Token<'_>], at: usize) -> bool
     }
 }
 
-/// Whether the token at a place, where it is no bracket, may begin a run.
+/// Whether the token at a place, if it is no bracket, may begin a run.
 fn begins(run: RunKind, tokens: &[Token<'_>], at: usize) -> bool
     ensures { result ≡ first_is (is_first run) (from tokens.now at) }
 {
@@ -197,7 +197,7 @@ fn bracket_kind(tokens: &[Token<'_>], at: usize) -> BracketKind
     }
 }
 
-/// Whether a token that is no bracket may stand at a place: outside the brackets, or inside.
+/// Whether a token that is no bracket may be at a place: outside the brackets, or inside.
 fn fits(run: RunKind, first: bool, outside: bool, tokens: &[Token<'_>], at: usize) -> bool
     ensures { result ≡ first_is (if outside then shape_outside run first else is_inside run) (from tokens.now at) }
 {
@@ -210,7 +210,7 @@ fn fits(run: RunKind, first: bool, outside: bool, tokens: &[Token<'_>], at: usiz
     is_beside(run, tokens, at)
 }
 
-/// Whether the token at a place may stand behind those before it. `unclosed` has the words that are still to close the
+/// Whether the token at a place may follow those before it. `unclosed` has the words that are still to close the
 /// brackets, the next one last.
 fn step(
     run: RunKind,
@@ -235,7 +235,7 @@ fn step(
     }
 }
 
-/// A number of tokens, where 0 stands for none.
+/// A number of tokens; if it is 0, `Syntax`.
 fn counted(count: usize) -> Result<usize, ReadError>
     ensures { Gives (λ n. n) result (counted count) }
 {
@@ -245,7 +245,7 @@ fn counted(count: usize) -> Result<usize, ReadError>
     Ok(count)
 }
 
-/// How many tokens are read where no bracket is open, or else those that were found before.
+/// How many tokens are read if no bracket is open, or else those that were found before.
 fn closed_count(unclosed: &[Fixed], done: usize, before: usize) -> usize
     ensures { result ≡ count_after (reverse unclosed.now) done before }
 {
@@ -325,7 +325,7 @@ pub fn declaration_run(
     }
 }
 
-/// A `:` and a type, where a `:` stands and a type begins behind it.
+/// A `:` and a type, if there is a `:` and a type begins behind it.
 #[inline(never)]
 pub fn optional_type(
     alloc: Global,

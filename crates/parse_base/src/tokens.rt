@@ -12,7 +12,7 @@ use ml_syntax::{Fixed, Word, fixed_word};
 use rotor_base::{Class, Memory, Name, Token};
 use std::alloc::Global;
 
-/// What stands at a place.
+/// What is at a place.
 #[derive(Clone, Copy, Debug, PartialEq, Eq)]
 pub enum Kind {
     /// A keyword or a mark that the grammar fixes.
@@ -44,7 +44,7 @@ fn fixed_or(class: Class, bytes: &[u8]) -> Kind
     }
 }
 
-/// What stands at a place, and `End` past the tokens.
+/// What is at a place, and `End` past the tokens.
 pub fn kind_at(tokens: &[Token<'_>], at: usize) -> Kind
     ensures sees { Sees result (at + 1) (text_at tokens.now at) (from tokens.now at) (from tokens.now (at + 1)) }
     ensures there { IsThere result at (length tokens.now) }
@@ -85,7 +85,7 @@ pub fn word(alloc: Global, tokens: &[Token<'_>], class: Class, at: usize) -> Res
     })
 }
 
-/// The token at a place, as a word that stands for itself: an operator, or a word of a run.
+/// The token at a place, as a word with its own class: an operator, or a word of a run.
 pub fn token_word(alloc: Global, tokens: &[Token<'_>], at: usize) -> Result<Word, Memory>
     requires within { at < length tokens.now }
     requires few { length tokens.now ≤ max_file_bytes }
@@ -106,7 +106,7 @@ pub(crate) fn is_same(a: Fixed, b: Fixed) -> bool
     a == b
 }
 
-/// Whether this fixed word stands at a place.
+/// Whether this fixed word is at a place.
 pub fn is(tokens: &[Token<'_>], fixed: Fixed, at: usize) -> bool
     ensures value { result ≡ starts fixed (from tokens.now at) }
     ensures there { result ≡ true → from tokens.now at ≡ fixed_at (at + 1) fixed ∷ from tokens.now (at + 1) }

@@ -120,7 +120,7 @@ comma_alone (word class.Keyword x) q = absurd (keyword_by _ _ q)
 comma_alone (word class.Infix x) q = absurd (infix_no_comma x.text q)
 comma_alone _ q = absurd (omega (arith, q))
 
--- ---- what stands behind a `(`
+-- ---- what follows a `(`
 
 operator_by : (at : ℕ) (k : Tok) (ts : List Tok) (x : pure.ValueName × List Tok) (b : Bool) → is_operator k ≡ b → ◌≡◌ {A = Option (pure.ValueName × List Tok)} (cond b (Some (pure.OperatorName at k, ts)) None) (Some x) → (u : Tok) × (k ∷ fixed key.RightParen ∷ ts ≡ u ∷ fixed key.RightParen ∷ x.1) × (is_operator u ≡ true) × (x.0 ≡ pure.OperatorName at u)
 operator_by at k ts x true h e = from_some (λ (y : pure.ValueName × List Tok). (u : Tok) × (k ∷ fixed key.RightParen ∷ ts ≡ u ∷ fixed key.RightParen ∷ y.1) × (is_operator u ≡ true) × (y.0 ≡ pure.OperatorName at u)) e (k, refl, h, refl)

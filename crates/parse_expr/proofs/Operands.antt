@@ -45,7 +45,7 @@ module _ (part : Read (Tok × Expr × Bool)) {X : Type 0} (f : X → Tok × Expr
       let one : before cons_operand (map f xs ++ ((f x).0, (f x).1, b) ∷ []) no_link ≡ before cons_operand (map f xs ++ f x ∷ []) no_link = before_last cons_operand (map f xs) ((f x).0, (f x).1, b) no_link ∙ sym (before_last cons_operand (map f xs) (f x) no_link) in
       off ∙ ap (λ (l : Links). (l, after)) (one ∙ ap (λ l. before cons_operand l no_link) (sym (ap (map f) p ∙ map_append f xs (x ∷ []))))
 
--- ---- an operator, and what stands behind it
+-- ---- an operator, and what follows it
 
 module _ (d m : ℕ) (one : Read Expr) where
   by_level : (b : Bool) (t : Tok) (ts : List Tok) → cond {A = Option ((Tok × Expr × Bool) × List Tok)} b (one ts >>= λ x. Some ((t, x.0, goes_on x.0 x.1), x.1)) None ≡ (cond {A = Option (Tok × List Tok)} b (Some (t, ts)) None >>= λ o. one o.1 >>= λ x. Some ((o.0, x.0, goes_on x.0 x.1), x.1))

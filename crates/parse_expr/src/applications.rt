@@ -106,7 +106,7 @@ impl<
         Ok((found, at))
     }
 
-    /// What stands behind an expression of level 16: the parts, but none behind a constructor.
+    /// An expression of level 16, and the parts behind it, but none behind a constructor.
     #[inline(never)]
     fn with_parts(
         &self,

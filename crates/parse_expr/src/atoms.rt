@@ -1,4 +1,4 @@
-//! Names, constants, and what stands in brackets.
+//! Names, constants, and expressions in brackets.
 
 ghost use Rattle.ml_syntax.specs.Tok.{Tok};
 ghost use Rattle.std.specs.Prelude.{List, ◌≡◌, ◌≤◌, ◌<◌, ◌+◌, [], length, Some};
@@ -32,7 +32,7 @@ impl<
             usize,
         ) -> Result<(Box<Expr>, usize), ReadError>,
 > Readers<F> {
-    /// What may stand behind a module path and a `.` too.
+    /// What may follow a module path and a `.` too.
     #[tactic(auto, unfolding(expr_reading::specs::ExprReading::enclosed))]
     #[inline(never)]
     pub(crate) fn enclosed(
@@ -216,7 +216,7 @@ fn value(alloc: Global, tokens: &[Token<'_>], at: usize) -> Result<(Box<Expr>, u
     Ok((Box::new(alloc, Expr::Value { path, name })?, at + 1))
 }
 
-/// A module path, and what stands behind it and a `.`, where it may stand there: else the path is a constructor.
+/// A module path, a `.` and the expression behind it, if that may follow them; else the path, as a constructor.
 #[tactic(auto, using(crate::proofs::Lone::qualifications, ml_syntax::proofs::Variants::expr_views))]
 #[inline(never)]
 fn qualified(
@@ -259,7 +259,7 @@ fn value_of(alloc: Global, path: Path, name: ValueName) -> Result<Box<Expr>, Rea
     Ok(Box::new(alloc, Expr::Value { path, name })?)
 }
 
-/// Whether a module path and a `.` may stand before it.
+/// Whether the expression may follow a module path and a `.`.
 #[tactic(auto, unfolding(ml_syntax::specs::View::view))]
 #[inline(never)]
 fn is_bracketed(expr: &Expr) -> bool

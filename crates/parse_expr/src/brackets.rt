@@ -76,7 +76,7 @@ impl<
         Ok((found, at))
     }
 
-    /// What stands behind the first: further ones, and whether a last `;` does.
+    /// What follows the first item: further ones, and whether there is a last `;`.
     #[inline(never)]
     pub(crate) fn rest_of_items(
         &self,

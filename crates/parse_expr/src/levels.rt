@@ -141,7 +141,7 @@ impl<
         Ok((found, at))
     }
 
-    /// What stands behind an expression of the levels above: the operators of one level, and their operands.
+    /// An expression of the levels above, and the operators of one level behind it with their operands.
     #[cycle(tier)]
     #[inline(never)]
     pub(crate) fn grow(
@@ -316,7 +316,7 @@ impl<
         Ok((found, at))
     }
 
-    /// What stands behind the first: further ones, and whether a last `;` does.
+    /// What follows the first expression: further ones, and whether there is a last `;`.
     #[inline(never)]
     pub(crate) fn rest_of_steps(
         &self,
@@ -337,7 +337,7 @@ impl<
         Ok(((rest, last), at))
     }
 
-    /// What stands behind the first expression of a sequence.
+    /// The first expression of a sequence, and what follows it.
     #[inline(never)]
     fn with_steps(
         &self,

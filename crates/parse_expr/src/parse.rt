@@ -16,12 +16,12 @@ use rotor_base::Token;
 use std::alloc::Global;
 
 /// How many levels an expression may have, and how often the readers may nest: 1,000 forms inside one another, with
-/// what stands in the last of them. At so many levels, expressions were read and dropped within 6 MiB of stack.
+/// what is in the last of them. At so many levels, expressions were read and dropped within 6 MiB of stack.
 pub const MAX_DEEPER: usize = MAX_NESTED + 8;
 
 /// The longest sequence expression that begins at a token (the manual's chapter on expressions), and the place after
-/// it. Places are counted from 0, and there are at most 1,048,576 tokens. The Err is `Syntax` where no expression
-/// begins there, or else `Memory`, which also stands for an expression of more than 1,008 levels.
+/// it. Places are counted from 0, and there are at most 1,048,576 tokens. The Err is `Syntax` if no expression begins
+/// there, or else `Memory`. `Memory` is also the answer for an expression of more than 1,008 levels.
 pub fn parse_seq(
     alloc: Global,
     tokens: &[Token<'_>],

@@ -10,7 +10,7 @@ use parse_base::ReadError;
 use rotor_base::Token;
 use std::alloc::Global;
 
-/// The readers of expressions, over what they are lent.
+/// The readers of expressions, over their context.
 #[derive(Clone, Copy)]
 pub struct Readers<F> {
     pub grammar: Grammar<F>,

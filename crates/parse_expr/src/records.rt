@@ -101,7 +101,7 @@ impl<
         Ok((found, at))
     }
 
-    /// What stands behind the first field: further ones, and whether a last `;` does.
+    /// What follows the first field: further ones, and whether there is a last `;`.
     #[inline(never)]
     pub(crate) fn rest_of_fields(
         &self,

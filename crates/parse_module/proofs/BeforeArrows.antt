@@ -1,4 +1,4 @@
--- Reading what stands before arrows one after the other, as the loops do.
+-- Reading the parts before arrows one after the other, as the loops do.
 use Rattle.std.proofs.Common.{◌≡◌, ◌∙◌, refl, sym, ap, ℕ, suc, ◌-◌, ◌+◌, ◌<◌, List, [], ◌∷◌, ◌++◌, Option, arith}
 use Rattle.rotor_base.specs.declared.token.Token.{Token}
 use Rattle.ml_syntax.specs.Tok.{Tok}
@@ -26,7 +26,7 @@ module _ (ts : List Token) (whole : Option (ModType × List Tok)) (xs : List Dom
       let one : read_type (n - i) (from ts at) ≡ o = rw s e in
       w ∙ ap (before_arrows (from ts) xs) one
 
-  -- a turn reads what stands before an arrow
+  -- a turn reads the part before an arrow
   pub turned_on : (ys : List Domain) (x : Domain) (after : ℕ) → ys ≡ xs ++ x ∷ [] → i < n → turn_type (n - i - 1) (from ts at) ≡ before_arrow (from ts) x (read_type (n - i - 1) (from ts after)) → whole ≡ before_arrows (from ts) xs (read_type (n - i) (from ts at)) → whole ≡ before_arrows (from ts) ys (read_type (n - (i + 1)) (from ts after))
   turned_on ys x after p lt e w =
       let s : n - (i + 1) ≡ n - i - 1 = omega arith in

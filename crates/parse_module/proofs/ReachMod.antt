@@ -336,7 +336,7 @@ let_is (Seq e es last) at ts k lv w q = absurd (omega (arith, lv))
 let_is (Chain n e es) at ts k lv w q = absurd (subst NotLet (sym q) (not_let (Chain n e es) k (omega (arith, w.0)) w))
 let_is e at ts k lv w q = absurd (subst NotLet (sym q) (not_let e k (omega arith) w))
 
--- bindings behind an optional `rec` are read whole, where nothing goes on with them
+-- bindings behind an optional `rec` are read whole, if nothing goes on with them
 bindings_exact : (b : Binding) (bs : Bindings) → WfBinding b → WfBindings bs → (r : List Tok) → Follow r → (f : ℕ) → length (binding_then b (bindings_then bs r)) ≤ f → bindings (read_expr f) f (binding_then b (bindings_then bs r)) ≡ Some ((b, bs), r)
 bindings_exact b bs w ws r s f len = stop (λ h. h) (bindings_reach f ⊥ r (λ h. headed_item key.And r refl s.start h) b bs (binding_good b) (bindings_good bs) w ws (λ h. goes_stop 0 (last_value b bs) r s h) len)
 
@@ -413,7 +413,7 @@ items_at f = items_of (read_mod f) (read_type f) f
 abbrev sig_item_at : ℕ → Read SigItem
 sig_item_at f = sig_item (read_mod f) (read_type f) f
 
--- where the items of a file or a module end
+-- the tokens at which the items of a file or a module end
 data EndsItems : List Tok → Type 0 where
   at_end : EndsItems []
   at_word : (r : List Tok) → EndsItems (fixed key.End ∷ r)
@@ -563,7 +563,7 @@ module _ (f : ℕ) where
   param_shorter : (ts : List Tok) (x : FunctorParam × List Tok) → param_at f ts ≡ Some x → length x.1 < length ts
   param_shorter ts x e = let p = functor_param_found (read_mod f) (read_type f) f (mod_reads f) (type_reads f) ts x e in omega (arith, ap length p.words, param_longer x.0 x.1)
 
-  -- parameters end where no `(` follows
+  -- parameters end if no `(` follows
   abbrev NoParen : List Tok → Type 0
   NoParen (placed key.LeftParen at ∷ r) = ⊥
   NoParen _ = Unit {0}
@@ -773,13 +773,13 @@ module _ (f : ℕ) where
   plain_read (OpenItem at bang path) g w k s len = rw (open_read bang path k w (closed_follows k (start_closed k s.start)) (omega (arith, len, bang_more bang (path_then path k)))) refl
   plain_read (IncludeItem at m) g w k s len = rw (sub_mod m g w f k (closed_follows k (start_closed k s.start)) (omega (arith, len))) refl
 
-  -- a `;;` may stand before an expression
+  -- a `;;` is read as an item, also if an expression may be read
   separator_read : (fresh : Bool) (k : List Tok) → item_at f fresh (fixed key.DoubleSemicolon ∷ k) ≡ Some (SeparatorItem, k)
   unfolding item_of plain_item
   separator_read true k = rw (expr_none f (fixed key.DoubleSemicolon ∷ k) (fixed_begun key.DoubleSemicolon k)) refl
   separator_read false k = refl
 
-  -- an item that is no expression, where one may stand
+  -- an item that may be an expression, if no expression begins
   fresh_is : (ts : List Tok) → (Begun ts → ⊥) → item_at f true ts ≡ plain_at ts
   unfolding item_of
   fresh_is ts never = rw (expr_none f ts never) refl
@@ -838,7 +838,7 @@ ends_follow : (r : List Tok) → EndsItems r → Follow r
 ends_follow _ at_end = record { start = tt; none = empty_begun }
 ends_follow _ (at_word r) = record { start = refl; none = fixed_begun key.End r }
 
--- what stands behind an item that is no `;;` begins no expression
+-- behind an item that is no `;;` no expression begins
 items_follow : (is : Items) (r : List Tok) → WfItems false is → EndsItems r → Follow (items_then is r)
 items_follow no_item r w h = ends_follow r h
 items_follow (more_item SeparatorItem is) r w h = record { start = refl; none = fixed_begun key.DoubleSemicolon (items_then is r) }
@@ -1113,7 +1113,7 @@ module _ (f : ℕ) where
   unfolding simple_type
   paren_type_read at s r g w len = rw (sub_type s g w f (fixed key.RightParen ∷ r) refl (omega (arith, len))) refl
 
-  -- neither a `)` nor a name and a `:` stand here
+  -- the tokens begin with neither a `)` nor a name and a `:`
   abbrev NoName : List Tok → Type 0
   NoName (word class.Upper x ∷ fixed key.Colon ∷ r) = ⊥
   NoName (placed key.Underscore at ∷ r) = ⊥

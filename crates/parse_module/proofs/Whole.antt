@@ -1,4 +1,4 @@
--- What is read of the tokens of a file is its tree, and where nothing is read it has none.
+-- What is read of the tokens of a file is its tree, and if nothing is read, it has none.
 use Rattle.std.proofs.Common.{◌≡◌, ℕ, ◌+◌, ◌≤◌, ◌<◌, List, [], ◌∷◌, length, true, Some, None, sym, ap, refl, ◌∙◌, arith}
 use Rattle.rotor_base.specs.declared.token.Token.{Token}
 use Rattle.ml_syntax.specs.Tok.{Tok}

@@ -1,5 +1,5 @@
--- Module types with arrows, as the code reads them: what stands before each arrow, and what is read behind the last.
--- The manual's chapter on module types.
+-- Module types with arrows, as the code reads them: the part before each arrow, and what is read behind the last. The
+-- manual's chapter on module types.
 use Rattle.std.specs.Prelude.{◌≡◌, ℕ, List, [], ◌∷◌, Option, Some, None, Result, Ok, Err}
 use Rattle.rotor_base.specs.declared.token.Token.{Token}
 use Rattle.ml_syntax.specs.declared.module.ModType.{ModType as Source}
@@ -20,7 +20,7 @@ abbrev pub read_so : (ℕ → List Tok) → Option (Source × ℕ) → Option (M
 read_so end None = None
 read_so end (Some x) = Some (view_mod_type x.0, end x.1)
 
--- what stands before an arrow, and what is read behind it; where that is nothing, a module type ends before the arrow
+-- the part before an arrow, and what is read behind it; if that is nothing, a module type ends before the arrow
 abbrev pub before_arrow : (ℕ → List Tok) → Domain → Option (ModType × List Tok) → Option (ModType × List Tok)
 before_arrow end (domain.Functor at ps) r = r >>= λ s. Some (FunctorType at (functor_params ps.items) s.0, s.1)
 before_arrow end (domain.Param p) r = r >>= λ s. Some (ParamArrow (view_functor_param p) s.0, s.1)
@@ -37,7 +37,7 @@ abbrev pub go_on : ℕ → List Token → Step → ℕ → Option (ModType × Li
 go_on d ts (step.Whole s) at = Some (view_mod_type s, from ts at)
 go_on d ts (step.Before x) at = before_arrow (from ts) x (read_type d (from ts at))
 
--- a step is told right
+-- a step, with what is read behind it, is the reading
 abbrev pub Steps : ℕ → List Token → Result (Step × ℕ) ReadError → Option (ModType × List Tok) → Type 0
 Steps d ts (Ok x) read = read ≡ go_on d ts x.0 x.1
 Steps d ts (Err e) read = Fails e read

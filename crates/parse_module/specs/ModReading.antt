@@ -146,7 +146,7 @@ module _ (sub_mod : Read ModExpr) (sub_type : Read ModType) (n : ℕ) where
   expression_or ts (Some e) = Some (ExprItem e.0, e.1)
   expression_or ts None = plain_item ts
 
-  -- an expression is tried first, where one may stand
+  -- if the item may be an expression, that is tried first
   unfoldable pub item_of : Bool → Read Item
   item_of true ts = expression_or ts (read_expr n wanted.Sequence ts)
   item_of false ts = plain_item ts
@@ -156,7 +156,7 @@ module _ (sub_mod : Read ModExpr) (sub_type : Read ModType) (n : ℕ) where
   item_then rest ts None = (no_item, ts)
   item_then rest ts (Some x) = (more_item x.0 (rest (is_separator x.0) x.1).0, (rest (is_separator x.0) x.1).1)
 
-  -- items, as long as each can be read whole; an expression may stand first and after `;;`
+  -- items, as long as each can be read whole; the first and one after `;;` may be an expression
   unfoldable pub items_of : ℕ → Bool → List Tok → Items × List Tok
   items_of zero fresh ts = (no_item, ts)
   items_of (suc k) fresh ts = item_then (items_of k) ts (item_of fresh ts)

@@ -38,7 +38,7 @@ pub record IsTreeOf (k : FileKind) (file : ℕ) (ts : List Tok) (t : FileTree) :
 abbrev pub HasNoTree : FileKind → ℕ → List Tok → Type 0
 HasNoTree k file ts = (t : FileTree) → IsOfFile k file t → WfFile t → ts ≡ words t → ⊥
 
--- the refused form that an answer tells, and the token of its nesting
+-- the refused form that an answer names, and the token that it names as nested too deep
 abbrev pub told_form : Result Source ParseError → Option (ℕ × FormKind)
 told_form (Err (refused.Form token k)) = Some (token, k)
 told_form _ = None

@@ -1,4 +1,4 @@
-//! What stands before the arrows of a module type.
+//! The parts before the arrows of a module type.
 
 ghost use Rattle.std.specs.Prelude.{◌≡◌, ℕ, List, Some, IfOk};
 ghost use Rattle.ml_syntax.specs.Tok.{Tok};
@@ -11,7 +11,7 @@ use parse_base::ReadError;
 use rotor_base::Memory;
 use std::alloc::Global;
 
-/// What stands before an arrow.
+/// The part before an arrow.
 #[derive(Drop)]
 pub(crate) enum Domain {
     /// The number of the token `functor`, and the parameters behind it.
@@ -25,13 +25,13 @@ pub(crate) enum Domain {
 /// A module type up to its first arrow.
 #[derive(Drop)]
 pub(crate) enum Step {
-    /// What stands before the arrow.
+    /// The part before the arrow.
     Before(Domain),
     /// No arrow follows.
     Whole(ModType),
 }
 
-/// An arrow, with what stands before it and behind it.
+/// An arrow, with the parts before and behind it.
 #[tactic(auto, using(ml_syntax::proofs::Variants::mod_type_views))]
 #[inline(never)]
 fn arrow(alloc: Global, domain: Domain, behind: ModType) -> Result<ModType, Memory>
@@ -61,8 +61,8 @@ fn arrow(alloc: Global, domain: Domain, behind: ModType) -> Result<ModType, Memo
     }
 }
 
-/// What stands before an arrow with what was read behind it, and the place after it. Where nothing was, a module type
-/// ends before the arrow.
+/// The part before an arrow with what was read behind it, and the place after it. If nothing was, a module type ends
+/// before the arrow.
 fn with_arrow(
     alloc: Global,
     domain: Domain,

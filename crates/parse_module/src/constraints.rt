@@ -13,7 +13,7 @@ use parse_base::{Kind, ReadError, expect, kind_at, text, token_word, type_run};
 use rotor_base::{Class, Token};
 use std::alloc::Global;
 
-/// Whether `=` or `:=` stands at a place.
+/// Whether `=` or `:=` is at a place.
 fn is_sign(tokens: &[Token<'_>], at: usize) -> bool
     ensures value { result ≡ first_is is_constraint_sign (from tokens.now at) }
     ensures within { result ≡ true → at < length tokens.now }
@@ -37,7 +37,7 @@ fn sign(alloc: Global, tokens: &[Token<'_>], at: usize) -> Result<(Word, usize),
     Ok((token_word(alloc, tokens, at)?, at + 1))
 }
 
-/// A `private` that may stand before a type, and the place after it.
+/// An optional `private` before a type, and the place after it.
 fn private(tokens: &[Token<'_>], at: usize) -> (bool, usize)
     ensures { (result.0, from tokens.now result.1) ≡ r.optional_private (from tokens.now at) }
 {

@@ -82,8 +82,8 @@ fn whole(
 
 /// The tree of a whole file (the manual's chapter on compilation units), with the file's number. There are at most
 /// 1,048,576 tokens. The Err is `Form` with the first refused form, or else `Deep` with the first token after which the
-/// nesting is over 256, or else `Syntax` where no file of this kind has these tokens, or `Memory`, which also stands for
-/// a file that nests past the bound on levels.
+/// nesting is over 256, or else `Syntax` if no file of this kind has these tokens, or `Memory`. `Memory` is also the
+/// answer for a file that nests past the bound on levels.
 pub fn parse_file(
     alloc: Global,
     tokens: &[Token<'_>],
@@ -93,9 +93,9 @@ pub fn parse_file(
     requires few { length tokens.now ≤ max_file_bytes }
     // It is well-formed, has these words, and no other file of this kind and number has them.
     ensures found { IfOk result (λ tree. IsTreeOf kind file (from tokens.now 0) (view_file tree)) }
-    // The first refused form is told, and where there is none, none is.
+    // The answer names the first refused form; if there is none, it names none.
     ensures form { result ≢ Err refused.Memory → first_form 1 tokens.now ≡ told_form result }
-    // Where there is none, the first token after which the nesting is over 256 is told, or it never is.
+    // If there is none, the answer names the first token after which the nesting is over 256, or none if it never is.
     ensures deep { result ≢ Err refused.Memory → first_form 1 tokens.now ≡ None → DeepIs tokens.now (told_deep result) }
     // No file of this kind has these words.
     ensures none { result ≡ Err refused.Syntax → HasNoTree kind file (from tokens.now 0) }

@@ -150,7 +150,7 @@ impl<
         }
     }
 
-    /// An item. Where it is `fresh`, an expression may stand, and is tried first.
+    /// An item. If it is `fresh`, it may be an expression, which is tried first.
     #[tactic(auto, unfolding(crate::specs::ModReading::item_of), using(ml_syntax::proofs::Variants::item_views))]
     #[inline(never)]
     fn item(&self, tokens: &[Token<'_>], fresh: bool, at: usize) -> Result<(Item, usize), ReadError>
@@ -169,7 +169,7 @@ impl<
         }
     }
 
-    /// Items, as long as each can be read whole. An expression may stand first and behind `;;`.
+    /// Items, as long as each can be read whole. The first and one behind `;;` may be an expression.
     #[inline(never)]
     pub(crate) fn items(
         &self,

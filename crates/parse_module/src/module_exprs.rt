@@ -17,7 +17,7 @@ use parse_base::{Kind, ReadError, expect, is, kind_at, number};
 use rotor_base::{Class, Token};
 use std::alloc::Global;
 
-/// A module and what is given to it, where anything is.
+/// A module and what is given to it, if anything is.
 #[tactic(auto, using(crate::proofs::Rows::applications, ml_syntax::proofs::Variants::mod_expr_views))]
 #[inline(never)]
 fn grown(

@@ -95,7 +95,7 @@ impl<
         }
     }
 
-    /// Each `with` behind a module type, which ends at `after`, or, where there is none, an arrow or nothing.
+    /// Each `with` behind a module type, which ends at `after`, or, if there is none, an arrow or nothing.
     #[tactic(auto, using(crate::proofs::Rows::withs, ml_syntax::proofs::Variants::mod_type_views))]
     #[inline(never)]
     fn with_or(

@@ -1,4 +1,4 @@
-//! What the readers of modules are lent.
+//! The context of the readers of modules.
 
 ghost use Rattle.std.specs.Prelude.{◌≤◌, length};
 ghost use Rattle.rotor_base.specs.Limits.{max_file_bytes};
@@ -12,8 +12,8 @@ use parse_base::ReadError;
 use rotor_base::Token;
 use std::alloc::Global;
 
-/// What the readers of modules and module types are lent. Each takes the readers of what nests deeper from here, so
-/// that each is proved by itself.
+/// The context of the readers of modules and module types. The readers of what nests deeper are `modules` and `types`,
+/// so that each reader is proved by itself.
 #[derive(Clone, Copy)]
 pub(crate) struct Modules<F, G> {
     pub(crate) alloc: Global,
@@ -29,7 +29,7 @@ impl<
     F: Copy + Fn(Global, &[Token<'_>], usize, usize, usize) -> Result<(ModExpr, usize), ReadError>,
     G: Copy + Fn(Global, &[Token<'_>], usize, usize, usize) -> Result<(ModType, usize), ReadError>,
 > Modules<F, G> {
-    /// A module expression, read by what is lent.
+    /// A module expression, read by `modules`.
     pub(crate) fn sub_module(
         &self,
         tokens: &[Token<'_>],
@@ -43,7 +43,7 @@ impl<
         (self.modules)(self.alloc, tokens, self.depth, self.levels, at)
     }
 
-    /// A module type, read by what is lent.
+    /// A module type, read by `types`.
     pub(crate) fn sub_type(
         &self,
         tokens: &[Token<'_>],

@@ -1,4 +1,4 @@
-//! Names of modules, and what stands behind `external` and `open`.
+//! Names of modules, and the parts behind `external` and `open`.
 
 ghost use Rattle.std.specs.Prelude.{◌≤◌, ◌∷◌, [], length, Some};
 ghost use Rattle.rotor_base.specs.Limits.{max_file_bytes};

@@ -42,7 +42,7 @@ pub(crate) fn read_module(
     readers.module(tokens, at)
 }
 
-/// A module type, the same. What stands before each arrow is read by a loop; each arrow is a level.
+/// A module type, the same. A loop reads the part before each arrow; each arrow is a level.
 #[cycle(modules)]
 #[tactic(auto, unfolding(crate::specs::ModReading::read_type))]
 pub(crate) fn read_module_type(

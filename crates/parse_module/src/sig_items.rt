@@ -49,7 +49,7 @@ fn alias(
     Ok((item, at))
 }
 
-/// Whether a name of class Upper and a `=` stand at a place.
+/// Whether a name of class Upper and a `=` are at a place.
 fn is_named(tokens: &[Token<'_>], at: usize) -> bool
     ensures { result ≡ p.names_module (from tokens.now at) }
 {

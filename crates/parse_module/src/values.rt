@@ -16,7 +16,7 @@ use parse_expr::read;
 use rotor_base::Token;
 use std::alloc::Global;
 
-/// What is wanted at a place, as a function that is lent to the readers of bindings.
+/// What is wanted at a place, as the function that the readers of bindings call.
 fn nested(
     alloc: Global,
     tokens: &[Token<'_>],

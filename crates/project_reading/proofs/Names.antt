@@ -96,7 +96,7 @@ among_insert (x ∷ xs) k n = by (slice_cmp nat_cmp k x) refl (among_insert xs k
     by Equal p rest = or_twice (bytes_eq x n) (is_among xs n) ∙ ap (λ y. bytes_eq y n || (bytes_eq x n || is_among xs n)) (sym (same_name k x p))
     by Greater p rest = ap (λ b. bytes_eq x n || b) rest ∙ or_swap (bytes_eq x n) (bytes_eq k n) (is_among xs n)
 
--- a name is among those of units where a source gives it
+-- a name is among those of units if a source gives it
 pub among_names : (ss : List SourceFile) (n : List ℕ) → is_among (unit_names ss) n ≡ list_any (λ s. bytes_eq (unit_of s.name) n) ss
 among_names [] n = refl
 among_names (s ∷ ss) n = among_insert (unit_names ss) (unit_of s.name) n ∙ ap (λ b. bytes_eq (unit_of s.name) n || b) (among_names ss n)

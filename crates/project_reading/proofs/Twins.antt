@@ -92,7 +92,7 @@ is_own : (b : Bool) (n : List ℕ) → (beq b b && bytes_eq n n) ≡ true
 is_own true n = itself n
 is_own false n = itself n
 
--- where no unit is doubled, a source's tree is the part of its unit
+-- if no unit is doubled, a source's tree is the part of its unit
 pub own_part : (number : ℕ) (ss : List SourceFile) (ts : List FileTree) (k : ℕ) → ReadAll number ss ts → doubled_units (files.units_of ss) ≡ []
     → k < length ss
     → part_of (is_body_name (source_at ss k).name) (unit_of (source_at ss k).name) ss ts ≡ Some (tree_at ts k)

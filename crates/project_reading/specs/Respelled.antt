@@ -36,8 +36,8 @@ abbrev pub respelled_lists : Spellings → ℕ → List (List Lexeme) → List (
 respelled_lists w number [] = []
 respelled_lists w number (xs ∷ lists) = respelled_lexemes xs (new_words (w number) 1 xs) ∷ respelled_lists w (suc number) lists
 
--- Respelling keeps the lexemes. If names of places alone are changed, to value names, the respelled sources are cut into
--- the respelled lexemes.
+-- Respelling keeps the lexemes. If names of places alone are changed, to value names, the respelled sources are cut
+-- into the respelled lexemes.
 abbrev pub RespellingKeepsTheLexemes : Type 0
 RespellingKeepsTheLexemes =
     (w : Spellings) (old new : FileSet) (project : List UnitTree) (lists : List (List Lexeme))

@@ -15,8 +15,8 @@ pub fn read_is_sound()
     ensures { ReadIsSound }
 {}
 
-/// The tree of each source is the body or the interface of a unit of the project, and each body and interface is the tree
-/// of a source.
+/// The tree of each source is the body or the interface of a unit of the project, and each body and interface is the
+/// tree of a source.
 pub fn trees_are_parts()
     ensures trees { TreesAreParts }
     ensures parts { PartsAreTrees }
@@ -27,8 +27,8 @@ pub fn respelling_keeps_the_lexemes()
     ensures { RespellingKeepsTheLexemes }
 {}
 
-/// If names of places alone are changed, to value names, the respelled files are read as the respelled project. Its units
-/// have the same order.
+/// If names of places alone are changed, to value names, the respelled files are read as the respelled project. Its
+/// units have the same order.
 pub fn respelling_keeps_the_reading()
     ensures { RespellingKeepsTheReading }
 {}

@@ -27,10 +27,10 @@ pub struct Read<'a> {
 ///
 /// # Errors
 ///
-/// Of the first source, in byte order of names, that is not read: `Lex` or `LongName` with the byte at which its cutting
-/// stops; else `Form` with the first token at which a refused form begins; else `Deep` with the first token after which
-/// the nesting is over the limit; else `Syntax`. Else `Cycle`, where there is no manifest and units remain of which none
-/// can be taken, with the first unit that lies on a cycle. `Memory`.
+/// Of the first source, in byte order of names, that is not read: `Lex` or `LongName` with the byte at which its
+/// cutting stops; else `Form` with the first token at which a refused form begins; else `Deep` with the first token
+/// after which the nesting is over the limit; else `Syntax`. Else `Cycle`, if there is no manifest and units remain of
+/// which none can be taken, with the first unit that lies on a cycle. `Memory`.
 pub fn read_project<'a>(alloc: Global, files: &'a Files) -> Result<Read<'a>, Refusal>
     ensures project { IfOk result (λ read. Reads files.now (view_project read.project)) }
     ensures sound { IfOk result (λ read. IsSound (view_project read.project)) }

@@ -18,7 +18,7 @@ one_more [] (other ∷ steps) line step h s = absurd h
 one_more (first ∷ lines) [] line step h s = absurd h
 one_more (first ∷ lines) (other ∷ steps) line step h s = (h.0, one_more lines steps line step h.1 s)
 
--- the lines so far, where the rest has these
+-- the lines before the rest have these steps
 abbrev pub IsRead : List (List ℕ) → List (List ℕ) → List Step → Type 0
 IsRead lines rest steps = (before : List (List ℕ)) × (lines ≡ before ++ rest) × AreSteps before steps × (length steps ≤ max_batch_lines)
 

@@ -80,7 +80,7 @@ pub if_none : {A : Type 0} (r : Option A) (P : Type 0) → P → IfNone r P
 if_none None P p = p
 if_none (Some x) P p = tt
 
--- a line whose first or second part is no word asks for nothing
+-- a line whose first or second part is no word has no step
 pub no_first : (line front behind : List ℕ) → IsCut line front behind → (IsWord front → ⊥) → IsNoStep line
 no_first line front behind h bad = λ target name w. bad (subst IsWord (sym (one_cut line front behind target name h w.split w.first.whole).0) w.first)
 

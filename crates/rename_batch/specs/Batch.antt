@@ -74,7 +74,7 @@ abbrev pub NamesRefusal : BatchError → Type 0
 NamesRefusal (At number why) = why ≢ refusal.Memory
 NamesRefusal Memory = Unit {0}
 
--- the renaming that a step back asks for: the token at its place to the old name
+-- the renaming of a step back: the token at its place to the old name
 abbrev pub undo_step : List Word → Undo → Step
 undo_step names undo = record { target = target.At (file_of names undo.at.file) undo.at.token; name = undo.old }
 

@@ -41,13 +41,14 @@ pub record IsRewritten (files : FileSet) (done : Batched) : Type 0 where
 abbrev pub BatchesRewrite : Type 0
 BatchesRewrite = (files : FileSet) (steps : List Step) (done : Batched) → IsProject files → Batches files steps (Ok done) → IsRewritten files done
 
--- Law: a batch that is accepted is undone: the batch of the new files and the steps back is accepted, and gives the old files
+-- Law: a batch that is accepted is undone: the batch of the new files and the steps back is accepted, and gives the old
+-- files
 abbrev pub BatchesAreUndone : Type 0
 BatchesAreUndone =
     (files : FileSet) (steps : List Step) (done : Batched) → IsProject files → Batches files steps (Ok done)
     → (back : Batched) × Batches done.files (undo_steps (names_of done.files.entries) done.undo) (Ok back) × (back.files ≡ files)
 
--- Law: what its report prints behind `undo ` are lines that ask for the steps back
+-- Law: what its report prints behind `undo ` are lines that request the steps back
 abbrev pub UndosAreRead : Type 0
 UndosAreRead =
     (files : FileSet) (steps : List Step) (done : Batched) → IsProject files → Batches files steps (Ok done)

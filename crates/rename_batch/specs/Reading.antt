@@ -31,17 +31,17 @@ pub record AreWords (line target name : List ℕ) : Type 0 where
   pub second : IsWord name
   pub plain : is_value target ≡ true
 
--- the line asks for this renaming
+-- the line has this step
 pub record IsStep (line : List ℕ) (step : Step) : Type 0 where
   pub word : List ℕ
   pub words : AreWords line word step.name
   pub target : step.target ≡ target_of word
 
--- the line asks for none
+-- the line has no step
 abbrev pub IsNoStep : List ℕ → Type 0
 IsNoStep line = (target name : List ℕ) → AreWords line target name → ⊥
 
--- each line asks for the step of its number
+-- each line has the step of its number
 abbrev pub AreSteps : List (List ℕ) → List Step → Type 0
 AreSteps [] [] = Unit {0}
 AreSteps (line ∷ lines) (step ∷ steps) = IsStep line step × AreSteps lines steps
@@ -53,8 +53,8 @@ pub record IsBatch (lines : List (List ℕ)) (steps : List Step) : Type 0 where
   pub each : AreSteps lines steps
   pub few : length lines ≤ max_batch_lines
 
--- The line of this number, counted from 1, is the first bad one: it asks for no step, or has 1,000 lines before it, and
--- each line before it asks for a step.
+-- The line of this number, counted from 1, is the first bad one: it has no step, or has 1,000 lines before it, and each
+-- line before it has a step.
 pub record IsBadLine (lines : List (List ℕ)) (number : ℕ) : Type 0 where
   pub before : List (List ℕ)
   pub steps : List Step

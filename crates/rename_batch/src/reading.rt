@@ -14,7 +14,7 @@ use std::alloc::Global;
 /// # Errors
 ///
 /// `Line` with the number, from 1, of the first line that is not two words of UTF-8 with one space between, neither of
-/// them empty or with a space and the first not beginning with `-`; or with 1,001, where there are more than 1,000 lines
+/// them empty or with a space and the first not beginning with `-`; or with 1,001, if there are more than 1,000 lines
 /// and none before is bad. `Memory`.
 pub fn read_batch(alloc: Global, bytes: &[u8]) -> Result<Vec<Step>, BatchReadError>
     ensures steps { IfOk result (λ steps. IsBatch (feed_lines bytes.now) steps.items) }
@@ -36,7 +36,7 @@ pub fn read_batch(alloc: Global, bytes: &[u8]) -> Result<Vec<Step>, BatchReadErr
     Ok(steps)
 }
 
-/// The step that a line asks for, if it does.
+/// The step of a line, if it has one.
 fn read_step(alloc: Global, line: &[u8]) -> Result<Option<Step>, Memory>
     ensures step { IfOk result (λ found. IfSome found (IsStep line.now)) }
     ensures none { IfOk result (λ found. IfNone found (IsNoStep line.now)) }

@@ -91,7 +91,7 @@ fn latest<'a>(first: &'a Files, last: &'a Option<Files>) -> &'a Files
     }
 }
 
-/// The files that the last step left, or a copy of the first ones where there is no step.
+/// The files that the last step left; if there is no step, a copy of the first ones.
 fn left(alloc: Global, first: &Files, last: Option<Files>) -> Result<Files, Memory>
     ensures { IfOk result (λ files. files ≡ unwrap_or last first.now) }
 {

@@ -2,7 +2,7 @@
 
 use rotor_base::{Files, Name, Place, Row, Target};
 
-/// A renaming that a batch asks for.
+/// A renaming that a batch requests.
 #[derive(Debug, Drop)]
 pub struct Step {
     pub target: Target,

@@ -1,4 +1,4 @@
--- Files and what is asked have at most one answer.
+-- A call has at most one answer for the same files and arguments.
 use Rattle.std.proofs.Common.{◌≡◌, inl, inr, List, Ok, Err, refl, ap, sym, subst, ◌∙◌}
 use Rattle.rotor_base.specs.declared.place.Place.{Place}
 use Rattle.rotor_base.specs.declared.place.Foot.{Foot}

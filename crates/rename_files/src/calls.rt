@@ -42,7 +42,7 @@ pub fn check(alloc: Global, files: &Files) -> Result<Counts, Refusal>
 ///
 /// # Errors
 ///
-/// Those of [`check`], and then `NoTarget`, where the target names no binder. `Memory`.
+/// Those of [`check`], and then `NoTarget`, if the target names no binder. `Memory`.
 pub fn foot(alloc: Global, files: &Files, target: &Target) -> Result<FootReport, Refusal>
     ensures shown { IfOk result (λ shown. Shows files.now target.now (Ok shown)) }
     ensures refused { IfErr result (IsRefusedFor (λ why. Shows files.now target.now (Err why))) }
@@ -65,13 +65,13 @@ pub fn foot(alloc: Global, files: &Files, target: &Target) -> Result<FootReport,
 ///
 /// # Errors
 ///
-/// Those of [`foot`], and then the first of these that holds: `Operator`, where the name is an operator; `BadName`,
-/// where the new name is no value name; `SameName`, where it is the old one; `Outside` with the least member that is
-/// linked with the outside; `Pun` with the least member or reference whose word is a label or a field too; `Blurred`
-/// with the least place at which an outside module hides what a member is; `Grown` with the first source with which
-/// the new ones are over the limits on bytes; `Clash` with the least place that would repeat a name of its group, and
-/// the least place of that name there; `Capture` with the least reference that would have another goal, and both goals;
-/// `Mislink` with the first link of the least item that would have another source, and both sources. `Memory`.
+/// Those of [`foot`], and then the first of these that holds: `Operator`, if the name is an operator; `BadName`, if the
+/// new name is no value name; `SameName`, if it is the old one; `Outside` with the least member that is linked with the
+/// outside; `Pun` with the least member or reference whose word is a label or a field too; `Blurred` with the least
+/// place at which an outside module hides what a member is; `Grown` with the first source with which the new ones are
+/// over the limits on bytes; `Clash` with the least place that would repeat a name of its group, and the least place of
+/// that name there; `Capture` with the least reference that would have another goal, and both goals; `Mislink` with the
+/// first link of the least item that would have another source, and both sources. `Memory`.
 pub fn rename(
     alloc: Global,
     files: &Files,

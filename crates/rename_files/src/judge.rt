@@ -38,7 +38,7 @@ pub struct Judged {
     pub sources: Vec<SourceFile>,
 }
 
-/// The new sources of a renaming, where it has no refusal.
+/// The new sources of a renaming, if it has no refusal.
 pub fn judge(
     alloc: Global,
     files: &Files,

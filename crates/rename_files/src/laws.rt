@@ -2,7 +2,7 @@
 
 ghost use Rattle.rename_files.specs.Laws.{OneCheck, OneFootprint, OneRenaming};
 
-/// Files and what is asked have at most one answer.
+/// A call has at most one answer for the same files and arguments.
 pub fn answers_are_one()
     ensures check { OneCheck }
     ensures footprint { OneFootprint }

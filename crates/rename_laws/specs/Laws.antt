@@ -19,8 +19,8 @@ use Rattle.project_reading.specs.Reads.{Reads}
 use Rattle.rename_model.specs.Target.{number_of}
 use Rattle.rename_files.specs.Answer.{Renames}
 
--- the new sources have the old names, the manifest is the same, they are taken as a project's files, and each source that
--- differs is among those that changed
+-- the new sources have the old names, the manifest is the same, they are taken as a project's files, and each source
+-- that differs is among those that changed
 pub record Rewrites (files : FileSet) (done : Renamed) : Type 0 where
   pub names : names_of done.files.entries ≡ names_of files.entries
   pub manifest : done.files.manifest ≡ files.manifest
@@ -105,8 +105,8 @@ KeptRunsGoOn = (first middle last : FileSet) → KeepsRuns first middle → Keep
 abbrev pub FootprintsAreLeast : Type 0
 FootprintsAreLeast = (files : FileSet) (target : Target) (new : Name) (done : Renamed) → IsProject files → Renames files target new (Ok done) → IsLeastFor files done.foot.decls
 
--- Law: and it is undone. If a source's name gives the target's file, the renaming back of the target's place is accepted,
--- and gives the old files
+-- Law: and it is undone. If a source's name gives the target's file, the renaming back of the target's place is
+-- accepted, and gives the old files
 abbrev pub RenamingsAreUndone : Type 0
 RenamingsAreUndone =
     (files : FileSet) (target : Target) (new : Name) (done : Renamed) → IsProject files → Renames files target new (Ok done)

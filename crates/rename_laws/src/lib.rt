@@ -1,4 +1,5 @@
-//! What a renaming that is accepted keeps: the facts and the runs of the project, and that it changes a least footprint.
+//! What a renaming that is accepted keeps: the facts and the runs of the project, and that it changes a least
+//! footprint.
 #![tactic(auto)]
 
 mod laws;

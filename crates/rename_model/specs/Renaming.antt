@@ -78,7 +78,7 @@ IsPun us foot (refusal.Pun at) = IsLeast (λ p. IsHit us foot p × IsPunAt us p)
 IsPun us foot _ = ⊥
 
 -- a place at which a Dark entry hides what a member is: a reference with a member behind its Blur; a member that is the
--- item of a link with the source Blur; a member that stands behind such a source
+-- item of a link with the source Blur; a member that is behind such a source
 pub data IsBlurredAt (fs : Facts) (foot : Foot) (p : Place) : Type 0 where
   at_reference : (g : Goal) (d : Place) → Contains fs.refs (a_ref p g) → IsIn foot d → HasBehind d g → IsBlurredAt fs foot p
   at_item : (l : Link) → Contains fs.links l → IsIn foot p → l.item ≡ Decl p → IsBlur l.source → IsBlurredAt fs foot p

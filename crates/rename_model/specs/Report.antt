@@ -24,7 +24,7 @@ abbrev pub hit_files : List Place → ℕ → List SourceFile → List ℕ
 hit_files ps n [] = []
 hit_files ps n (file ∷ files) = if list_any (λ p. p.file == n) ps then n ∷ hit_files ps (suc n) files else hit_files ps (suc n) files
 
--- what `rename` has done, where it is accepted
+-- what `rename` has done, if it is accepted
 pub record IsRenaming (files : FileSet) (us : List UnitTree) (d : Place) (foot : Foot) (new : Name) (done : Renamed) : Type 0 where
   pub sources : AreRespelled (in_file (renamed_words us (watch_of us d foot new))) 0 files.entries done.files.entries
   pub manifest : done.files.manifest ≡ files.manifest

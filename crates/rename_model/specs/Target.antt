@@ -28,14 +28,14 @@ number_of files name = first_at (λ file. bytes_eq file.name name) files
 abbrev pub TextSpot : Type 0
 TextSpot = ℕ × ℕ
 
--- where the next byte stands: a line ends with its LF
+-- the spot of the next byte: a line ends with its LF
 abbrev pub behind : TextSpot → ℕ → TextSpot
 behind spot b = if b == 10 then (suc spot.0, 1) else (spot.0, suc spot.1)
 
 abbrev pub is_spot : TextSpot → TextSpot → Bool
 is_spot s t = s.0 == t.0 && s.1 == t.1
 
--- the offset of the byte at a spot, where the first byte stands at `here`; an LF stands on no line
+-- the offset of the byte at a spot, if the first byte is at `here`; an LF is on no line
 abbrev pub offset_from : TextSpot → TextSpot → List ℕ → Option ℕ
 offset_from spot here [] = None
 offset_from spot here (b ∷ bs) =
@@ -82,7 +82,7 @@ decl_found (Some (Decl d)) = Some d
 decl_found (Some (Blur by n behind)) = behind
 decl_found (Some _) = None
 
--- the declaration that a path names: its last name is the last value of that name, whatever Dark entries stand after it
+-- the declaration that a path names: its last name is the last value of that name, whatever Dark entries follow it
 abbrev pub dotted : Entries → List Name → Option Place
 dotted es [] = None
 dotted es (x ∷ []) = decl_found (find_val es x)
@@ -96,6 +96,6 @@ Names files us (At file token) at = (number_of files.entries file ≡ Some at.fi
 Names files us (Spot file line column) at = IsSpot files.entries file (line, column) at
 Names files us (Dotted path) at = dotted (after_units none us) path ≡ Some at
 
--- the goal of a target: that place, where it is a binder
+-- the goal of a target: that place, if it is a binder
 abbrev pub Aims : FileSet → List UnitTree → Target → Place → Type 0
 Aims files us target d = Names files us target d × IsBinder us d

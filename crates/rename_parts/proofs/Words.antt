@@ -70,7 +70,7 @@ module _ (set : BTreeSet Place) (file : ℕ) (new : List ℕ) where
         let same : all ≡ done = a ∙ ap (λ z. cond z (done ++ record { start = t.start; end = t.end; text = new } ∷ []) done) e in
         subst (Continues ts (i + 1)) (sym same) (give_kept ts i t done w is e h)
 
-  -- the item at a position, where its number is counted
+  -- the same of the token at a position, with its number, counted from 1
   pub give_at : (ts : List Token) (i n : ℕ) (d : Token) (done all : List Edit) → i < length ts → n ≡ i + 1
       → all ≡ cond (Hits (get_or ts i d) n) (done ++ record { start = (get_or ts i d).start; end = (get_or ts i d).end; text = new } ∷ []) done → Continues ts i done → Continues ts (i + 1) all
   give_at ts i n d done all w e a h =

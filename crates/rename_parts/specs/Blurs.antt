@@ -9,7 +9,7 @@ use Rattle.rotor_base.specs.declared.place.Link.{Link}
 use Rattle.binding_model.specs.Facts.{earlier}
 use Rattle.rotor_base.specs.Place.{place_cmp}
 
--- a place, where it is in a set
+-- a place, if it is in a set
 abbrev pub in_set : BTreeSet Place → Place → Option Place
 in_set set p = if contains place_cmp set p then Some p else None
 
@@ -18,7 +18,7 @@ abbrev pub behind_in : BTreeSet Place → Goal → Option Place
 behind_in set (Blur by n (Some d)) = in_set set d
 behind_in set _ = None
 
--- the item of a link whose source is Blur, where it is a member
+-- the item of a link whose source is Blur, if it is a member
 abbrev pub item_in : BTreeSet Place → Goal → Goal → Option Place
 item_in set (Decl p) (Blur by n behind) = in_set set p
 item_in set _ _ = None

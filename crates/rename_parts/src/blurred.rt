@@ -44,7 +44,7 @@ fn blurred_ref(reference: Ref, members: &BTreeSet<Place>) -> Option<Place>
     }
 }
 
-/// The item of a link whose source an outside module hides, where it is a member.
+/// The item of a link whose source an outside module hides, if it is a member.
 fn blurred_item(link: Link, members: &BTreeSet<Place>) -> Option<Place>
     ensures { result ≡ blurred_item members.now link }
 {
@@ -61,7 +61,7 @@ fn blurred_item(link: Link, members: &BTreeSet<Place>) -> Option<Place>
     }
 }
 
-/// The member behind outside modules, where a goal has one.
+/// The member behind outside modules, if a goal has one.
 fn behind_in(goal: Goal, members: &BTreeSet<Place>) -> Option<Place>
     ensures { result ≡ behind_in members.now goal }
 {
@@ -75,7 +75,7 @@ fn behind_in(goal: Goal, members: &BTreeSet<Place>) -> Option<Place>
     }
 }
 
-/// A place, where it is a member.
+/// A place, if it is a member.
 fn in_set(place: Place, members: &BTreeSet<Place>) -> Option<Place>
     ensures { result ≡ in_set members.now place }
 {

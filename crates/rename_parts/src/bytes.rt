@@ -61,7 +61,7 @@ fn edits_of(
     Ok(list)
 }
 
-/// Adds the edit that gives a token a new word, where it is a lower-case word at a place of the set.
+/// Adds the edit that gives a token a new word, if it is a lower-case word at a place of the set.
 fn add_edit(
     alloc: Global,
     list: &mut Vec<Edit>,

@@ -90,7 +90,7 @@ fn add_marks(
     Ok(())
 }
 
-/// Adds a mark of a file, where its place is in the set.
+/// Adds a mark of a file, if its place is in the set.
 fn add_mark(
     list: &mut Vec<Hit>,
     file: u32,

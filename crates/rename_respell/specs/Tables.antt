@@ -25,7 +25,7 @@ word_in names goals p = word_by names (get place_cmp goals p) p
 abbrev pub words_in : BTreeMap Place (Bor (List ℕ)) → BTreeMap Place Goal → Words
 words_in names goals p x = or_value (word_in names goals p) x
 
--- the text of a token, with its new word where it takes one
+-- the text of a token, with its new word if it takes one
 abbrev pub text_of : Option Name → Class → List ℕ → List ℕ
 text_of None c text = text
 text_of (Some word) class.Label text = label_with text word

@@ -1,4 +1,4 @@
--- What the scans find is what the conditions ask.
+-- What the scans find is what the conditions require.
 use Rattle.std.proofs.Common.{◌≡◌, ◌⊎◌, inl, inr, List, [], ◌∷◌, ◌++◌, Bool, true, false, true≢false, not, cond, Option, Some, None, filter, Contains, refl, ap, sym, subst, ◌∙◌}
 use Rattle.std.specs.BTreeSet.{BTreeSet, contains}
 use Rattle.std.specs.List.{list_any}

@@ -95,7 +95,7 @@ module _ (us : List UnitTree) (d : Place) (foot : Foot) (new : Name) where
   past_six sources why f r =
       inr (operator_free f.words, inr (name_free f.valid, inr (same_free f.other, inr (outside_free f.inside, inr (pun_free (λ p h. f.plain p h.0 h.1), inr (blurred_free f.clear, r))))))
 
-  -- where nothing meets the six conditions nor the rest, nothing meets the ladder
+  -- if nothing meets the six conditions nor the rest, nothing meets the ladder
   pub none_met : (sources : List SourceFile) → IsFree us d foot new → (IsMet (Rest us d foot new sources) → ⊥) → (why : Refusal) → refusals_of_binder sources us d foot new why → ⊥
   none_met sources f n why (inl h) = operator_free f.words (why, h)
   none_met sources f n why (inr (a, inl h)) = name_free f.valid (why, h)

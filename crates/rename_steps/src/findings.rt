@@ -41,7 +41,7 @@ pub struct Hits {
     pub set: BTreeSet<Place>,
 }
 
-/// The places that a renaming gives the new word, where none of the refusals `Operator` to `Blurred` holds.
+/// The places that a renaming gives the new word, if none of the refusals `Operator` to `Blurred` holds.
 pub fn judge_foot(
     alloc: Global,
     project: &Project,

@@ -48,7 +48,7 @@ pub fn remake(alloc: Global, files: &Files, sources: Vec<SourceFile>) -> Result<
     Ok(Files::from_parts(sources, manifest))
 }
 
-/// The bytes of the manifest, where there is one.
+/// The bytes of the manifest, if there is one.
 fn copy_manifest(alloc: Global, files: &Files) -> Result<Option<Vec<u8>>, Memory>
     ensures same { IfOk result (λ manifest. option_map (λ bytes. bytes.items) manifest ≡ files.now.manifest) }
     ensures project { IsProject files.now }

@@ -20,7 +20,7 @@ use std::alloc::Global;
 ///
 /// # Errors
 ///
-/// The refusals of `read_project`. Else `Heavy` with the first site to end that is too heavy, also where a name occurs
+/// The refusals of `read_project`. Else `Heavy` with the first site to end that is too heavy, also if a name occurs
 /// twice in a group. `Memory`.
 pub fn survey(alloc: Global, files: &Files) -> Result<Survey, Refusal>
     ensures surveyed { IfOk result (λ survey. Surveys files.now (Ok survey)) }

@@ -21,7 +21,8 @@ use Rattle.rename_verify.specs.Candidate.{AreLexemesOf, candidate}
 use Rattle.rename_verify.proofs.Given as given
 use Rattle.rename_verify.proofs.Sources.{sources_are_renamed}
 
--- new files that have the names, the manifest and the bytes of the respelled old ones, if what is changed may be renamed
+-- new files that have the names, the manifest and the bytes of the respelled old ones, if what is changed may be
+-- renamed
 pub record AreRespelling (old new : FileSet) (us : List UnitTree) (lists : List (List Lexeme)) : Type 0 where
   pub project : IsProject old
   pub reads : Reads old us

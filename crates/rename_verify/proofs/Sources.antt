@@ -63,7 +63,7 @@ module _ (w : Words) where
 
   -- ---- one source
 
-  -- what a tree's places are asked
+  -- the conditions on a tree's places
   pub record IsApt (n : ℕ) (t : FileTree) : Type 0 where
     pub changes : ChangesNames (in_file w n) (sites t)
     pub keeps : Each (KeepsOwn (in_file w n)) (sites t)

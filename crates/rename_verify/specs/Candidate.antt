@@ -40,8 +40,8 @@ lower_word (Some x) = if_lower x.class x.bytes
 abbrev pub word_at : List (List Lexeme) → Place → Option Name
 word_at lists p = lower_word (lexeme_at (unwrap_or (slice_get lists p.file) []) p.token)
 
--- the name that the candidate gives a binder: the word of the same token, and its own name if there is none, or if it is
--- an operator or a pun
+-- the name that the candidate gives a binder: the word of the same token, and its own name if there is none, or if it
+-- is an operator or a pun
 abbrev pub given_name : List (List Lexeme) → Binder → Name
 given_name lists b = if b.operator || b.pun then b.name else unwrap_or (word_at lists b.at) b.name
 

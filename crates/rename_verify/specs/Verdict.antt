@@ -27,7 +27,8 @@ abbrev pub IsSources : FileSet → FileSet → Why → Type 0
 IsSources old new (why.Sources name) = HasOtherSources old new name
 IsSources old new _ = ⊥
 
--- 24: the bytes of the respelled old sources and of the new ones differ: in the first file, and there at the least offset
+-- 24: the bytes of the respelled old sources and of the new ones differ: in the first file, and there at the least
+-- offset
 abbrev pub IsBytes : List UnitTree → Renaming → FileSet → FileSet → Why → Type 0
 IsBytes us r old new (why.Bytes file offset) =
     (sources : List (List ℕ)) × AreRespelledBytes (mapped_words us r) 0 old.entries sources

@@ -27,8 +27,8 @@ use rename_survey::list_binders;
 use rotor_base::{Facts, Files, Refusal};
 use std::alloc::Global;
 
-/// Whether a project is a valid respelling of another, by the renaming that gives each binder the word of the same token
-/// in the new sources.
+/// Whether a project is a valid respelling of another, by the renaming that gives each binder the word of the same
+/// token in the new sources.
 ///
 /// # Errors
 ///

@@ -7,8 +7,8 @@ pub fn verdicts_are_one()
     ensures { VerdictsAreOne }
 {}
 
-/// The verdict is yes exactly for a valid respelling, and the renaming's changes are reported. Then every bounded run of
-/// the project is kept.
+/// The verdict is yes exactly for a valid respelling, and the renaming's changes are reported. Then every bounded run
+/// of the project is kept.
 pub fn yes_is_valid()
     ensures valid { YesIsValid }
     ensures yes { ValidIsYes }

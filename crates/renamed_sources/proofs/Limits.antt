@@ -1,4 +1,5 @@
--- Sources that are taken are not over the limits on bytes, and new ones with their names that are not over them are taken.
+-- Sources that are taken are not over the limits on bytes, and new ones with their names that are not over them are
+-- taken.
 use Rattle.std.proofs.Common.{◌≡◌, ℕ, suc, List, [], ◌∷◌, Bool, true, false, cond, Option, Some, None, option_map, refl, ap, sym, ◌∙◌}
 use Rattle.std.specs.Option.{option_or}
 use Rattle.rotor_base.specs.declared.source.SourceFile.{SourceFile}

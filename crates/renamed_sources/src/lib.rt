@@ -1,4 +1,4 @@
-//! What the sources of a renaming are: their names, their bytes where nothing is renamed, and their names of values.
+//! What the sources of a renaming are: their names, their bytes if nothing is renamed, and their names of values.
 #![tactic(auto)]
 
 mod laws;

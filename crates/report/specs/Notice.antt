@@ -75,7 +75,7 @@ value_of (Plain value) = value
 value_of (Was value) = value
 value_of (Would value) = value
 
--- what stands before a value
+-- the text before a value
 abbrev pub mark_of : Part → Word
 mark_of (Plain value) = codes " "
 mark_of (Was value) = codes " was "
@@ -84,6 +84,6 @@ mark_of (Would value) = codes " would "
 abbrev pub part_text : Part → Word
 part_text part = mark_of part ++ value_of part
 
--- the line: the subject, a colon, and the kind and the values with what stands before them
+-- the line: the subject, a colon, and the kind and the values with the texts before them
 abbrev pub notice_line : Notice → Word
 notice_line notice = join (subject_text notice.subject ∷ codes ":" ∷ []) ++ flat_map part_text notice.parts

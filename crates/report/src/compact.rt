@@ -84,7 +84,7 @@ fn done_object(
     })
 }
 
-/// The object of a notice: the kind and the values under the subject. Where there is no notice, it has no lines.
+/// The object of a notice: the kind and the values under the subject. If there is no notice, it has no lines.
 fn notice_value(alloc: Global, notice: Option<Notice>) -> Result<Value, Memory>
     ensures { IfOk result (λ value. view value ≡ notice_data notice) }
 {

@@ -138,7 +138,7 @@ fn yes_or_no(undone: bool) -> &'static str
     if undone { "yes" } else { "no" }
 }
 
-/// The line of a notice, where there is one.
+/// The line of a notice, if there is one.
 fn notice_lines(alloc: Global, notice: Option<Notice>) -> Result<Row<Row<u8>>, Memory>
     ensures { IfOk result (λ lines. lines ≡ notice_lines_of notice) }
 {

@@ -258,7 +258,7 @@ impl Part {
     ghost use Rattle.std.specs.Prelude.{◌≡◌};
     ghost use Rattle.report.specs.Notice.{mark_of, value_of};
 
-    /// What stands before the value in the line.
+    /// The text before the value in the line.
     fn mark(&self) -> &'static [u8]
         ensures { result.now ≡ mark_of self.now }
     {

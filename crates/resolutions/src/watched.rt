@@ -25,7 +25,7 @@ pub struct Watched {
     pub watch: Watch,
 }
 
-/// The renaming that a target and a new name ask for, if the project has no refusal and the target names a binder.
+/// The renaming that a target and a new name request, if the project has no refusal and the target names a binder.
 pub fn watch_target(
     alloc: Global,
     files: &Files,

@@ -16,7 +16,7 @@ abbrev pub use_recorded : Option Recorder → Place → Name → Goal → Entrie
 use_recorded None at x g es = None
 use_recorded (Some r) at x g es = Some (record r { looks = record r.looks { refs = r.looks.refs ++ ref_look r.watch at x g es } })
 
--- looks of links, numbered behind others
+-- looks of links, numbered after others
 abbrev pub moved : ℕ → LinkLook → LinkLook
 moved n l = record l { number = n + l.number }
 
@@ -39,7 +39,7 @@ with_tie n x g src = record n {
   recorder = tie_recorded n.recorder x g src;
 }
 
--- all of a part's
+-- all variables of a part
 abbrev pub tied_to : Found → Entries → Entries → Found
 tied_to n src none = n
 tied_to n src (a_val x g es) = tied_to (with_tie n x g src) src es

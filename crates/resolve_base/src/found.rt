@@ -1,4 +1,4 @@
-//! What is added to what a resolver has in hand.
+//! What is added to the state of a resolver.
 
 ghost use Rattle.std.specs.Prelude.{◌≡◌, OnOk, IfOk};
 ghost use Rattle.shape_core.specs.Shape.{Opaque, value_in};
@@ -82,7 +82,7 @@ fn declared(alloc: Global, values: &[SharedEntry]) -> Result<Row<Place>, Memory>
     Ok(places)
 }
 
-/// Ends a weighed site: `Heavy` where its shape, the sum of weights or the work so far is over its bound.
+/// Ends a weighed site: `Heavy` if its shape, the sum of weights or the work so far is over its bound.
 pub fn weighed_site(found: &mut Found, at: Place, shape: &Shared) -> Result<(), FactError>
     ensures taken { HasTaken result found.old found.new (WeighedSite at shape.now) }
     ensures heavy { HasStopped result found.old (WeighedSite at shape.now) }
@@ -98,7 +98,7 @@ pub fn weighed_site(found: &mut Found, at: Place, shape: &Shared) -> Result<(), 
     Ok(())
 }
 
-/// Ends an opening site: `Heavy` where the weights that the unit has opened are over their bound.
+/// Ends an opening site: `Heavy` if the weights that the unit has opened are over their bound.
 pub fn opened_site(found: &mut Found, at: Place, shape: &Shared) -> Result<(), FactError>
     ensures taken { HasTaken result found.old found.new (OpenedSite at shape.now) }
     ensures heavy { HasStopped result found.old (OpenedSite at shape.now) }

@@ -1,4 +1,4 @@
-//! Links that are added to what a resolver has in hand, while their work is within its bound.
+//! Links that are added to the state of a resolver, while their work is within its bound.
 
 ghost use Rattle.std.specs.Prelude.{◌≡◌, ◌≤◌, ◌+◌, ◌++◌, OnOk, length, nat_lt};
 ghost use Rattle.rotor_base.specs.Limits.{max_work};
@@ -112,7 +112,7 @@ fn count(values: &[SharedEntry]) -> u64
     number
 }
 
-/// Adds a link from each value to what has its name in a part. Their work is left to the caller.
+/// Adds a link from each value to what has its name in a part. The caller counts their work.
 fn tie_to(found: &mut Found, values: &[SharedEntry], source: &Shared) -> Result<(), Memory>
     ensures { OnOk result (found.new ≡ tied_to found.old (entries_in source.now) (entries_of values.now)) }
 {

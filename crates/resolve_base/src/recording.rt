@@ -1,4 +1,4 @@
-//! The looks that a recorder keeps, where there is one.
+//! The looks that a recorder keeps, if there is one.
 
 ghost use Rattle.std.specs.Prelude.{◌≡◌, OnOk};
 ghost use Rattle.shape_core.specs.Shape.{entries_in, value_in};
@@ -34,7 +34,7 @@ pub fn record_use(
     Ok(())
 }
 
-/// The look of a reference, where it has the old or the new name.
+/// The look of a reference, if it has the old or the new name.
 fn look_of_use(
     watch: &Watch,
     list: &[SharedEntry],
@@ -114,7 +114,7 @@ pub fn record_pin(
     add_looks(&mut recorder.looks, &looks)
 }
 
-/// Adds looks of links, numbered behind those before them.
+/// Adds looks of links, numbered after those before them.
 fn add_looks(all: &mut Looks, more: &Looks) -> Result<(), Memory>
     ensures { OnOk result (all.new ≡ joined_looks all.old more.now) }
 {

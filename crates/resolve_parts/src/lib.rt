@@ -1,4 +1,4 @@
-//! Expressions, resolved in their scopes.
+//! Patterns, the values of bindings and applications of modules, resolved.
 #![tactic(auto)]
 
 mod local;

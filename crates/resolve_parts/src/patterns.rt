@@ -1,4 +1,4 @@
-//! Patterns, resolved: their or-patterns, each where it ends.
+//! Patterns, resolved: their or-patterns, each at its end.
 
 ghost use Rattle.std.specs.Prelude.{◌≡◌, OnOk, IfOk};
 ghost use Rattle.rotor_base.specs.declared.place.Goal.TheVariants.{Decl};
@@ -18,8 +18,8 @@ use rotor_base::Memory;
 use shape_core::{SharedEntry, make_struct};
 use std::alloc::Global;
 
-/// A pattern: each or-pattern in it gives its groups and links, where it ends. `Memory` is the only error. It takes
-/// stack at each level of the pattern.
+/// A pattern: each or-pattern in it gives its groups and links at its end. `Memory` is the only error. It takes stack
+/// at each level of the pattern.
 #[cycle(patterns)]
 #[tactic(auto, using(ml_syntax::proofs::Variants::pat_views))]
 pub fn pattern(alloc: Global, found: &mut Found, file: u32, pat: &Pat) -> Result<(), Memory>
@@ -99,7 +99,7 @@ fn fields(alloc: Global, found: &mut Found, file: u32, list: &[PatField]) -> Res
     Ok(())
 }
 
-/// The parts of an or-pattern behind the first, each tied to the part before it.
+/// The parts of an or-pattern after the first, each tied to the part before it.
 #[tactic(auto, using(crate::proofs::Lists::ties_so))]
 fn tie_all(
     alloc: Global,

@@ -23,8 +23,8 @@ use Rattle.project_reading.specs.Sources.{AreCut}
 abbrev pub renamed_words : List UnitTree → Renaming → Words
 renamed_words us r = words_of r (facts us).refs
 
--- The renaming gives value names, to places that are no operators and no puns. No use of one of them is an operator or a
--- pun.
+-- The renaming gives value names, to places that are no operators and no puns. No use of one of them is an operator or
+-- a pun.
 pub record GivesValueNames (us : List UnitTree) (r : Renaming) : Type 0 where
   pub word : (d : Place) (y : Name) → at_place r d ≡ Some y → IsTrue (is_value_name y)
   pub place : (d : Place) (y : Name) → at_place r d ≡ Some y → (x : Site) × (at_place (places us) d ≡ Some x)
@@ -43,7 +43,7 @@ RenamedFilesAreRead =
     (us : List UnitTree) (r : Renaming) (old new : FileSet) → IsProject old → Reads old us → GivesValueNames us r
     → AreRenamed us r old new → Reads new (respell us r)
 
--- and cut into the respelled lexemes
+-- Renamed files are cut into the respelled lexemes
 abbrev pub RenamedFilesAreCut : Type 0
 RenamedFilesAreCut =
     (us : List UnitTree) (r : Renaming) (old new : FileSet) (lists : List (List Lexeme)) → IsProject old → Reads old us → GivesValueNames us r

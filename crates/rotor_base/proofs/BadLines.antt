@@ -27,7 +27,7 @@ and_none true b true h = and_false b
 and_none true b false h = let bad : false ≡ true = h refl in cc
 and_none false b c h = refl
 
--- what is left is named so where it was, and the name is another
+-- a unit named x is left exactly if there was one and x is not the name y that is taken
 pub left_named : (us : List SourceUnit) (x y : List ℕ)
     → list_any (is_named x) (filter (λ u. not (bytes_eq u.name y)) us) ≡ (list_any (is_named x) us && not (bytes_eq y x))
 left_named [] x y = refl

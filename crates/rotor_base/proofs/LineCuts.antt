@@ -42,7 +42,7 @@ all_before bs line is whole =
     let within = prefix_len-le-length (λ (b : ℕ). not (eqb b 10)) bs in
     grind (arith, common_steps)
 
--- where the bytes before the first LF are all bytes, they are the one line
+-- if the bytes before the first LF are all bytes, they are the only line
 pub lines_whole : (bs line rest : List ℕ) → 0 < length bs
     → line ≡ take (position_or_len (λ b. eqb b 10) bs) bs → rest ≡ drop (position_or_len (λ b. eqb b 10) bs + 1) bs
     → length line ≡ length bs → lines bs ≡ line ∷ lines rest
@@ -52,7 +52,7 @@ lines_whole bs line rest some is behind whole =
     let none : rest ≡ [] = grind (arith, common_steps) in
     rw (same, none) (lines_open bs some all)
 
--- where they are fewer, they are the first line, without the CR at its end
+-- if they are fewer, they are the first line, without the CR at its end
 pub lines_cut : (bs line rest : List ℕ)
     → line ≡ take (position_or_len (λ b. eqb b 10) bs) bs → rest ≡ drop (position_or_len (λ b. eqb b 10) bs + 1) bs
     → length line ≢ length bs → lines bs ≡ strip_carriage_return line ∷ lines rest
@@ -85,6 +85,6 @@ pub feeds_cut : (bs : List ℕ) → 0 < length bs
 feeds_cut [] some = absurd (omega arith)
 feeds_cut (b ∷ bs) some = feeds_by b bs (eqb b 10) (feeds_cut bs)
 
--- no position is found, so all bytes stand before it
+-- no LF is found, so all bytes precede it
 pub no_feed : (bs : List ℕ) → position (λ b. eqb b 10) bs ≡ None → length bs ≡ position_or_len (λ b. eqb b 10) bs
 no_feed bs e = none_at (position_or_len (λ b. eqb b 10) bs) (length bs) (nat_lt (position_or_len (λ b. eqb b 10) bs) (length bs)) refl (prefix_len-le-length (λ (b : ℕ). not (eqb b 10)) bs) e

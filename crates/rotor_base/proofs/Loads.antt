@@ -19,11 +19,11 @@ pub are_over_with : (front : List SourceFile) (x : SourceFile) → are_over fron
     → are_over (front ++ x ∷ []) ≡ (nat_lt 1048576 (length x.bytes) || nat_lt 8388608 (sum_by (λ file. length file.bytes) front + length x.bytes))
 are_over_with front x e = grind (arith, common_steps)
 
--- it is the first with which they are over
+-- this source is the first with which they are over
 pub first_with_hit : (front : List SourceFile) (x : SourceFile) (rest : List SourceFile) → are_over (front ++ x ∷ []) ≡ true → first_with (λ f. are_over (front ++ f)) (x ∷ rest) ≡ Some x
 first_with_hit front x rest e = ap (λ t. cond t (Some x) (first_with (λ f. are_over (front ++ x ∷ f)) rest)) e
 
--- it is not
+-- this source is not the first
 pub first_with_miss : (front : List SourceFile) (x : SourceFile) (rest : List SourceFile) → are_over (front ++ x ∷ []) ≡ false
     → first_with (λ f. are_over (front ++ f)) (x ∷ rest) ≡ first_with (λ f. are_over ((front ++ x ∷ []) ++ f)) rest
 first_with_miss front x rest e =

@@ -51,7 +51,7 @@ place_found p q e = place_exact p q (equal_of (place_cmp p q) e)
 pub all_before : (ps : List Place) → IsStrictlySortedBy place_cmp ps → AllPairs IsBefore ps
 all_before ps h i j d ij jn = place_before (get_or ps i d) (get_or ps j d) (Less-from_sorted place_cmp ps i j d h ij jn)
 
--- a set has what stands in its list of places
+-- a set has a place exactly if its list of places has it
 pub listed : (ps : List Place) (p : Place) → list_any (is_at (place_cmp p)) ps ≡ true → Contains ps p
 listed ps p h = Contains-from_any {eq = eq_by_cmp place_cmp} place_found p ps h
 

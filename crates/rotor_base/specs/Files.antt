@@ -16,7 +16,7 @@ use Rattle.rotor_base.specs.declared.unit.SourceUnit.{SourceUnit}
 use Rattle.rotor_base.specs.declared.refusal.LoadError.{LoadError}
 use Rattle.rotor_base.specs.declared.refusal.LoadError.TheVariants.{TooMany, TooLarge, DoubleUnit, BadManifest, Memory}
 
--- sources by their names, with their bytes, and the bytes of the manifest where there is one
+-- sources by their names, with their bytes, and the bytes of the manifest if there is one
 pub record FileSet : Type 0 where
   pub entries : List SourceFile
   pub manifest : Option (List ℕ)
@@ -52,7 +52,7 @@ abbrev pub doubled_units : List SourceUnit → List (List ℕ)
 doubled_units [] = []
 doubled_units (unit ∷ units) = if list_any (are_twins unit) units then unit.name ∷ doubled_units units else doubled_units units
 
--- the lesser of two words in byte order, where there are two
+-- the lesser of two words in byte order; if there is but one, that one
 abbrev pub lesser : Option (List ℕ) → List ℕ → Option (List ℕ)
 lesser None word = Some word
 lesser (Some least) word = if is_lt (slice_cmp nat_cmp word least) then Some word else Some least
@@ -65,8 +65,8 @@ least_word words = fold lesser None words
 unfoldable pub double_unit : List SourceUnit → Option LoadError
 double_unit units = option_map DoubleUnit (least_word (doubled_units units))
 
--- The number of the first line that names none of the units that are left, where each line that is not empty takes the
--- unit that it names; where a unit is left at the end, one more than the number of lines.
+-- The number of the first line that names none of the units that are left. Each line that is not empty takes the unit
+-- that it names. If a unit is left at the end, it is one more than the number of lines.
 abbrev pub bad_line : List (List ℕ) → List SourceUnit → Option ℕ
 bad_line [] [] = None
 bad_line [] (unit ∷ units) = Some 1
@@ -102,7 +102,7 @@ pub record AreSources (files : List SourceFile) : Type 0 where
   pub ordered : IsStrictlySortedBy (slice_cmp nat_cmp) (names_of files)
 
 -- The files of a project: sources in strict byte order that keep the limits, no two of one kind with one unit, and a
--- manifest that lists each unit once, where there is one.
+-- manifest that lists each unit once, if there is one.
 pub record IsProject (files : FileSet) : Type 0 where
   pub sources : AreSources files.entries
   pub taken : load_refusal files.entries files.manifest ≡ None

@@ -12,7 +12,7 @@ use crate::{LoadError, SourceFile};
 use std::alloc::Global;
 use std::marker::Model;
 
-/// The sources of a folder, and its manifest where it has one. Their names are those of sources, in strict byte
+/// The sources of a folder, and its manifest if it has one. Their names are those of sources, in strict byte
 /// order, all limits on files hold, no two sources of one kind give one unit, and the manifest lists the units.
 /// Contracts see the list of the sources and the manifest's bytes.
 #[derive(Debug, Drop)]
@@ -61,7 +61,7 @@ impl Files {
         &self.entries
     }
 
-    /// The bytes of the manifest, and `None` where the folder has none. It takes no memory.
+    /// The bytes of the manifest; if the folder has none, `None`. It takes no memory.
     pub fn manifest(&self) -> Option<&[u8]>
         ensures { option_copied result ≡ self.now.manifest }
     {
@@ -76,10 +76,10 @@ impl Files {
 ///
 /// # Errors
 ///
-/// The first of these that stands: `TooMany` with the number of the sources; `TooLarge` with the first source that is
+/// The first of these that holds: `TooMany` with the number of the sources; `TooLarge` with the first source that is
 /// too large, or with which all so far are; `TooLarge` with `rotor.units`; `DoubleUnit` with the least unit that two
 /// sources of one kind give; `BadManifest` with the first line, counted from 1, that names no unit or one of an earlier
-/// line, or else, where a unit has no line, with one more than the number of lines. And `Memory`.
+/// line, or else, if a unit has no line, with one more than the number of lines. And `Memory`.
 pub fn make_files(
     alloc: Global,
     entries: Vec<SourceFile>,

@@ -1,7 +1,7 @@
 //! The types that the crates of ROTOR share: names, places, goals, facts, refusals, reports and limits.
 //!
 //! Contracts see a [`Name`], a [`Text`] and a [`Row`] as lists, so that two values of this crate are equal in a
-//! clause exactly where they hold the same contents.
+//! clause exactly if they hold the same contents.
 #![tactic(auto)]
 
 mod fault;

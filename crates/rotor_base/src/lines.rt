@@ -4,7 +4,7 @@ ghost use Rattle.std.specs.List.{position, position_or_len};
 ghost use Rattle.std.specs.Str.Lines.{lines, strip_carriage_return};
 ghost use Rattle.rotor_base.specs.Lines.{feed_lines};
 
-/// The first line of some bytes without its end, and what follows it; `None` where there is no line. A line ends at LF,
+/// The first line of some bytes without its end, and what follows it; if there is no line, `None`. A line ends at LF,
 /// and a CR before the LF is no part of it. The last line may lack the LF. It takes no memory.
 pub fn next_line(bytes: &[u8]) -> Option<(&[u8], &[u8])>
     ensures end { IfNone result (bytes.now ≡ []) }
@@ -21,7 +21,7 @@ pub fn next_line(bytes: &[u8]) -> Option<(&[u8], &[u8])>
     Some((without_return(line), rest))
 }
 
-/// The first line of some bytes without the LF that ends it, and what follows it; `None` where there is no line. A CR is
+/// The first line of some bytes without the LF that ends it, and what follows it; if there is no line, `None`. A CR is
 /// a byte of the line. The last line may lack the LF. It takes no memory.
 pub fn feed_line(bytes: &[u8]) -> Option<(&[u8], &[u8])>
     ensures end { IfNone result (bytes.now ≡ []) }
@@ -34,7 +34,7 @@ pub fn feed_line(bytes: &[u8]) -> Option<(&[u8], &[u8])>
     Some(cut_feed(bytes))
 }
 
-/// The bytes before the first LF and those behind it; all bytes and none where there is no LF.
+/// The bytes before the first LF and those behind it; if there is no LF, all bytes and none.
 fn cut_feed(bytes: &[u8]) -> (&[u8], &[u8])
     ensures line { result.0.now ≡ take (position_or_len (λ b. b == 10) bytes.now) bytes.now }
     ensures rest { result.1.now ≡ drop (position_or_len (λ b. b == 10) bytes.now + 1) bytes.now }
@@ -46,7 +46,7 @@ fn cut_feed(bytes: &[u8]) -> (&[u8], &[u8])
     (&bytes[..end], &bytes[end + 1..])
 }
 
-/// The number of bytes before the first LF, or of all bytes where there is none.
+/// The number of bytes before the first LF; if there is none, of all bytes.
 fn line_end(bytes: &[u8]) -> usize
     ensures at { result ≡ position_or_len (λ b. b == 10) bytes.now }
     ensures within { result ≤ length bytes.now }
@@ -64,7 +64,7 @@ fn first_feed(bytes: &[u8]) -> Option<usize>
     bytes.iter().position(|byte| *byte == b'\n')
 }
 
-/// A line without the CR at its end, where it has one.
+/// A line without the CR at its end, if it has one.
 fn without_return(line: &[u8]) -> &[u8]
     ensures { result.now ≡ strip_carriage_return line.now }
 {

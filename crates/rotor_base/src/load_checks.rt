@@ -1,4 +1,4 @@
-//! What `make_files` asks of the sources and the manifest, one question a function.
+//! The checks that `make_files` makes of the sources and the manifest, one in each function.
 ghost use Rattle.std.specs.Prelude.{◌≡◌, ◌≤◌, ◌∷◌, List, ℕ, suc, filter, not, None, IfErr, IfOk, IsFalse, IsTrue, OnOk, Some, length};
 ghost use Rattle.std.specs.List.{list_any};
 ghost use Rattle.std.specs.Option.{ForSome, option_copied, option_map};
@@ -45,7 +45,7 @@ pub(crate) fn check_sizes(alloc: Global, files: &[SourceFile]) -> Result<(), Loa
     Ok(())
 }
 
-/// Whether the manifest, where there is one, is not too large.
+/// Whether the manifest, if there is one, is not too large.
 #[tactic(auto, unfolding(crate::specs::Files::long_manifest))]
 pub(crate) fn check_manifest_size(
     alloc: Global,
@@ -106,7 +106,7 @@ fn has_twin(units: &[SourceUnit], unit: &SourceUnit) -> bool
         && unit.name.as_bytes() == other.name.as_bytes())
 }
 
-/// The lesser of two words in byte order, where there are two.
+/// The lesser of two words in byte order; if there is but one, that one.
 fn lesser_of<'a>(least: Option<&'a [u8]>, word: &'a [u8]) -> &'a [u8]
     ensures { lesser (option_copied least.entry) word.now ≡ Some result.now }
 {
@@ -119,7 +119,7 @@ fn lesser_of<'a>(least: Option<&'a [u8]>, word: &'a [u8]) -> &'a [u8]
     }
 }
 
-/// Whether the manifest, where there is one, names each unit on just one line.
+/// Whether the manifest, if there is one, names each unit on just one line.
 #[tactic(auto, unfolding(crate::specs::Files::bad_manifest))]
 pub(crate) fn check_manifest(
     units: Vec<SourceUnit>,
@@ -138,7 +138,7 @@ pub(crate) fn check_manifest(
     }
 }
 
-/// The number of the first line that names no unit, or one that an earlier line names; else, where a unit has no line,
+/// The number of the first line that names no unit, or one that an earlier line names; else, if a unit has no line,
 /// one more than the number of lines.
 fn first_bad_line(units: Vec<SourceUnit>, manifest: &[u8]) -> Option<u32>
     requires { length manifest.now ≤ max_file_bytes }

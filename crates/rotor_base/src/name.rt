@@ -133,7 +133,7 @@ fn begins_as_value_name(word: &[u8]) -> bool
     }
 }
 
-/// Whether all bytes of a word may stand in an identifier.
+/// Whether all bytes of a word are identifier characters.
 fn is_identifier(word: &[u8]) -> bool
     ensures { result ≡ list_all is_identifier_byte word.now }
 {

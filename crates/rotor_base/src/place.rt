@@ -54,7 +54,7 @@ pub struct Ref {
     pub goal: Goal,
 }
 
-/// What binds a project: its references, its links, and the groups in which no name may stand twice.
+/// What binds a project: its references, its links, and the groups in which no name may occur twice.
 #[derive(Debug, Drop)]
 pub struct Facts {
     pub refs: Row<Ref>,

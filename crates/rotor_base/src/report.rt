@@ -42,7 +42,7 @@ pub struct Renamed {
     pub undo_at: Place,
 }
 
-/// How a command comes out, before its text.
+/// The outcome of a command, before its text.
 #[derive(Debug, Drop)]
 pub enum Outcome {
     /// `rename` is accepted.

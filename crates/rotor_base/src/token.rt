@@ -17,7 +17,7 @@ pub enum Class {
     Mark,
 }
 
-/// A lexeme: its class, its bytes, and where they stand in the source, from `start` up to `end`.
+/// A lexeme: its class, its bytes, and their span in the source, from `start` up to `end`.
 #[derive(Clone, Copy, Debug)]
 pub struct Token<'a> {
     pub class: Class,

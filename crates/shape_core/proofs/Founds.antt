@@ -1,4 +1,4 @@
--- What look-ups find, in lists that are mapped and in lists of which something holds of each entry.
+-- What look-ups find in a list that is mapped, and in a list of which something holds of each entry.
 use Rattle.std.proofs.Common.{◌≡◌, ℕ, ◌≤◌, ◌+◌, Bool, true, false, List, [], ◌∷◌, Option, Some, None, refl, sym, ap, subst, ◌∙◌, arith}
 use Rattle.std.proofs.lemmas.Slice.Eq.{bytes_eq-Decides}
 use Rattle.std.specs.Prelude.{bytes_eq}
@@ -18,7 +18,7 @@ has_either : {V : Type 0} (P : Name → V → Type 0) (b : Bool) (y x : Name) (v
 has_either P b y x v u h p (Some t) k e = k e
 has_either P b y x v u h p None k e = some_if-is P b y x v u h p e
 
--- what is found has what each entry has
+-- what holds of each entry holds of the one that is found
 pub last_of-has : {V : Type 0} (P : Name → V → Type 0) (es : List (Name × V)) (x : Name) (u : V) → Each P es → last_of es x ≡ Some u → P x u
 last_of-has P [] x u h e = absurd cc
 last_of-has P (a ∷ es) x u h e = has_either P (bytes_eq a.0 x) a.0 x a.1 u (bytes_eq-Decides a.0 x).0 h.0 (last_of es x) (λ k. last_of-has P es x u h.1 k) e
@@ -62,7 +62,7 @@ mtys_depth n (a_mod X s es) h = mtys_depth n es (omega (arith, h))
 mtys_depth n (a_mty S s es) h = (omega (arith, h), mtys_depth n es (omega (arith, h)))
 mtys_depth n (a_dark at es) h = mtys_depth n es h
 
--- so what a look-up finds is less deep than the list
+-- what a look-up finds is less deep than the list
 pub mod_depth : (es : Entries) (X : Name) (s : Shape) → last_of (mods es) X ≡ Some s → depth s + 1 ≤ depths es
 mod_depth es X s e = last_of-has (λ Y t. depth t + 1 ≤ depths es) (mods es) X s (mods_depth (depths es) es (omega arith)) e
 

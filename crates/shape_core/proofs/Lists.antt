@@ -65,7 +65,7 @@ darks-append (a_mod X s a) b = darks-append a b
 darks-append (a_mty S s a) b = darks-append a b
 darks-append (a_dark at a) b = ap (λ l. at ∷ l) (darks-append a b)
 
--- what is found behind an appended list
+-- what a look-up finds in two lists, one after the other
 pub find_vals : (a b : Entries) (x : Name) → last_of (vals (a ⊕ b)) x ≡ or_else (last_of (vals b) x) (last_of (vals a) x)
 find_vals a b x = ap (λ l. last_of l x) (vals-append a b) ∙ last_of-append (vals a) (vals b) x
 
@@ -89,7 +89,7 @@ front None None at a b = refl
 front None (Some v) at a b = refl
 front (Some v) p at a b = refl
 
--- a value that stands in the later list hides the Dark entries of the earlier one
+-- a value in the later list hides the Dark entries of the earlier one
 pub passed-append : (a b : Entries) (x : Name) → passed (a ⊕ b) x ≡ unless_some (last_of (vals b) x) (passed a x ++ passed b x) (passed b x)
 passed-append none b x = sym (unless_same (last_of (vals b) x) (passed b x))
 passed-append (a_val y g a) b x = passed-append a b x

@@ -1,4 +1,4 @@
--- What is told of a match, mapped: items and work hang on no name of a value.
+-- A function applied to the results of a trace. The items and the work of a match depend on no name of a value.
 use Rattle.std.proofs.Common.{◌≡◌, ℕ, zero, suc, ◌+◌, List, [], ◌∷◌, ◌++◌, map, length, Option, Some, None, refl, sym, ap, ◌∙◌}
 use Rattle.rotor_base.specs.declared.place.Goal.{Goal}
 use Rattle.rotor_base.specs.declared.place.Link.{Link}
@@ -7,7 +7,7 @@ use Rattle.shape_core.specs.Links.{Trace, ◌&◌, nothing, a_step, one, or_empt
 use Rattle.shape_core.specs.Respell.{Words, spell_shape}
 use Rattle.shape_core.proofs.Spelled.{retold, matched-spell, pin-spell}
 
--- a trace with what is told mapped
+-- a trace with a function applied to each of its results
 abbrev pub mapped : {A B : Type 0} → (A → B) → Trace A → Trace B
 mapped f t = record { told = map f t.told; work = t.work }
 
@@ -111,7 +111,7 @@ links-work w s t = ap (λ t. t.work) (links-items w s t)
 pub pinned-work : (w : Words) (s : Shape) → (pinned (spell_shape w s)).work ≡ (pinned s).work
 pinned-work w s = ap (λ t. t.work) (pinned-items w s)
 
--- whatever is told of links, there is one thing told of each, at the same work
+-- the number of results of a match does not depend on `tell`
 abbrev nothing_of : {A : Type 0} → A → ℕ
 nothing_of a = 0
 

@@ -92,7 +92,7 @@ argument : links (one (codes "f") 32) (one (codes "f") 7) ≡ told (link 7 (decl
 unfolding matched ◌&◌
 argument = refl
 
--- a functor against a functor type: the parameter's value is asked of the signature
+-- a functor against a functor type: the type's parameter is matched with the functor's
 abbrev functor : Shape
 functor = Functor (one (codes "a") 21) (one (codes "b") 57)
 

@@ -1,4 +1,4 @@
--- Lists of shared entries, and where the last entry of a name stands in them.
+-- Lists of shared entries, and the position of the last entry of a name in them.
 use Rattle.std.proofs.Common.{◌≡◌, ℕ, zero, suc, ◌<◌, ◌-◌, Bool, true, false, List, [], ◌∷◌, ◌++◌, length, drop, slice_get, Option, Some, None, refl, sym, ap, ◌∙◌, arith}
 use Rattle.std.proofs.lemmas.Slice.Eq.{bytes_eq-Decides}
 use Rattle.std.specs.Prelude.{bytes_eq, nat_eq}
@@ -99,7 +99,7 @@ pub length-befores : (done list : List SharedEntry) → length (befores_from don
 length-befores done [] = refl
 length-befores done (c ∷ list) = ap suc (length-befores (done ++ c ∷ []) list)
 
--- what the last spot of a name tells of a look-up
+-- what a look-up finds and passes, by the last spot of the name
 abbrev pub Told : Option Goal → List Place → List Place → Option Spot → Type 0
 Told found ats all None = (found ≡ None) × (ats ≡ all)
 Told found ats all (Some s) = (found ≡ Some s.goal) × (ats ≡ drop s.darks all)

@@ -78,7 +78,7 @@ module _ (w : Words) where
   brought-spell Opaque at = refl
 
   mutual
-    -- weights hang on no name of a value
+    -- weights depend on no name of a value
     pub weight-spell : (s : Shape) → weight (spell_shape w s) ≡ weight s
     weight-spell (Struct es) = weights-spell es
     weight-spell (Functor p r) = ap (λ n. 1 + (n + weight (spell_shape w r))) (weight-spell p) ∙ ap (λ n. 1 + (weight p + n)) (weight-spell r)
@@ -119,7 +119,7 @@ module _ (w : Words) where
   src_mty : (es : Entries) (S : Name) → or_empty (find_mty (spell_entries w es) S) ≡ spell_shape w (or_empty (find_mty es S))
   src_mty es S = ap or_empty (find_mtys-spell es S) ∙ or_empty-over (find_mty es S)
 
-  -- the respelled match is the match, told of respelled entries
+  -- the match of respelled shapes is the match of the shapes with respelled arguments of `tell`
   module _ {A : Type 0} (tell : Name → Goal → Entries → Option Entries → A) where
     abbrev pub retold : Name → Goal → Entries → Option Entries → A
     retold x g rest src = tell (spell_at w g x) g (spell_entries w rest) (over (spell_entries w) src)

@@ -37,7 +37,7 @@ or_if false v o = refl
 abbrev made : Names Spot → Names ℕ → Names ℕ → Vec Place → Tables
 made v m s d = record { vals = v; mods = m; mtys = s; darks = d }
 
--- each entry's change, on the parts of what tables tell
+-- the change that each entry makes in the parts of the tables
 spot_more : (list : List SharedEntry) (d : SharedEntry) (x : Name) → last_spot (and_then d none) x ≡ None → last_spot (entries_of (list ++ d ∷ [])) x ≡ last_spot (entries_of list) x
 spot_more list d x h = ap (λ l. last_spot l x) (entries_of-append list (d ∷ [])) ∙ spot_still (entries_of list) (and_then d none) x h
 

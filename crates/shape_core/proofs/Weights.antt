@@ -1,4 +1,4 @@
--- Weights that are told.
+-- Capped weights.
 use Rattle.std.proofs.Common.{◌≡◌, ℕ, ◌+◌, ◌<◌, List, length, take, get_or, sym, ap, ◌∙◌, arith}
 use Rattle.std.specs.Global.{Vec}
 use Rattle.shape_core.specs.declared.shape.Entry.{Entry}

@@ -1,4 +1,4 @@
--- A shape is deeper than what stands in it.
+-- No part of a shared shape is deeper than the shape.
 use Rattle.std.specs.Prelude.{◌≤◌, List, [], ◌∷◌, max}
 use Rattle.std.proofs.Common.{arith}
 use denote.Param.Weighed.{most}

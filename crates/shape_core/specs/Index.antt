@@ -1,4 +1,4 @@
--- What an index of a list of entries tells.
+-- What an index of a list of entries holds.
 use Rattle.std.specs.Prelude.{◌≡◌, ◌≤◌, ℕ, suc, Bool, false, List, [], ◌∷◌, ◌++◌, slice_get, Option, Some, None, bytes_eq, nat_eq}
 use Rattle.rotor_base.specs.Limits.{max_levels}
 use Rattle.shape_core.specs.declared.shared.SharedEntry.{SharedEntry}
@@ -54,7 +54,7 @@ abbrev pub up : Option ℕ → Option ℕ
 up None = None
 up (Some n) = Some (suc n)
 
--- the position of the last entry that a test takes
+-- the position of the last entry that a test accepts
 abbrev pub last_at : (SharedEntry → Bool) → List SharedEntry → Option ℕ
 last_at test [] = None
 last_at test (e ∷ es) = or_else (up (last_at test es)) (some_if (test e) 0)
@@ -83,26 +83,26 @@ mty_at (Some (e.Mod x s)) = None
 mty_at (Some (e.Mty x s)) = Some s
 mty_at (Some (e.Dark at)) = None
 
--- what stands at a position
+-- the shape of the entry at a position
 abbrev pub there : (Option SharedEntry → Option Shape) → List SharedEntry → Option ℕ → Option Shape
 there f list None = None
 there f list (Some n) = f (slice_get list n)
 
--- the tables tell of each name what the list has of it
+-- the tables hold the last entries of each name of the list, and its Dark entries
 pub record Tells (t : Tables) (list : List SharedEntry) : Type 0 where
   pub vals : (x : Name) → at t.vals x ≡ last_spot (entries_of list) x
   pub mods : (X : Name) → at t.mods X ≡ last_at (is_mod X) list
   pub mtys : (S : Name) → at t.mtys S ≡ last_at (is_mty S) list
   pub darks : t.darks.items ≡ darks (entries_of list)
 
--- what the list has of the name of an entry after it
+-- what a list holds for the name of an entry that follows the list
 abbrev pub before_of : List SharedEntry → SharedEntry → Before
 before_of list (e.Val x g) = record { spot = last_spot (entries_of list) x; position = None }
 before_of list (e.Mod x s) = record { spot = None; position = last_at (is_mod x) list }
 before_of list (e.Mty x s) = record { spot = None; position = last_at (is_mty x) list }
 before_of list (e.Dark at) = record { spot = None; position = None }
 
--- that of each entry of a list, where others stand before it
+-- the same for each entry of a list that follows other entries
 abbrev pub befores_from : List SharedEntry → List SharedEntry → List Before
 befores_from done [] = []
 befores_from done (e ∷ es) = before_of done e ∷ befores_from (done ++ e ∷ []) es

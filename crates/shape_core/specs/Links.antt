@@ -29,9 +29,10 @@ one a = record { told = a ∷ []; work = 1 }
 abbrev pub or_empty : Option Shape → Shape
 or_empty o = or_value o (Struct none)
 
--- The rules of matching, pinning and work. `tell` is asked what to keep of each link, by the name and the goal of its
--- item, the entries after the item in the item's own list, and the list in which its source is looked up: none
--- where the link is pinned (the manual: Module types, and the matching of structures with signatures there).
+-- The rules of matching, pinning and work (the manual: Module types, and the matching of structures with signatures
+-- there). `tell` returns what is kept of each link. Its first arguments are the name and the goal of the item, and the
+-- entries after the item in its own list. The last is the list in which its source is looked up, or None if the link is
+-- pinned.
 module _ {A : Type 0} (tell : Name → Goal → Entries → Option Entries → A) where
   abbrev mutual
     -- Pin
@@ -56,7 +57,7 @@ module _ {A : Type 0} (tell : Name → Goal → Entries → Option Entries → A
   pin_vals (a_mty S s es) = pin_vals es
   pin_vals (a_dark at es) = pin_vals es
 
-  -- two structures, where `go` matches what they hold: the entries of the target in order
+  -- two structures, of which `go` matches the parts: the entries of the target in order
   abbrev pub match_entries : (Shape → Shape → Trace A) → Entries → Entries → Trace A
   match_entries go src none = nothing
   match_entries go src (a_val x g es) = one (tell x g es (Some src)) & match_entries go src es
@@ -67,7 +68,7 @@ module _ {A : Type 0} (tell : Name → Goal → Entries → Option Entries → A
       & match_entries go src es
   match_entries go src (a_dark at es) = a_step & pin_vals src & match_entries go src es
 
-  -- one level of a match of a source with a target, where `go` matches what they hold
+  -- one level of a match of a source with a target, of which `go` matches the parts
   abbrev pub match_step : (Shape → Shape → Trace A) → Shape → Shape → Trace A
   match_step go (Struct es) (Struct ts) = a_step & match_entries go es ts
   match_step go (Functor p r) (Functor q t) = a_step & go q p & go r t

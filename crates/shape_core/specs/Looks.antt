@@ -23,7 +23,7 @@ is_member w Missing = false
 is_member w Hidden = false
 is_member w (Blur by n behind) = false
 
--- a member of the footprint; a value of the old name that is none; a value of the new name
+-- a member of the footprint; another value of the old name; a value of the new name
 abbrev pub in_foot : Watch → Test
 in_foot w x g = is_member w g
 
@@ -45,7 +45,7 @@ abbrev pub moved : Option Spot → Option Spot
 moved None = None
 moved (Some s) = Some (suc s.0, s.1, s.2)
 
--- the last value that a test takes
+-- the last value that a test accepts
 abbrev pub last_where : Test → Entries → Option Spot
 last_where test none = None
 last_where test (a_val x g es) = or_else (moved (last_where test es)) (some_if (test x g) (0, some_place (decl_of g), length (darks es)))
@@ -53,7 +53,7 @@ last_where test (a_mod X s es) = moved (last_where test es)
 last_where test (a_mty S s es) = moved (last_where test es)
 last_where test (a_dark at es) = moved (last_where test es)
 
--- what a source list shows; nothing where the link is pinned
+-- the Dark entries of a source list, and its last value that a test accepts; nothing if the link is pinned
 abbrev pub source_darks : Option Entries → List Place
 source_darks None = []
 source_darks (Some src) = darks src
@@ -62,7 +62,7 @@ abbrev pub source_where : Test → Option Entries → Option Spot
 source_where test None = None
 source_where test (Some src) = last_where test src
 
--- the look of a link, where its item has the old or the new name
+-- the look of a link, if its item has the old or the new name
 abbrev pub look : Watch → Name → Goal → Entries → Option Entries → Option LinkLook
 look w x g rest src =
     some_if (bytes_eq x w.old || bytes_eq x w.new) (record {

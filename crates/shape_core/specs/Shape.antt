@@ -15,8 +15,8 @@ mutual
     Unitary : (result : Shape) → Shape
     Opaque : Shape
 
-  -- a scope, or what a structure has, in order: values with their goals, modules and module types with their
-  -- shapes, and the openings of outside modules; what a later entry hides stays in the list
+  -- a scope, or what a structure has, in order: values with their goals, modules and module types with their shapes,
+  -- and the openings of outside modules. What a later entry hides stays in the list
   pub data Entries : Type 0 where
     none : Entries
     a_val : (x : Name) (g : Goal) (rest : Entries) → Entries
@@ -112,8 +112,8 @@ abbrev pub behind_of : Option Goal → Option Place
 behind_of None = None
 behind_of (Some g) = decl_of g
 
--- what is found behind a number of Dark entries, of which `by` is the last; nothing is known to be there where
--- nothing is found and none is passed
+-- what is found through a number of Dark entries, of which `by` is the last. It is None if no value is found and no
+-- Dark entry is passed
 abbrev pub seen : Option Goal → Option Place → ℕ → Option Goal
 seen found None n = found
 seen found (Some by) n = Some (Blur by n (behind_of found))
@@ -129,7 +129,7 @@ find_mod es X = last_of (mods es) X
 abbrev pub find_mty : Entries → Name → Option Shape
 find_mty es S = last_of (mtys es) S
 
--- a step into a module: nothing where it is absent, and where the shape is no structure
+-- a step into a module: nothing if it is absent, or if the shape is no structure
 abbrev pub step : Shape → Name → Option Shape
 step (Struct es) X = find_mod es X
 step (Functor p r) X = None
@@ -144,7 +144,7 @@ abbrev pub inside : Option Shape → List Name → Option Shape
 inside s [] = s
 inside s (X ∷ p) = inside (step_from s X) p
 
--- a module path from its head, or nothing where it ends nowhere (the manual: Names)
+-- the module at the end of a path, from the path's head, or nothing if the path ends nowhere (the manual: Names)
 abbrev pub find_path : Entries → List Name → Option Shape
 find_path sc [] = None
 find_path sc (X ∷ p) = inside (find_mod sc X) p
@@ -205,7 +205,7 @@ entries_from (suc n) (a_mod X s es) = entries_from n es
 entries_from (suc n) (a_mty S s es) = entries_from n es
 entries_from (suc n) (a_dark at es) = entries_from n es
 
--- the positions of the values, where the first entry stands at a position
+-- the positions of the values in a list whose first entry has a given position
 abbrev pub values_from : ℕ → Entries → List ℕ
 values_from n none = []
 values_from n (a_val x g es) = n ∷ values_from (suc n) es
@@ -237,12 +237,12 @@ abbrev mutual
   weights (a_mty S s es) = (1 + weight s) + weights es
   weights (a_dark at es) = 1 + weights es
 
--- the weight that is told: weights past the greatest are not told apart
+-- the weight, or the greatest weight if it is more
 abbrev pub capped : ℕ → ℕ
 capped n = min n 16777216
 
 abbrev mutual
-  -- how many levels of shapes stand below a shape
+  -- the number of levels of shapes below a shape
   pub depth : Shape → ℕ
   depth (Struct es) = depths es
   depth (Functor p r) = max (depth p) (depth r) + 1

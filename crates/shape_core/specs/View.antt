@@ -1,4 +1,4 @@
--- The shapes of the plain form, without where they lie in memory.
+-- The shapes of the plain form, without their addresses in memory.
 use Rattle.std.specs.Prelude.{◌≡◌, List, [], ◌∷◌, length, Option, Some, None}
 use Rattle.std.specs.Borrow.{Bor}
 use Rattle.shape_core.specs.declared.shape.Shape.{Shape}
@@ -30,7 +30,7 @@ abbrev pub entries : List Entry → pure.Entries
 entries [] = pure.none
 entries (e ∷ es) = view_then e (entries es)
 
--- what was found, behind its reference
+-- a function applied to what was found, if anything was
 abbrev pub found : {A B : Type 0} → (A → B) → Option A → Option B
 found f None = None
 found f (Some a) = Some (f a)

@@ -1,4 +1,4 @@
-//! Where the last entry of each kind and name stands in a list of entries.
+//! The position of the last entry of each kind and name in a list of entries.
 
 ghost use Rattle.std.specs.Prelude.{◌≡◌, ℕ, List, [], ◌∷◌, ◌++◌, IfOk, OnOk, OnErr, length, option_copied, slice_get, Some};
 ghost use Rattle.shape_core.specs.Shape as pure;
@@ -21,7 +21,7 @@ pub struct Spot {
     pub darks: usize,
 }
 
-/// What a list tells by name, and its Dark entries.
+/// What a list holds by name, and its Dark entries.
 pub struct Tables {
     pub vals: Names<Spot>,
     pub mods: Names<usize>,
@@ -29,7 +29,7 @@ pub struct Tables {
     pub darks: Vec<Place>,
 }
 
-/// What the tables told of an entry's name before the entry.
+/// What the tables held for an entry's name before the entry.
 #[derive(Clone, Copy)]
 pub struct Before {
     pub spot: Option<Spot>,
@@ -65,7 +65,7 @@ impl Drop for Index {
 }
 
 impl Tables {
-    // Takes in the entry at a position. An `Err` changes nothing of what is told.
+    // Takes in the entry at a position. An `Err` changes nothing that the tables hold.
     fn note(
         &mut self,
         alloc: Global,
@@ -202,7 +202,7 @@ impl Index {
         }
     }
 
-    // The same of the entry that stands at the position.
+    // The same of the entry at the position.
     fn shown_entry(&self, entry: &SharedEntry, at: usize) -> bool
         ensures { (list : List SharedEntry) → IsIndexOf self.now list → slice_get list at ≡ Some entry.now → result ≡ pure.is_shown (pure.entries_from at (entries_of list)) }
     {
@@ -229,7 +229,7 @@ impl Index {
     }
 }
 
-// Adds what an entry changed, and its position where it is a value. An `Err` changes neither list.
+// Adds what an entry changed, and its position if it is a value. An `Err` changes neither list.
 fn record(
     befores: &mut Vec<Before>,
     values: &mut Vec<usize>,
@@ -265,7 +265,7 @@ fn add_value(values: &mut Vec<usize>, entry: &SharedEntry, position: usize) -> R
     }
 }
 
-// Takes the position of the last entry out, where that is a value.
+// Removes the position of the last entry, if that is a value.
 fn take_value_out(values: &mut Vec<usize>, entry: &SharedEntry)
     ensures { (front : List ℕ) (position : ℕ) → values.old.items ≡ front ++ pure.values_from position (and_then entry.now pure.none) → values.new.items ≡ front }
 {

@@ -7,7 +7,7 @@ ghost use Rattle.shape_core.specs.View.{view_shape, view_then, entries, found_sh
 use rotor_base::{Goal, MAX_LEVELS, Memory, Name, Place};
 use std::alloc::Global;
 
-/// The greatest weight that is told: a weight past it counts as this.
+/// The greatest weight: any greater weight counts as this.
 pub const GREATEST_WEIGHT: u64 = 16_777_216;
 
 /// What a module or a module type is.
@@ -100,8 +100,8 @@ fn see(seen: Seen, entry: &Entry, name: &[u8]) -> Seen
     }
 }
 
-/// The goal that a look-up of a value gives: that of the last value of that name where no Dark entry stands after
-/// it, else Blur. `None` where there is no such value and no Dark entry. It takes no memory.
+/// The goal that a look-up of a value gives: that of the last value of that name if no Dark entry follows it. `None` if
+/// there is no such value and no Dark entry, and otherwise Blur. It takes no memory.
 pub fn find_val(list: &[Entry], name: &[u8]) -> Option<Goal>
     ensures { result ≡ pure.find_val (entries list.now) name.now }
 {
@@ -170,7 +170,7 @@ fn mty_named<'a>(entry: &'a Entry, name: &[u8]) -> Option<&'a Shape>
     }
 }
 
-// The goal of the last value of that name, whatever stands after it.
+// The goal of the last value of that name, whatever follows it.
 fn last_val(list: &[Entry], name: &[u8]) -> Option<Goal>
     ensures { result ≡ pure.last_of (pure.vals (entries list.now)) name.now }
 {
@@ -236,8 +236,8 @@ fn inside<'a>(start: Option<&'a Shape>, path: &[Name]) -> Option<&'a Shape>
     at
 }
 
-/// The shape at the end of a module path. `None` where the path is empty, its head unknown, a step absent, or a
-/// step leads into a shape that is no structure. It takes no memory.
+/// The shape at the end of a module path. `None` if the path is empty, its head is unknown, a step is absent, or a step
+/// leads into a shape that is no structure. It takes no memory.
 pub fn walk<'a>(list: &'a [Entry], path: &[Name]) -> Option<&'a Shape>
     ensures { found_shape result ≡ pure.find_path (entries list.now) path.now }
 {
@@ -278,7 +278,7 @@ fn is_shown(entry: &Entry, rest: &[Entry]) -> bool
     }
 }
 
-// The sum of two weights that are told.
+// The sum of two weights, or the greatest weight if it is more.
 pub fn plus(a: u64, b: u64) -> u64
     requires { (a ≤ 16777216) × (b ≤ 16777216) }
     ensures { result ≡ pure.capped (a + b) }
@@ -286,7 +286,7 @@ pub fn plus(a: u64, b: u64) -> u64
     (a + b).min(GREATEST_WEIGHT)
 }
 
-/// The weight of a shape, or 16,777,216 where it is more. It goes as deep as the shape, and takes no memory.
+/// The weight of a shape, or 16,777,216 if it is more. It takes stack at each level of the shape, and no memory.
 #[cycle(weighing)]
 #[tactic(auto, using(crate::proofs::Weights::weight_rules), unfolding(crate::specs::View::view_shape))]
 pub fn weight(shape: &Shape) -> u64
@@ -324,15 +324,14 @@ fn weight_of_entry(entry: &Entry) -> u64
     }
 }
 
-/// A copy of a shape. `Memory` is the only error; it comes where there is none, and where the shape is deeper than
-/// [`MAX_LEVELS`].
+/// A copy of a shape. `Memory` is the only error: there is no memory, or the shape is deeper than [`MAX_LEVELS`].
 pub fn copy(alloc: Global, shape: &Shape) -> Result<Shape, Memory>
     ensures { IfOk result (λ copied. view_shape copied ≡ view_shape shape.now) }
 {
     copy_within(alloc, shape, MAX_LEVELS)
 }
 
-// One level less, where there is one.
+// One level less, if there is one.
 pub fn below(levels: usize) -> Result<usize, Memory>
     ensures { IfOk result (λ left. levels ≡ left + 1) }
 {

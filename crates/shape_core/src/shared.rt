@@ -145,14 +145,14 @@ fn make(alloc: Global, form: Form, weight: u64, levels: usize) -> Result<Shared,
     Ok(Shared { node })
 }
 
-/// The weight of a shape, or 16,777,216 where it is more. It is kept in the shape, and takes no memory.
+/// The weight of a shape, or 16,777,216 if it is more. It is kept in the shape, and takes no memory.
 pub fn weight_of(shape: &Shared) -> u64
     ensures { result ≡ pure.capped (pure.weight shape.now) }
 {
     shape.node.weight
 }
 
-/// How many levels of shapes stand below a shape: at most [`MAX_LEVELS`]. It takes no memory.
+/// The number of levels of shapes below a shape: at most [`MAX_LEVELS`]. It takes no memory.
 pub fn levels_of(shape: &Shared) -> usize
     ensures levels { result ≡ pure.depth shape.now }
     ensures bound { result ≤ max_levels }
@@ -182,8 +182,8 @@ fn levels_of_entry(entry: &SharedEntry) -> usize
     }
 }
 
-/// The structure of these entries. `Memory` is the only error; it comes where there is none, and where the shape
-/// would be deeper than [`MAX_LEVELS`]. It costs a hash for each entry.
+/// The structure of these entries. `Memory` is the only error: there is no memory, or the shape would be deeper than
+/// [`MAX_LEVELS`]. It costs a hash for each entry.
 pub fn make_struct(alloc: Global, entries: Vec<SharedEntry>) -> Result<Shared, Memory>
     ensures { IfOk result (λ shape. shape ≡ pure.Struct (entries_of entries.items)) }
 {

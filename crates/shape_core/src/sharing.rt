@@ -13,8 +13,8 @@ use crate::shared::{
 use rotor_base::{MAX_LEVELS, Memory, Name, Place};
 use std::alloc::Global;
 
-/// The shared form of a shape. `Memory` is the only error; it comes where there is none, and where the shape is
-/// deeper than [`MAX_LEVELS`].
+/// The shared form of a shape. `Memory` is the only error: there is no memory, or the shape is deeper than
+/// [`MAX_LEVELS`].
 pub fn share(alloc: Global, shape: &Shape) -> Result<Shared, Memory>
     ensures { IfOk result (λ shared. shared ≡ view_shape shape.now) }
 {
@@ -98,9 +98,9 @@ fn share_all(alloc: Global, list: &[SharedEntry]) -> Result<Vec<SharedEntry>, Me
     Ok(shared)
 }
 
-/// What an opening at a site brings: the entries of a structure, or one Dark entry with the site where the shape is
-/// no structure or there is none. It costs as many steps as there are entries; their shapes are shared and not
-/// copied. `Memory` is the only error.
+/// What an opening at a site brings: the entries of a structure. If there is no shape or it is no structure, that is
+/// one Dark entry with the site. It costs as many steps as there are entries; their shapes are shared and not copied.
+/// `Memory` is the only error.
 pub fn bring(alloc: Global, from: Option<&Shared>, at: Place) -> Result<Vec<SharedEntry>, Memory>
     ensures { IfOk result (λ v. entries_of v.items ≡ pure.brought (pure.or_value (option_copied from.entry) pure.Opaque) at) }
 {

@@ -53,7 +53,7 @@ from_in xs es i d f h k =
 pub end_in : (xs : List SharedEntry) (es : Entries) (i : ℕ) → entries_of xs ≡ es → length xs ≤ i → entries_from i es ≡ none
 end_in xs es i f h = ap (entries_from i) (sym f) ∙ from_end xs i h
 
--- `rest` stands for the entries after the first of `es`
+-- `rest` has the entries after the first of `es`
 pub pin_rest : (es rest : Entries) (d : SharedEntry) → es ≡ and_then d rest → pin_entries met es ≡ pin_first es & pin_entries met rest
 pin_rest es rest d h = ap (pin_entries met) h ∙ pin_next d rest ∙ ap (λ z. pin_first z & pin_entries met rest) (sym h)
 

@@ -1,4 +1,4 @@
--- The last value that a test takes, in a list with one entry more.
+-- The last value that a test accepts, in a list with one entry more.
 use Rattle.std.proofs.lemmas.List.{take_more, append-nil}
 use Rattle.std.proofs.Common.{◌≡◌, ℕ, suc, ◌+◌, ◌<◌, ◌≤◌, Bool, true, false, List, [], ◌∷◌, ◌++◌, length, take, get_or, Option, Some, None, refl, sym, ap, ◌∙◌, arith}
 use Rattle.rotor_base.specs.declared.place.Place.{Place}

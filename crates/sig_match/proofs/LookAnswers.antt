@@ -73,7 +73,7 @@ seen_more w xs i d h k =
     ∙ ap (map (look_of w)) (mets-push (take i xs) d)
     ∙ map-append (look_of w) (mets (take i xs)) (met_at d)
 
--- all that the loop keeps, where `ls` are the looks of the meeting
+-- all that the loop keeps; `ls` are the looks of the meeting
 pub looks_more : (w : Watch) (xs : List Meeting) (i : ℕ) (d : Meeting) (old new ls : List LinkLook) (p c : ℕ) → i < length xs → d ≡ get_or xs i d
     → old ≡ numbered 0 (seen w (take i xs)) → p ≡ length (seen w (take i xs)) → p ≤ i → ls ≡ numbered p (map (look_of w) (met_at d)) → new ≡ old ++ ls → c ≡ length (met_at d) → c ≤ 1
     → (new ≡ numbered 0 (seen w (take (i + 1) xs))) × (p + c ≡ length (seen w (take (i + 1) xs))) × (p + c ≤ i + 1)

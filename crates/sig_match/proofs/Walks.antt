@@ -10,7 +10,7 @@ use Rattle.sig_match.specs.declared.found.Stop.TheVariants.{Over, Memory}
 use Rattle.sig_match.specs.declared.found.Meeting.{Meeting}
 use Rattle.sig_match.specs.Walk.{Met, Goes, Walks, met_at, mets, told_once}
 
--- more work is over where less is
+-- work that is over the room stays over it with more work
 more_work : (room : ℕ) (a b c : Trace Met) → room < (a & b).work → room < (a & (b & c)).work
 more_work room a b c h = omega (arith, h, work-then a b, work-then a (b & c), work-then b c)
 
@@ -71,7 +71,7 @@ unfolding ◌&◌
 met_refused Over room t u v l h = h
 met_refused Memory room t u v l h = tt
 
--- what a `?` hands on
+-- what a `?` passes on
 pub left : (r : Result Unit Stop) (e : Stop) (room : ℕ) (t u a : Trace Met) → IsErr r → IsErrAnd r (λ y. y ≡ e) → Walks (Err e) room t u a → Walks r room t u a
 left (Ok x) e room t u a h k w = absurd cc
 left (Err y) e room t u a h k w = subst (λ z. Walks (Err z) room t u a) (sym k) w

@@ -9,8 +9,8 @@ use Rattle.sig_match.specs.declared.links.Matched.{Matched}
 use Rattle.sig_match.specs.declared.links.Matched.TheVariants.{Whole, Over}
 use Rattle.sig_match.specs.Walk.{Met, mets}
 
--- the answer to a match or a pinning that has these links and this work: Over where the work is more than the room,
--- else all links in order and their work
+-- the answer to a match or a pinning of these links and this work: Over if the work is more than the room, else all
+-- links in order and the work
 abbrev pub IsMatched : ℕ → Trace Link → Matched → Type 0
 IsMatched room t (Whole links work) = (links.items ≡ t.told) × (work ≡ t.work) × (t.work ≤ room)
 IsMatched room t Over = room < t.work

@@ -9,8 +9,8 @@ use Rattle.sig_match.specs.declared.found.Found.{Found}
 use Rattle.sig_match.specs.declared.found.Stop.{Stop}
 use Rattle.sig_match.specs.declared.found.Stop.TheVariants.{Over, Memory}
 
--- all that is known where a value is linked: its name and its goal, the entries after it, and the list in which its
--- source is looked up, which is none where it is pinned
+-- a value that is linked: its name and its goal, the entries after it, and the list in which its source is looked up.
+-- That list is None if the value is pinned
 pub record Met : Type 0 where
   pub name : Name
   pub goal : Goal
@@ -20,7 +20,7 @@ pub record Met : Type 0 where
 abbrev pub met : Name → Goal → Entries → Option Entries → Met
 met x g rest source = record { name = x; goal = g; rest = rest; source = source }
 
--- the first entry of a list, where it is a value
+-- the first entry of a list, if it is a value
 abbrev pub met_first : Option Entries → Entries → List Met
 met_first source none = []
 met_first source (a_val x g rest) = met x g rest source ∷ []
@@ -42,7 +42,7 @@ mets (m ∷ ms) = met_at m ++ mets ms
 abbrev pub trace_of : Found → Trace Met
 trace_of f = record { told = mets f.meetings.items; work = f.work }
 
--- these, at one unit of work
+-- these meetings, at one unit of work
 abbrev pub told_once : List Met → Trace Met
 told_once l = record { told = l; work = 1 }
 

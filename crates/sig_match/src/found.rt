@@ -9,8 +9,8 @@ use rotor_base::Memory;
 use shape_core::Shared;
 use std::alloc::{AllocError, AllocFailed};
 
-/// A value of a structure that is linked: the structure, the position of the value in it, and the structure in which
-/// the source of the link is looked up, which is none where the value is pinned.
+/// A value of a structure that is linked: the structure, the position of the value in it, and the structure of the
+/// link's source. The last is `None` if the value is pinned.
 #[derive(Clone, Copy)]
 pub struct Meeting<'a> {
     pub list: &'a Shared,

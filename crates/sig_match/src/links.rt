@@ -22,8 +22,8 @@ pub enum Matched {
     Over,
 }
 
-/// The links of a source with a target: what the source has for each value of the target. It is `Over` exactly where
-/// the work is more than `room`, and ends once it has done that much. `Memory` is the only error.
+/// The links of a source with a target: what the source has for each value of the target. It is `Over` exactly if the
+/// work is more than `room`, and ends once it has done that much. `Memory` is the only error.
 pub fn match_shapes(alloc: Global, src: &Shared, tgt: &Shared, room: u32) -> Result<Matched, Memory>
     ensures { IfOk result (IsMatched room (links.links src.now tgt.now)) }
 {
@@ -36,8 +36,8 @@ pub fn match_shapes(alloc: Global, src: &Shared, tgt: &Shared, room: u32) -> Res
     matched_of(alloc, walked, &found)
 }
 
-/// The links of a shape that is pinned: each of its values is linked with the outside. It is `Over` exactly where
-/// the work is more than `room`, and ends once it has done that much. `Memory` is the only error.
+/// The links of a shape that is pinned: each of its values is linked with the outside. It is `Over` exactly if the work
+/// is more than `room`, and ends once it has done that much. `Memory` is the only error.
 pub fn pin(alloc: Global, shape: &Shared, room: u32) -> Result<Matched, Memory>
     ensures { IfOk result (IsMatched room (links.pinned shape.now)) }
 {
@@ -104,7 +104,7 @@ fn link_at(meeting: &Meeting) -> Option<Link>
     }
 }
 
-// What the look-up of a visible value gives, or `Outside` where it is pinned.
+// What the look-up of a visible value gives, or `Outside` if the value is pinned.
 fn source_of(source: Option<&Shared>, name: &[u8]) -> Goal
     ensures { result ≡ links.source_of (list_in source.entry) name.now }
 {

@@ -74,7 +74,7 @@ fn place_of(goal: Goal) -> Place
     }
 }
 
-/// The last value of a list that a test takes. It takes no memory.
+/// The last value of a list that a test accepts. It takes no memory.
 pub fn last_where(test: Test, watch: &Watch, list: &[SharedEntry]) -> Option<Spot>
     ensures { result ≡ pure.last_where (test_of test watch.now) (entries_of list.now) }
 {
@@ -85,7 +85,7 @@ pub fn last_where(test: Test, watch: &Watch, list: &[SharedEntry]) -> Option<Spo
     last
 }
 
-// The last value of a list with one entry more, which stands at a position.
+// The last value that a test accepts, in a list with one entry more, at position `at`.
 fn with_entry(
     test: Test,
     watch: &Watch,
@@ -136,7 +136,7 @@ pub fn darks_of(list: &[SharedEntry]) -> (u64, Option<Place>)
     (number, last)
 }
 
-// The last value of a source list that a test takes; nothing where the link is pinned.
+// The last value of a source list that a test accepts; nothing if the link is pinned.
 fn source_where(test: Test, watch: &Watch, source: Option<&Shared>) -> Option<Spot>
     ensures { result ≡ pure.source_where (test_of test watch.now) (list_in source.entry) }
 {
@@ -146,7 +146,7 @@ fn source_where(test: Test, watch: &Watch, source: Option<&Shared>) -> Option<Sp
     }
 }
 
-// The number of Dark entries of a source list and the place of the last one; none where the link is pinned.
+// The number of Dark entries of a source list and the place of the last one; none if the link is pinned.
 fn source_darks(source: Option<&Shared>) -> (u64, Option<Place>)
     ensures number { result.0 ≡ length (pure.source_darks (list_in source.entry)) }
     ensures last { result.1 ≡ shapes.last_place (pure.source_darks (list_in source.entry)) }
@@ -175,8 +175,8 @@ fn is_pinned(source: Option<&Shared>) -> bool
     }
 }
 
-/// The look of the link of a value, where the value has the old or the new name: `rest` is what stands after the value in
-/// its list, and `source` the structure in which the link's source is looked up. It takes no memory.
+/// The look of the link of a value, if the value has the old or the new name. `rest` has the entries after the value in
+/// its list, and `source` is the structure in which the link's source is looked up. It takes no memory.
 pub fn look_of_value(
     name: &[u8],
     goal: Goal,
@@ -264,7 +264,7 @@ fn looks_of(alloc: Global, meetings: &[Meeting], watch: &Watch) -> Result<Looks,
     })
 }
 
-// The looks after a walk, which has found all where it ended.
+// The looks after a walk that reached its end, or `Memory`.
 fn looks_after(
     alloc: Global,
     walked: Result<(), Stop>,
@@ -279,9 +279,9 @@ fn looks_after(
     }
 }
 
-/// Looks' part on the links of a source with a target, numbered from 0: what each look-up of the old or of the new
-/// name would find. `Memory` is the only error; it comes where there is none, and where the work of the match is more
-/// than 4,294,967,295.
+/// Looks' part on the links of a source with a target: what each look-up of the old or of the new name would find. The
+/// links are numbered from 0. `Memory` is the only error: there is no memory, or the work of the match is more than
+/// 4,294,967,295.
 pub fn match_looks(
     alloc: Global,
     src: &Shared,

@@ -1,4 +1,4 @@
-//! The worked rows of shapes: sketches of shapes as they stand in a table, and the tests.
+//! The worked rows of shapes: sketches of shapes as they are in a table, and the tests.
 #![tactic(auto)]
 
 #[cfg(test)]

@@ -1,4 +1,4 @@
-//! Reads words and outcomes from its input, one a line, and prints what comes of each. The words `a b` are the line
+//! Reads words and outcomes from its input, one a line, and prints the answer to each. The words `a b` are the line
 //! `words|a|b`, and print the command that they are. `target|a` prints the target of the word `a`. Every other line is
 //! an outcome, and prints its report as text and as JSON.
 #![tactic(auto)]

@@ -24,7 +24,7 @@ step files i d b within is e =
     let found : list_any (λ file. bytes_eq (get_or files i d).name file.name) (drop (suc i) files) ≡ b = ap (λ f. list_any (λ file. bytes_eq f.name file.name) (drop (suc i) files)) (sym is) ∙ rw add-one at (sym e) in
     rw add-one (here ∙ ap (λ x. not x && are_distinct (map (λ (file : SourceFile). file.name) (drop (suc i) files))) found)
 
--- a file whose name stands again
+-- a file whose name occurs again
 pub again : (files : List SourceFile) (i : ℕ) (d : SourceFile) (b : Bool) → i < length files → d ≡ get_or files i d → b ≡ list_any (λ file. bytes_eq d.name file.name) (drop (i + 1) files) → b ≡ true → are_distinct (map (λ file. file.name) files) ≡ are_distinct (map (λ file. file.name) (drop i files)) → are_distinct (map (λ file. file.name) files) ≡ false
 again files i d b within is e found so_far = so_far ∙ step files i d b within is e ∙ ap (λ x. not x && are_distinct (map (λ (file : SourceFile). file.name) (drop (i + 1) files))) found
 

@@ -229,7 +229,7 @@ pub if_none : {P : Type 0} (o : Option (Bor (List ℕ))) → P → IfNone o P
 if_none None p = p
 if_none (Some x) p = tt
 
--- where there is room for a new name, there is a slot
+-- if there is room for a new name, there is a slot
 pub has_spot : (name : List ℕ) (slots seen : List Slot) (r : Option ℕ) → seen ≡ slots → r ≡ position (is_named name) seen → (IsNone (get (from_entries {R = slice_cmp nat_cmp} (files_in slots)) name) → 1 ≤ room_in slots name) → IsSome r
 has_spot name slots seen None same_list e placed =
     let absent = absent_of name slots seen None same_list e refl in

@@ -2,7 +2,7 @@
 use Rattle.std.specs.Prelude.{◌≡◌, ℕ, ◌+◌, ◌-◌, ◌^◌, ◌<◌, min, Bool, false, List, ◌==◌}
 use Rattle.std.specs.List.{list_any}
 
--- one more, or the greatest u64 where the count stands there
+-- one more; a count at the greatest u64 stays there
 abbrev pub next_count : ℕ → ℕ
 next_count count = min (count + 1) (2 ^ 64 - 1)
 

@@ -31,7 +31,8 @@ put_fails sink count = is_listed (sink_failing sink) (next_count (sink_puts sink
 abbrev pub Accepts : MemSink → ℕ → Type 0
 Accepts sink count = (is_listed (sink_failing sink) (next_count (sink_puts sink)) ≡ false) × (length (sink_bytes sink) + count ≤ sink_room sink)
 
--- what a put that failed keeps of its bytes: the first half, rounded down, or as many as there is room for where that is less
+-- what a put that failed keeps of its bytes: the first half, rounded down; if there is room for fewer, as many as there
+-- is room for
 abbrev pub kept_half : MemSink → List ℕ → List ℕ
 kept_half sink bytes = take (min (length bytes / 2) (sink_room sink - length (sink_bytes sink))) bytes
 

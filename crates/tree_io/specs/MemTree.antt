@@ -29,7 +29,7 @@ mem_faults tree = tree.faults
 abbrev pub fails_next : MemTree → Bool
 fails_next tree = is_listed (mem_failing tree) (next_count (mem_calls tree))
 
--- no call that is still to come is listed
+-- no call after those so far is listed
 abbrev pub IsSteady : MemTree → Type 0
 IsSteady tree = IsPast (mem_failing tree) (mem_calls tree)
 

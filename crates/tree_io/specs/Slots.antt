@@ -4,7 +4,7 @@ use Rattle.std.specs.List.{list_any}
 use Rattle.std.specs.Str.{bytes_eq}
 use Rattle.tree_io.specs.declared.slot.Slot.{Slot}
 
--- no name stands twice
+-- no name occurs twice
 abbrev pub are_distinct : List (List ℕ) → Bool
 are_distinct [] = true
 are_distinct (name ∷ names) = not (list_any (bytes_eq name) names) && are_distinct names
@@ -18,12 +18,12 @@ abbrev pub files_in : List Slot → List (List ℕ × List ℕ)
 files_in [] = []
 files_in (slot ∷ slots) = if slot.there then (slot.name, slot.bytes.items) ∷ files_in slots else files_in slots
 
--- the room of the first slot of a name, and none where no slot has it
+-- the room of the first slot of a name; if no slot has it, 0
 abbrev pub room_in : List Slot → List ℕ → ℕ
 room_in [] name = 0
 room_in (slot ∷ slots) name = if is_named name slot then vec_capacity slot.bytes else room_in slots name
 
--- the first slot of the name stands at this index
+-- the first slot of the name is at this index
 abbrev pub IsSpot : List ℕ → List Slot → ℕ → Type 0
 IsSpot name [] at = ⊥
 IsSpot name (slot ∷ slots) zero = is_named name slot ≡ true

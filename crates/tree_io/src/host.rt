@@ -16,12 +16,12 @@ use std::rt::Files;
 
 /// The most entries of a folder that is listed. One more is a fault.
 const MAX_ENTRIES: usize = 1_048_576;
-/// The bytes that one read asks for at most.
+/// The most bytes that one read requests.
 const CHUNK_BYTES: usize = 65_536;
 
-/// The current folder of the system. It tells no content, and its `room` does nothing. It counts each Err of the
-/// system, and each read or write of a name that is no regular file; one ends the call with `Failed`. Want of memory
-/// is not counted.
+/// The current folder of the system. Its content is not modelled, and its `room` does nothing. Each Err of the system
+/// is a counted fault, and so is each read or write of a name that is no regular file. A fault ends the call with
+/// `Failed`. Want of memory is not counted.
 #[derive(Drop)]
 pub struct HostTree<'a, R> {
     rt: &'a R,
@@ -74,8 +74,8 @@ impl<'a, R: Files> Tree for HostTree<'a, R> {
     }
 }
 
-/// The standard output of the system. It does not tell what it took. It counts each Err of the system; one ends the
-/// call with `Failed`.
+/// The standard output of the system. The bytes that it took are not modelled. Each Err of the system is a counted
+/// fault, which ends the call with `Failed`.
 #[derive(Drop)]
 pub struct HostSink<'a, R> {
     rt: &'a R,
@@ -243,7 +243,7 @@ fn write_whole<W: Write>(file: &mut W, bytes: &[u8]) -> Result<(), Failed>
     file.flush().map_err(|_| Failed)
 }
 
-/// What stands behind the first bytes.
+/// The bytes behind the first `count`.
 fn behind(bytes: &[u8], count: usize) -> &[u8]
     requires { count ≤ length bytes.now }
     ensures { result.now ≡ drop count bytes.now }

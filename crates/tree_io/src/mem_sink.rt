@@ -6,7 +6,7 @@ use crate::counts::{count_up, is_listed};
 use rotor_base::{Failed, Memory};
 use std::alloc::Global;
 
-/// An output in memory, for tests of what a program does where a put fails. Puts are counted from 1. One whose number
+/// An output in memory, for tests of what a program does if a put fails. Puts are counted from 1. One whose number
 /// is listed fails, and so does one past the room.
 #[derive(Drop)]
 pub struct MemSink {

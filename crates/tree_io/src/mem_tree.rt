@@ -42,7 +42,7 @@ impl MemTree {
         })
     }
 
-    /// The bytes of a file, and `None` where the folder has no file of this name. It counts no call and takes no memory.
+    /// The bytes of a file; if the folder has no file of this name, `None`. It counts no call and takes no memory.
     pub fn get(&self, name: &str) -> Option<&[u8]>
         ensures found { IfSome result (λ bytes. get (mem_files self.now) name.now ≡ Some bytes.now) }
         ensures missing { IfNone result (get (mem_files self.now) name.now ≡ None) }

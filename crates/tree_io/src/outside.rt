@@ -52,19 +52,19 @@ impl From<Failed> for TreeError {
     }
 }
 
-/// A folder of files. A tree may tell what it holds, as the trees in memory do, or not, as the system's folder. One
-/// that tells its content tells it after every call too.
+/// A folder of files. The content of the trees in memory is modelled; that of the system's folder is not. If the
+/// content is modelled before a call, it is modelled after the call too.
 pub trait Tree {
-    /// The count of faults. It never falls, and one that stands at the greatest `u64` stays there.
+    /// The count of faults. It never falls, and a count at the greatest `u64` stays there.
     ghost faults: { Self → ℕ };
 
-    /// Where it is told: the map from names to bytes.
+    /// The map from names to bytes, if it is modelled.
     ghost content: { Self → Option FileMap };
 
-    /// The bytes of room for each name. It has a meaning where the content is told.
+    /// The bytes of room for each name. It has a meaning if the content is modelled.
     ghost room_for: { Self → List ℕ → ℕ };
 
-    /// No call of it will fail, whatever calls come.
+    /// No call will fail, whatever calls are made.
     ghost is_steady: { Self → Type 0 };
 
     /// Each name of the folder once, in any order. It changes nothing.
@@ -79,8 +79,8 @@ pub trait Tree {
         ensures cause { HasCause (faults self.old) (faults self.new) result }
         ensures steady { StaysSteady (is_steady self.old) (is_steady self.new) (IsErrOf result TreeError.Failed) };
 
-    /// The first `limit` bytes of the file of this name, all of it where it is shorter. It changes nothing. Where no
-    /// content is told, the name need not be there, and then the answer is `Failed`.
+    /// The first `limit` bytes of the file of this name; if it is shorter, all of it. It changes nothing. If the
+    /// content is modelled, the name has to be in the folder. If it is not, a name that is missing is a fault.
     ///
     /// # Errors
     ///
@@ -108,7 +108,7 @@ pub trait Tree {
         ensures steady { is_steady self.old → is_steady self.new };
 
     /// Makes the file of this name hold just these bytes, and leaves all other files. A write that failed leaves any
-    /// bytes in the file. It takes no memory: where the content is told, the room is there before the call.
+    /// bytes in the file. It takes no memory: if the content is modelled, the caller takes the room before the call.
     ///
     /// # Errors
     ///
@@ -123,13 +123,13 @@ pub trait Tree {
         ensures steady { StaysSteady (is_steady self.old) (is_steady self.new) (IsErr result) };
 }
 
-/// An output. A sink may tell the bytes that it took, as one in memory does, or not, as the standard output. One that
-/// tells them tells them after every call too.
+/// An output. The bytes that an output in memory took are modelled; those that the standard output took are not. If the
+/// bytes are modelled before a call, they are modelled after the call too.
 pub trait Sink {
-    /// The count of faults. It never falls, and one that stands at the greatest `u64` stays there.
+    /// The count of faults. It never falls, and a count at the greatest `u64` stays there.
     ghost faults: { Self → ℕ };
 
-    /// Where it is told: the bytes taken so far.
+    /// The bytes taken so far, if they are modelled.
     ghost taken: { Self → Option (List ℕ) };
 
     /// A put of so many bytes will not fail.

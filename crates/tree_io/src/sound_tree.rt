@@ -30,7 +30,7 @@ impl SoundTree {
         })
     }
 
-    /// The bytes of a file, and `None` where the folder has no file of this name. It takes no memory.
+    /// The bytes of a file; if the folder has no file of this name, `None`. It takes no memory.
     pub fn get(&self, name: &str) -> Option<&[u8]>
         ensures found { IfSome result (λ bytes. get (sound_files self.now) name.now ≡ Some bytes.now) }
         ensures missing { IfNone result (get (sound_files self.now) name.now ≡ None) }

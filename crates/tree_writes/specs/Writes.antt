@@ -10,7 +10,7 @@ use Rattle.project_load.specs.Rewritten.{after}
 abbrev pub HasRoom : (List ℕ → ℕ) → List SourceFile → Type 0
 HasRoom room writes = AllByRecursion (λ f. (length f.bytes ≤ room f.name) × (1 ≤ room f.name)) writes
 
--- where the content is known, all these files were written
+-- if the content is modelled, all these files were written
 abbrev pub Written : List SourceFile → Option FileMap → Option FileMap → Type 0
 Written writes before now = now ≡ option_map (after writes) before
 

@@ -1,8 +1,8 @@
 //! Reads texts and requests from its input, and prints what the readers make of each text.
 //!
-//! A line `>TEXT` adds to the text, `|LINE` adds with a line feed, `times N TEXT` adds N times, and `byte N` adds a byte.
-//! Every other line is a request, `KIND` or `KIND TEXT`: it adds TEXT, is answered by a line, and the text is empty again.
-//! The kinds are in [`readings::answer`].
+//! A line `>TEXT` adds to the text, `|LINE` adds with a line feed, `times N TEXT` adds N times, and `byte N` adds a
+//! byte. Every other line is a request, `KIND` or `KIND TEXT`: it adds TEXT, is answered by a line, and the text is
+//! empty again. The kinds are in [`readings::answer`].
 #![tactic(auto)]
 
 mod expressions;

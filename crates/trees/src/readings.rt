@@ -15,7 +15,7 @@ use rotor_base::{MAX_FILE_BYTES, Token};
 use std::alloc::{AllocError, Global};
 use std::fmt::Write;
 
-/// What comes of a text: its lexemes (`tokens`), its first refused form (`forms`), its first token that is nested too
+/// What a text is read as: its lexemes (`tokens`), its first refused form (`forms`), its first token that is nested too
 /// deep (`depth`), the pattern, Simple pattern, declaration or expression that it begins with (`pat`, `simple`, `decl`,
 /// `seq`), or its tree as a file (`body`, `face`).
 pub fn answer(alloc: Global, kind: &str, source: &[u8]) -> Result<String, AllocError> {

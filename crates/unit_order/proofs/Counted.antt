@@ -84,7 +84,7 @@ count_less c d name n is updates =
 pub counted : (c : Counts) (name : List ℕ) (list : List (List ℕ)) → AreCounts c (list ++ name ∷ []) → count_of c name ≡ count_by (Is name) list + 1
 counted c name list are = are name ∙ last name list
 
--- some pass a test where their number is not 0
+-- some pass a test if their number is not 0
 pub some_pass : {X : Type 0} (p : X → Bool) (xs : List X) → nat_lt 0 (count_by p xs) ≡ list_any p xs
 some_pass p [] = refl
 some_pass p (x ∷ xs) = ap (nat_lt 0) (sum_by-cons (λ y. cond (p y) 1 0) x xs) ∙ go (p x) (some_pass p xs)

@@ -32,7 +32,7 @@ position_from (suc from) (unit ∷ waiting) le none =
     one_on None = refl
     one_on (Some k) = ap Some (plus k)
 
--- a unit waits otherwise, and cannot be taken where it stands before the position
+-- One unit waits otherwise. If it is before the position, it cannot be taken. Then still none before the position can.
 pub still_none : (waiting : List Waiting) (from at : ℕ) (unit : Waiting) → at < length waiting → NoneFreeBefore from waiting → (at < from → is_free unit ≡ false) → NoneFreeBefore from (set waiting at unit)
 still_none waiting from at unit within none this = λ k d lt.
     elim (cases_eq k at) [

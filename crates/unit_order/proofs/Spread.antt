@@ -127,7 +127,7 @@ spread_end us lists start marked queue done needs lt s le chain =
     let all : All (λ at. AreMarked marked (get_or lists at [])) queue = subst (All (λ at. AreMarked marked (get_or lists at []))) (take_all done queue le) s.closed in
     chain_marked us lists marked start needs lt (λ at h. All_among (λ k. AreMarked marked (get_or lists k [])) queue at all (s.held at h)) chain.0 start lt (All_among (λ k. AreMarked marked (get_or lists k [])) queue start all s.first) chain.1
 
--- what stands in the list of a unit
+-- the list of a unit
 pub list_is : {L : Type 0} (out : L → List ℕ) (needs : List L) (at : ℕ) (list : L) (xs : List ℕ) → at < length needs → list ≡ get_or needs at list → xs ≡ out list → xs ≡ get_or (map out needs) at []
 list_is out needs at list xs lt is e = e ∙ ap out is ∙ sym (get_or-map out needs at list [] lt)
 
@@ -135,7 +135,7 @@ list_is out needs at list xs lt is e = e ∙ ap out is ∙ sym (get_or-map out n
 pub next_inside : (us : List UnitTree) (lists : List (List ℕ)) (at k : ℕ) (xs : List ℕ) → AreNeeds us lists → at < length us → xs ≡ get_or lists at [] → k < length xs → get_or xs k 0 < length us
 next_inside us lists at k xs needs lt is within = subst (All (λ p. p < length us)) (sym is) (needs.inside at [] (omega (arith, needs.size))) k 0 within
 
--- the next of these is marked and stands in the queue
+-- the next of these is marked and is in the queue
 pub spread_step : (us : List UnitTree) (lists : List (List ℕ)) (start : ℕ) (marked : List Bool) (queue : List ℕ) (done at k : ℕ) (xs : List ℕ) → AreNeeds us lists → Spread us lists start marked queue done → done < length queue → at ≡ get_or queue done 0 → xs ≡ get_or lists at [] → k < length xs → Spread us lists start (set marked (get_or xs k 0) true) (cond (get_or marked (get_or xs k 0) false) queue (queue ++ get_or xs k 0 ∷ [])) done
 spread_step us lists start marked queue done at k xs needs s lt is list within = by (get_or marked (get_or xs k 0) false) refl
   where

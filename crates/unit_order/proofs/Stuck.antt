@@ -1,4 +1,4 @@
--- Where units remain and none of them can be taken, one of them lies on a cycle.
+-- If units remain and none of them can be taken, one of them lies on a cycle.
 use Rattle.std.proofs.Common.{◌≡◌, ℕ, suc, zero, ◌+◌, ◌<◌, inl, inr, length, take, drop, List, [], ◌∷◌, ◌++◌, All, count_by, Bool, true, false, not, ◌&&◌, ◌||◌, cond, Option, Some, None, refl, sym, subst, ap, ◌∙◌, arith}
 use Rattle.std.proofs.Math.Dec.{eqb}
 use Rattle.std.specs.List.{list_any, IsDistinct, AllByRecursion, position_or_len}
@@ -124,7 +124,7 @@ walk_within us taken none (suc n) at r q h =
       | inr e ↦ walk_within us taken none n (next_left us taken at) (follows us taken none at r).remains q e
     ]
 
--- where a unit remains and none can be taken, some unit lies on a cycle
+-- if a unit remains and none can be taken, some unit lies on a cycle
 pub stuck_on_cycle : (us : List UnitTree) (taken : List (List ℕ)) (at : ℕ) → first_ready us taken us ≡ None → at < length us → is_among taken (unit_at us at).name ≡ false → ((at : ℕ) → at < length us → Leads us at at → ⊥) → ⊥
 stuck_on_cycle us taken at none lt left free =
     let r : Remains us taken at = record { inside = lt; left = left } in
@@ -143,7 +143,7 @@ stuck_at us at name lt named cycle first = record {
   first = first;
 }
 
--- where a unit remains, none can be taken and none lies on a cycle, something is wrong
+-- it cannot be that a unit remains, none can be taken and none lies on a cycle
 pub never_stuck : (us : List UnitTree) (taken : List (List ℕ)) → first_ready us taken us ≡ None → 0 < count_by (λ v. not (is_among taken v.name)) us → All (λ u. LiesOnCycle us u → ⊥) us → ⊥
 never_stuck us taken none some free =
     let one = one_left (λ v. not (is_among taken v.name)) us some in

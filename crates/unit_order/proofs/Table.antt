@@ -26,7 +26,7 @@ table_of units =
     sym (map_through (λ u. map (λ v. needs_unit u v.name) (views units)) view_unit (λ u. map (λ v. needs_unit (view_unit u) v.name) units)
     (λ u. map_through (λ v. needs_unit (view_unit u) v.name) view_unit (λ v. needs_unit (view_unit u) v.name) (λ v. refl) units) units)
 
--- the positions of a row stand in it
+-- the positions of a row are within it
 pub positions_inside : (at : ℕ) (row : List Bool) → All (λ p. p < at + length row) (positions_from at row)
 positions_inside at [] = All-nil (λ p. p < at + 0)
 positions_inside at (true ∷ row) =
@@ -34,13 +34,13 @@ positions_inside at (true ∷ row) =
     (All-weaker (λ p. p < at + 1 + length row) (λ p. p < at + suc (length row)) (λ p h. omega (arith, h)) (positions_from (at + 1) row) (positions_inside (at + 1) row))
 positions_inside at (false ∷ row) = All-weaker (λ p. p < at + 1 + length row) (λ p. p < at + suc (length row)) (λ p h. omega (arith, h)) (positions_from (at + 1) row) (positions_inside (at + 1) row)
 
--- no position before the first stands there
+-- no position before the first is among them
 none_before : (at p : ℕ) (row : List Bool) → p < at → list_any (nat_eq p) (positions_from at row) ≡ false
 none_before at p [] lt = refl
 none_before at p (true ∷ row) lt = ap (λ b. b || list_any (nat_eq p) (positions_from (at + 1) row)) (ne_eqb p at (λ e. omega (arith, e, lt))) ∙ none_before (at + 1) p row (omega (arith, lt))
 none_before at p (false ∷ row) lt = none_before (at + 1) p row (omega (arith, lt))
 
--- a position stands there just where the row says so
+-- a position is among them exactly if the row says so
 pub positions_exact : (at p : ℕ) (row : List Bool) → list_any (nat_eq (at + p)) (positions_from at row) ≡ get_or row p false
 positions_exact at p [] = refl
 positions_exact at zero (true ∷ row) = or_left _ _ (eq-eqb (at + 0) at (omega arith))
@@ -68,7 +68,7 @@ list_at us i lt = get_or-map (positions_from 0) (need_table us) i [] [] (omega (
 pub list_count : (us : List UnitTree) → length (map (positions_from 0) (need_table us)) ≡ length us
 list_count us = length-map (need_table us) (positions_from 0) ∙ length-map us (λ u. map (λ v. needs_unit u v.name) us)
 
--- what stands in the list of a unit is a position of a unit
+-- each item of the list of a unit is the position of a unit
 pub list_inside : (us : List UnitTree) → All (All (λ at. at < length us)) (map (positions_from 0) (need_table us))
 list_inside us = λ i d lt.
     let within : i < length us = omega (arith, lt, list_count us) in
@@ -116,7 +116,7 @@ not_before at p (true ∷ row) lt =
     ∙ none_more (count_by (nat_eq p) (positions_from (at + 1) row)) ∙ not_before (at + 1) p row (omega (arith, lt))
 not_before at p (false ∷ row) lt = not_before (at + 1) p row (omega (arith, lt))
 
--- a position stands there once where the row says so, and else never
+-- a position is among them once if the row says so, and else never
 pub positions_once : (at p : ℕ) (row : List Bool) → count_by (nat_eq (at + p)) (positions_from at row) ≡ cond (get_or row p false) 1 0
 positions_once at p [] = refl
 positions_once at zero (true ∷ row) =

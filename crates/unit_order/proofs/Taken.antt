@@ -1,4 +1,4 @@
--- The taking by counts: a unit is ready where the number of units that it needs and that are not taken is 0.
+-- The taking by counts: a unit is ready if the number of units that it needs and that are not taken is 0.
 use Rattle.std.proofs.Common.{◌≡◌, ◌≢◌, ℕ, ◌+◌, ◌<◌, ◌==◌, suc, inl, inr, nat_lt, length, get_or, take, drop, List, [], ◌∷◌, ◌++◌, All, Bool, true, false, ◌&&◌, ◌||◌, not, cond, Option, Some, None, option_map, count_by, map, refl, ap, sym, subst, ◌∙◌, arith, tests}
 use Rattle.std.specs.List.{position, position_or_len, AllPairs}
 use Rattle.std.specs.List.Sorted.{IsStrictlySortedBy}
@@ -88,7 +88,7 @@ at_taken true true x y h = grind (arith, tests)
 at_taken true false x y h = grind (arith, tests)
 at_taken false b x y h = grind (arith, tests)
 
--- Once a further unit is taken, one less is left where it passes the test. Other units have other names.
+-- Once a further unit is taken, one less is left if it passes the test. Other units have other names.
 left_less : (taken : List (List ℕ)) (before behind : List UnitTree) (at : UnitTree) (p : UnitTree → Bool) → bytes_eq at.name at.name ≡ true → is_among taken at.name ≡ false → All (λ v. bytes_eq at.name v.name ≡ false) before → All (λ v. bytes_eq at.name v.name ≡ false) behind → left_of (taken ++ at.name ∷ []) p (before ++ at ∷ behind) + cond (p at) 1 0 ≡ left_of taken p (before ++ at ∷ behind)
 left_less taken before behind at p same fresh h k =
     let later = λ (w : UnitTree). cond (p w && not (is_among (taken ++ at.name ∷ []) w.name)) 1 0 in

@@ -121,20 +121,20 @@ unfolding taking
 stays us taken none zero = refl
 stays us taken none (suc n) = ap (λ o. go_on taken o (taking n us)) none
 
--- where no unit is free, the taking ends
+-- if no unit is free, the taking ends
 pub turns_stop : (us : List UnitTree) (order : List ℕ) (waiting : List Waiting) → Turns us order waiting → position is_free waiting ≡ None → (names_at us order ≡ derived_order us) × (first_ready us (names_at us order) us ≡ None)
 turns_stop us order waiting t free =
     let none = ready_name us order waiting None t free in
     (sym (stays us (names_at us order) none (length us - length order)) ∙ t.goes, none)
 
--- where all units are taken, it ends too
+-- if all units are taken, it ends too
 pub turns_end : (us : List UnitTree) (order : List ℕ) (waiting : List Waiting) → Turns us order waiting → length us ≤ length order → names_at us order ≡ derived_order us
 unfolding taking
 turns_end us order waiting t all =
     let nothing : length us - length order ≡ 0 = omega (arith, all) in
     sym (ap (λ n. taking n us (names_at us order)) nothing) ∙ t.goes
 
--- where fewer are taken than there are, one is left
+-- if fewer are taken than there are, one is left
 pub one_left : (p : UnitTree → Bool) (us : List UnitTree) → 0 < count_by p us → (k : ℕ) × (k < length us) × (p (unit_at us k) ≡ true)
 one_left p [] some = absurd (omega (arith, some))
 one_left p (u ∷ us) some =

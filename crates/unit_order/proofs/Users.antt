@@ -82,7 +82,7 @@ times_more lists user i j lt =
     plus_zero : (n : ℕ) → n ≡ n + 0
     plus_zero n = omega arith
 
--- what stands in a list is counted there
+-- an item of a list is counted there
 counted : (xs : List ℕ) (k d : ℕ) → k < length xs → 0 < count_by (nat_eq (get_or xs k d)) xs
 counted xs k d lt =
     let x = get_or xs k d in
@@ -105,6 +105,6 @@ users_inside users needs at turned = λ k d lt.
         let zero_times : times users at user ≡ 0 = turned user at ∙ ap (count_by (nat_eq at)) (get_or_past needs user [] past) in
         omega (arith, some, zero_times)
 
--- a unit that needs another stands once in the list of its users
+-- a unit that needs another is once in the list of its users
 pub users_once : (us : List UnitTree) (users needs : List (List ℕ)) (k at : ℕ) → AreTurned users needs → needs ≡ map (positions_from 0) (need_table us) → k < length us → at < length us → times users at k ≡ cond (needs_unit (unit_at us k) (unit_at us at).name) 1 0
 users_once us users needs k at turned is lt within = turned k at ∙ ap (λ lists. times lists k at) is ∙ needed_once us k at lt within

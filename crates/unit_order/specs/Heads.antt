@@ -18,7 +18,7 @@ abbrev pub module_head : List (List ℕ) → List (List ℕ) → List Name → L
 module_head bound found [] = found
 module_head bound found (x ∷ path) = if is_among bound x.text then found else found ++ x.text ∷ []
 
--- the head of what stands before the last name of a path
+-- the head of the names before the last one of a path
 abbrev pub prefix_head : List (List ℕ) → List (List ℕ) → List Name → List (List ℕ)
 prefix_head bound found [] = found
 prefix_head bound found (x ∷ []) = found

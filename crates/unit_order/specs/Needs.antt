@@ -20,6 +20,6 @@ pub record AreNeeds (units : List UnitTree) (lists : List (List ℕ)) : Type 0 w
   pub inside : All (All (λ at. at < length units)) lists
   pub exact : (i j : ℕ) → i < length units → j < length units → list_any (nat_eq j) (get_or lists i []) ≡ needs_unit (unit_at units i) (unit_at units j).name
 
--- how often a position stands in one of these lists
+-- how often a position is in one of these lists
 abbrev pub times : List (List ℕ) → ℕ → ℕ → ℕ
 times lists list at = count_by (nat_eq at) (get_or lists list [])

@@ -20,7 +20,7 @@ abbrev pub first_ready : List UnitTree → List (List ℕ) → List UnitTree →
 first_ready units taken [] = None
 first_ready units taken (u ∷ us) = if not (is_among taken u.name) && is_ready units taken u then Some u.name else first_ready units taken us
 
--- with the name of a next unit, where there is one, goes on behind it
+-- if there is a next unit, goes on behind its name
 abbrev pub go_on : List (List ℕ) → Option (List ℕ) → (List (List ℕ) → List (List ℕ)) → List (List ℕ)
 go_on taken None more = taken
 go_on taken (Some name) more = more (taken ++ name ∷ [])
@@ -51,7 +51,7 @@ abbrev pub order_of : List UnitTree → Option (List ℕ) → List (List ℕ)
 order_of units None = derived_order units
 order_of units (Some bytes) = manifest_order bytes
 
--- a manifest, where there is one, lists each of the units once
+-- if there is a manifest, it lists each of the units once
 abbrev pub IsListed : List UnitTree → Option (List ℕ) → Type 0
 IsListed units manifest = bad_manifest (map (λ u. record { name = u.name; is_body = true }) units) manifest ≡ None
 

@@ -57,7 +57,7 @@ fn leads_back(
     Ok(marked[start])
 }
 
-/// Marks a unit, and puts it at the end of the queue where it was not marked.
+/// Marks a unit, and puts it at the end of the queue if it was not marked.
 fn mark(next: usize, marked: &mut Vec<bool>, queue: &mut Vec<usize>) -> Result<(), Memory>
     requires { next < length marked.old.items }
     ensures marks { OnOk result (marked.new.items ≡ slice_set marked.old.items next true) }

@@ -39,13 +39,13 @@ impl From<Memory> for OrderError {
     }
 }
 
-/// The positions of the units in the order of linking, counted from 0: the order of the manifest where there is one,
+/// The positions of the units in the order of linking, counted from 0: the order of the manifest if there is one,
 /// and else again and again the first unit in byte order whose needed units are all taken (the manual's chapters on
 /// batch compilation and the dependency generator).
 ///
 /// # Errors
 ///
-/// `Cycle`, exactly where there is no manifest and units remain of which none can be taken: it names the first unit in
+/// `Cycle`, exactly if there is no manifest and units remain of which none can be taken: it names the first unit in
 /// byte order that lies on a cycle of needs. `Memory`.
 pub fn order(
     alloc: Global,

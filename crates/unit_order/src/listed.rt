@@ -26,7 +26,7 @@ pub fn listed(alloc: Global, units: &[UnitTree], manifest: &[u8]) -> Result<Vec<
     Ok(order)
 }
 
-/// Adds the position of the unit that a line names, where the line is not empty.
+/// Adds the position of the unit that a line names, if the line is not empty.
 fn add_line(order: &mut Vec<u32>, units: &[UnitTree], line: &[u8]) -> Result<(), Memory>
     requires count { length units.now < 4294967296 }
     requires named { is_filled line.now ≡ true → list_any (λ unit. bytes_eq unit.name line.now) units.now ≡ true }

@@ -9,7 +9,7 @@ use ml_syntax::{ModuleName, Word};
 use rotor_base::{Memory, Name};
 use std::alloc::Global;
 
-/// Adds the head of the path of a module, where it is not bound.
+/// Adds the head of the path of a module, if it is not bound.
 pub fn add_head(
     alloc: Global,
     bound: &Bound,
@@ -24,7 +24,7 @@ pub fn add_head(
     }
 }
 
-/// Adds a name, where it is not bound.
+/// Adds a name, if it is not bound.
 fn add_unless_bound(
     alloc: Global,
     bound: &Bound,
@@ -40,7 +40,7 @@ fn add_unless_bound(
     Ok(())
 }
 
-/// Adds the head of what stands before the last name of a path, where it is not bound.
+/// Adds the head of the names before the last one of a path, if it is not bound.
 pub fn add_prefix(
     alloc: Global,
     bound: &Bound,

@@ -113,7 +113,7 @@ fn take_unit(waiting: &mut [Waiting], users: &[usize], at: usize) -> usize
     from
 }
 
-/// The first unit that can be taken, where there is none before a position.
+/// The first unit that can be taken, if there is none before a position.
 fn next_free(waiting: &[Waiting], from: usize) -> Option<usize>
     requires inside { from ≤ length waiting.now }
     requires before { NoneFreeBefore from waiting.now }

@@ -10,7 +10,7 @@ use ml_syntax::{FileTree, UnitTree};
 use rotor_base::{Memory, Name};
 use std::alloc::Global;
 
-/// The heads of the module paths in the trees of a unit that are not bound there, as often as they stand there, in the
+/// The heads of the module paths in the trees of a unit that are not bound there, as often as they occur there, in the
 /// order of words: the body's and then the interface's (the manual's chapters on names and module expressions).
 ///
 /// # Errors

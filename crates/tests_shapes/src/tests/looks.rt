@@ -40,7 +40,7 @@ fn looks_of_match(
     match_looks(alloc, &src, &tgt, &watch(alloc, watched)?)
 }
 
-/// Whether two looks are of one link and tell the same of its item.
+/// Whether two looks are of one link and say the same of its item.
 fn tell_one_item(one: &LinkLook, other: &LinkLook) -> bool {
     one.number == other.number
         && one.item == other.item
@@ -50,7 +50,7 @@ fn tell_one_item(one: &LinkLook, other: &LinkLook) -> bool {
         && one.later_new == other.later_new
 }
 
-/// Whether two looks tell the same of a source.
+/// Whether two looks say the same of a source.
 fn tell_one_source(one: &LinkLook, other: &LinkLook) -> bool {
     one.pinned == other.pinned
         && one.darks == other.darks
@@ -68,8 +68,8 @@ fn are(looks: &Looks, want: &[LinkLook], passed: u64) -> bool {
     same && found.len() == want.len() && looks.refs.as_slice().is_empty() && looks.passed == passed
 }
 
-/// The looks of a value that later ones hide, of a new name, and of one that stays; in the source each of the three
-/// stands, two of them before a Dark entry.
+/// The looks of a value that later ones hide, of a new name, and of one that stays. The source has a member of the
+/// footprint, a later value of the old name, and one of the new name. Two of these precede a Dark entry.
 fn first() -> LinkLook {
     LinkLook {
         number: 0,

@@ -7,13 +7,13 @@ use sig_match::{Matched, match_shapes, pin};
 use std::alloc::Global;
 use std::test::Fail;
 
-/// What stands at the bottom.
+/// The innermost shape.
 const BOTTOM: Sketch = Sketch::Struct(&[Piece::Val("x", 6)]);
 
 /// The room that a whole project has for its matches.
 const ROOM: u32 = 4_194_304;
 
-/// A value under module types, each of which stands in the next.
+/// A value under module types, each of which is in the next.
 pub fn nested_types(alloc: Global, levels: usize) -> Result<Shared, Memory> {
     let mut shape = made(alloc, &BOTTOM)?;
     for _ in 0..levels {
@@ -33,7 +33,7 @@ fn nested_functors(alloc: Global, levels: usize) -> Result<Shared, Memory> {
     Ok(shape)
 }
 
-/// The number of links and the work, or nothing where there is no room.
+/// The number of links and the work, or nothing if there is no room.
 fn sums(answer: &Matched) -> Option<(usize, u32)> {
     match answer {
         Matched::Whole { links, work } => Some((links.len(), *work)),
@@ -94,7 +94,7 @@ fn module_types_at_the_bound(rt: HostRuntime) -> Result<(), Fail> {
     Ok(())
 }
 
-/// What stands for nothing.
+/// A structure without entries.
 const EMPTY: Sketch = Sketch::Struct(&[]);
 
 /// A structure of so many module types.

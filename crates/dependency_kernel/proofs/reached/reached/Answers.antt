@@ -20,7 +20,7 @@ if_ok : {T E : Type 0} (P Q : T → Type 0) (r : Result T E) → ((x : T) → P 
 if_ok P Q (Ok x) f h = f x h
 if_ok P Q (Err e) f h = tt
 
--- a stack from which nothing came has no items
+-- a stack that gave no item has none
 no_items : (before after : List Place) (n : ℕ) → before ≡ after ++ [] → after ≡ take (n - 1) before → n ≡ 0 → before ≡ []
 no_items before after n was rest none = was ∙ (append-nil after ∙ (rest ∙ ap (λ (k : ℕ). take (k - 1) before) none))
 

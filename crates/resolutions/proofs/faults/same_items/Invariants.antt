@@ -2,7 +2,7 @@ use Rattle.std.proofs.Common.{◌≡◌, drop, map}
 use Rattle.rotor_base.specs.declared.place.Link.{Link}
 use Rattle.resolutions.proofs.faults.same_items.Given as goal
 
--- the lists have the same items exactly where what is left of them has
+-- the lists have the same items exactly if what is left of them has
 abbrev pub invariant-loop-link : goal.invariant-loop-link
 invariant-loop-link l =
     (map (λ (k : Link). k.item) (drop l.link-index l.old) ≡ map (λ (k : Link). k.item) l.rest → map (λ (k : Link). k.item) l.fn.old ≡ map (λ (k : Link). k.item) l.fn.new)

@@ -1,4 +1,4 @@
--- The sources so far keep the limits, so the first with which they are over is among those to come.
+-- The sources so far keep the limits, so the first with which they are over is among those that are left.
 use Rattle.std.proofs.Common.{◌≡◌, ◌≤◌, ◌++◌, false, length, take, drop, sum_by}
 use Rattle.rotor_base.specs.Files.{first_with, are_over}
 use Rattle.rotor_base.proofs.load_checks.check_sizes.Given as goal

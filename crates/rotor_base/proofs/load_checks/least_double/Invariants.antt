@@ -1,4 +1,4 @@
--- The least double so far and those still to come make the least of all.
+-- The least double so far and those that are left give the least of all.
 use Rattle.std.proofs.Common.{◌≡◌, drop}
 use Rattle.std.specs.List.{fold}
 use Rattle.std.specs.Option.{option_copied}

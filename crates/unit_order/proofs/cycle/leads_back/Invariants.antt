@@ -1,4 +1,4 @@
--- What is marked and what stands in the queue, after so many units of the queue.
+-- What is marked and what is in the queue, after so many units of the queue.
 use Rattle.std.proofs.Common.{◌≡◌, ◌+◌, ◌-◌, ◌<◌, ◌≤◌, length, map, take, get_or}
 use Rattle.unit_order.specs.Positions.{views}
 use Rattle.unit_order.proofs.Spread.{Spread, AreMarked}

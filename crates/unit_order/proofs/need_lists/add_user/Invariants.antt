@@ -1,4 +1,4 @@
--- The unit stands in the lists of those that it needs so far.
+-- The unit is in the lists of those that it needs so far.
 use Rattle.std.proofs.Common.{◌≡◌, ◌+◌, ℕ, cond, count_by, length, map, nat_eq, take}
 use Rattle.unit_order.specs.Needs.{times}
 use Rattle.unit_order.proofs.need_lists.add_user.Given as goal
