@@ -1,5 +1,6 @@
 -- The gate that a listing and a reading find.
-use Rattle.std.proofs.Common.{◌≡◌, ℕ, ◌≤◌, List, [], ◌∷◌, Bool, true, false, ◌||◌, Option, Some, None, option_map, IfSome, IsSome, IsPermutation, Decides, String, string_bytes, map, length, take, refl, sym, ap, ◌∙◌, arith, length-take}
+use Rattle.std.proofs.Common.{◌≡◌, ℕ, ◌≤◌, List, [], ◌∷◌, Bool, true, false, ◌||◌, Option, Some, None, option_map, IfSome, IsSome, IsPermutation}
+use Rattle.std.proofs.Common.{Decides, String, string_bytes, map, length, take, refl, sym, ap, ◌∙◌, arith, length-take}
 use Rattle.std.specs.Option.{is_some, ForSome}
 use Rattle.std.specs.List.{list_any}
 use Rattle.std.specs.Str.{bytes_eq}
@@ -34,13 +35,17 @@ absent : (file : Option (List ℕ)) (limit : ℕ) → is_some file ≡ false →
 absent None limit e = refl
 absent (Some bytes) limit e = cc
 
-pub none_read : (content : Option FileMap) (listed : List (String Global)) (name : List ℕ) (limit : ℕ) (found : Bool) → ForSome content (λ held. IsPermutation (keys held) (map string_bytes listed))
-    → found ≡ list_any (λ other. bytes_eq (string_bytes other) name) listed → found ≡ false → IfSome content (λ held. ◌≡◌ {A = Option (List ℕ)} None (option_map (take limit) (get held name)))
+pub none_read : (content : Option FileMap) (listed : List (String Global)) (name : List ℕ) (limit : ℕ) (found : Bool)
+    → ForSome content (λ held. IsPermutation (keys held) (map string_bytes listed))
+    → found ≡ list_any (λ other. bytes_eq (string_bytes other) name) listed → found ≡ false
+    → IfSome content (λ held. ◌≡◌ {A = Option (List ℕ)} None (option_map (take limit) (get held name)))
 none_read None listed name limit found h e f = tt
 none_read (Some held) listed name limit found h e f = absent (get held name) limit (sym (held_listed held listed name (h held refl)) ∙ sym e ∙ f)
 
-pub is_there : (content : Option FileMap) (listed : List (String Global)) (name : List ℕ) (found : Bool) → ForSome content (λ held. IsPermutation (keys held) (map string_bytes listed))
-    → found ≡ list_any (λ other. bytes_eq (string_bytes other) name) listed → found ≡ true → (held : FileMap) → content ≡ Some held → IsSome (get held name)
+pub is_there : (content : Option FileMap) (listed : List (String Global)) (name : List ℕ) (found : Bool)
+    → ForSome content (λ held. IsPermutation (keys held) (map string_bytes listed))
+    → found ≡ list_any (λ other. bytes_eq (string_bytes other) name) listed → found ≡ true → (held : FileMap) → content ≡ Some held
+    → IsSome (get held name)
 is_there content listed name found h e t held is = sym (held_listed held listed name (h held is)) ∙ sym e ∙ t
 
 whole : (w : List ℕ) → take 6 w ≡ open_bytes → w ≡ open_bytes
@@ -49,7 +54,8 @@ whole w e =
     let short : length w ≤ 6 = omega (arith, five, length-take 6 w) in
     sym (take_all 6 w short) ∙ e
 
-gate_by : (gate : Option (List ℕ)) (bytes : List ℕ) (r : Bool) → Some bytes ≡ option_map (take 6) gate → r ≡ bytes_eq bytes open_bytes → Decides r (gate ≡ Some open_bytes)
+gate_by : (gate : Option (List ℕ)) (bytes : List ℕ) (r : Bool) → Some bytes ≡ option_map (take 6) gate → r ≡ bytes_eq bytes open_bytes
+    → Decides r (gate ≡ Some open_bytes)
 gate_by None bytes r e f = cc
 gate_by (Some w) bytes r e f =
     let same : bytes ≡ take 6 w = cc in (
@@ -58,7 +64,8 @@ gate_by (Some w) bytes r e f =
     )
 
 -- the gate was read
-pub gate_read : (content : Option FileMap) (bytes : List ℕ) (r : Bool) → IfSome content (λ held. Some bytes ≡ option_map (take 6) (get held gate_name)) → r ≡ bytes_eq bytes open_bytes
+pub gate_read : (content : Option FileMap) (bytes : List ℕ) (r : Bool)
+    → IfSome content (λ held. Some bytes ≡ option_map (take 6) (get held gate_name)) → r ≡ bytes_eq bytes open_bytes
     → IfSome content (λ held. Decides r (IsOpen held))
 gate_read None bytes r h e = tt
 gate_read (Some held) bytes r h e = gate_by (get held gate_name) bytes r h e

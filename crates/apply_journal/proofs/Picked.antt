@@ -1,5 +1,6 @@
 -- The files of some numbers that rise are those files in their order.
-use Rattle.std.proofs.Common.{◌≡◌, ℕ, zero, suc, ◌+◌, ◌-◌, ◌<◌, ◌≤◌, ◌==◌, ◌||◌, nat_lt, List, [], ◌∷◌, ◌++◌, Bool, true, false, cond, Option, Some, None, length, take, get_or, slice_get, All, refl, sym, ap, subst, ◌∙◌, arith}
+use Rattle.std.proofs.Common.{◌≡◌, ℕ, zero, suc, ◌+◌, ◌-◌, ◌<◌, ◌≤◌, ◌==◌, ◌||◌, nat_lt, List, [], ◌∷◌, ◌++◌, Bool, true, false, cond, Option, Some}
+use Rattle.std.proofs.Common.{None, length, take, get_or, slice_get, All, refl, sym, ap, subst, ◌∙◌, arith}
 use Rattle.std.specs.List.{list_any, filter_map, cons_option, AllByRecursion}
 use Rattle.std.specs.List.Sorted.{IsStrictlySortedBy}
 use Rattle.std.specs.declared.cmp.Ordering.TheVariants.{Less, Equal, Greater}
@@ -66,7 +67,8 @@ is_other n k l = grind (arith, nat_tests)
 skip : (n k : ℕ) (ns : List ℕ) (fs : List SourceFile) → n < k → picked k (n ∷ ns) fs ≡ picked k ns fs
 skip n k ns [] l = refl
 skip n k ns (f ∷ fs) l = by (n == k) (is_other n k l) (skip n (k + 1) ns fs (omega arith)) where
-  here : (t : Bool) → picked (k + 1) (n ∷ ns) fs ≡ picked (k + 1) ns fs → cond t (f ∷ picked (k + 1) (n ∷ ns) fs) (picked (k + 1) (n ∷ ns) fs) ≡ cond t (f ∷ picked (k + 1) ns fs) (picked (k + 1) ns fs)
+  here : (t : Bool) → picked (k + 1) (n ∷ ns) fs ≡ picked (k + 1) ns fs
+      → cond t (f ∷ picked (k + 1) (n ∷ ns) fs) (picked (k + 1) (n ∷ ns) fs) ≡ cond t (f ∷ picked (k + 1) ns fs) (picked (k + 1) ns fs)
   here true rest = ap (λ (v : List SourceFile). f ∷ v) rest
   here false rest = rest
 
@@ -76,14 +78,16 @@ skip n k ns (f ∷ fs) l = by (n == k) (is_other n k l) (skip n (k + 1) ns fs (o
   by false e rest = here (list_any (λ n. n == k) ns) rest
 
 -- numbers are counted from the next file
-shift : (f : SourceFile) (fs : List SourceFile) (at k : ℕ) (ns : List ℕ) → at < k → Rises k ns → filter_map (λ m. slice_get (f ∷ fs) (m - at)) ns ≡ filter_map (λ m. slice_get fs (m - (at + 1))) ns
+shift : (f : SourceFile) (fs : List SourceFile) (at k : ℕ) (ns : List ℕ) → at < k → Rises k ns
+    → filter_map (λ m. slice_get (f ∷ fs) (m - at)) ns ≡ filter_map (λ m. slice_get fs (m - (at + 1))) ns
 shift f fs at k [] l h = refl
 shift f fs at k (n ∷ ns) l h =
     let one : n - at ≡ suc (n - (at + 1)) = omega (arith, h.0, l) in
     ap (λ (i : ℕ). cons_option (slice_get (f ∷ fs) i) (filter_map (λ m. slice_get (f ∷ fs) (m - at)) ns)) one
     ∙ ap (λ (v : List SourceFile). cons_option (slice_get fs (n - (at + 1))) v) (shift f fs at (n + 1) ns (omega (arith, h.0)) h.1)
 
-moved : (at : ℕ) (f : SourceFile) (fs : List SourceFile) (ms : List ℕ) → AllByRecursion (λ n. n < at + length (f ∷ fs)) ms → AllByRecursion (λ n. n < (at + 1) + length fs) ms
+moved : (at : ℕ) (f : SourceFile) (fs : List SourceFile) (ms : List ℕ) → AllByRecursion (λ n. n < at + length (f ∷ fs)) ms
+    → AllByRecursion (λ n. n < (at + 1) + length fs) ms
 moved at f fs [] h = tt
 moved at f fs (m ∷ ms) h = (omega (arith, h.0), moved at f fs ms h.1)
 
@@ -91,30 +95,35 @@ weaker : (k j : ℕ) (ms : List ℕ) → k ≤ j → Rises j ms → Rises k ms
 weaker k j [] q r = tt
 weaker k j (m ∷ ms) q r = (omega (arith, q, r.0), r.1)
 
-hit : (f : SourceFile) (fs : List SourceFile) (at n : ℕ) (ns : List ℕ) → n ≡ at → Rises (at + 1) ns → picked (at + 1) ns fs ≡ filter_map (λ m. slice_get fs (m - (at + 1))) ns
+hit : (f : SourceFile) (fs : List SourceFile) (at n : ℕ) (ns : List ℕ) → n ≡ at → Rises (at + 1) ns
+    → picked (at + 1) ns fs ≡ filter_map (λ m. slice_get fs (m - (at + 1))) ns
     → f ∷ picked (at + 1) (n ∷ ns) fs ≡ filter_map (λ m. slice_get (f ∷ fs) (m - at)) (n ∷ ns)
 hit f fs at n ns e next rest =
     let zeroth : n - at ≡ 0 = omega (arith, e) in
     ap (λ (v : List SourceFile). f ∷ v) (skip n (at + 1) ns fs (omega (arith, e)) ∙ rest ∙ sym (shift f fs at (at + 1) ns (omega arith) next))
     ∙ ap (λ (i : ℕ). cons_option (slice_get (f ∷ fs) i) (filter_map (λ m. slice_get (f ∷ fs) (m - at)) ns)) (sym zeroth)
 
-picked_are : (fs : List SourceFile) (at : ℕ) (ns : List ℕ) → Rises at ns → AllByRecursion (λ n. n < at + length fs) ns → picked at ns fs ≡ filter_map (λ m. slice_get fs (m - at)) ns
+picked_are : (fs : List SourceFile) (at : ℕ) (ns : List ℕ) → Rises at ns → AllByRecursion (λ n. n < at + length fs) ns
+    → picked at ns fs ≡ filter_map (λ m. slice_get fs (m - at)) ns
 picked_are [] at [] h b = refl
 picked_are [] at (n ∷ ns) h b = absurd (omega (arith, h.0, b.0))
 picked_are (f ∷ fs) at [] h b = picked_are fs (at + 1) [] tt tt
-picked_are (f ∷ fs) at (n ∷ ns) h b = by (n == at) refl (λ r. picked_are fs (at + 1) ns r (moved at f fs ns b.1)) (λ r. picked_are fs (at + 1) (n ∷ ns) r (moved at f fs (n ∷ ns) b)) where
-  by : (t : Bool) → (n == at) ≡ t → (Rises (at + 1) ns → picked (at + 1) ns fs ≡ filter_map (λ m. slice_get fs (m - (at + 1))) ns)
-      → (Rises (at + 1) (n ∷ ns) → picked (at + 1) (n ∷ ns) fs ≡ filter_map (λ m. slice_get fs (m - (at + 1))) (n ∷ ns))
-      → cond (t || list_any (λ m. m == at) ns) (f ∷ picked (at + 1) (n ∷ ns) fs) (picked (at + 1) (n ∷ ns) fs) ≡ filter_map (λ m. slice_get (f ∷ fs) (m - at)) (n ∷ ns)
-  by true e rest all =
-      let same : n ≡ at = is_same n at e in
-      let next : Rises (at + 1) ns = subst (λ (k : ℕ). Rises (k + 1) ns) same h.1 in
-      hit f fs at n ns same next (rest next)
-  by false e rest all =
-      let l : at < n = is_above n at h.0 e in
-      let next : Rises (at + 1) ns = weaker (at + 1) (n + 1) ns (omega (arith, l)) h.1 in
-      let both : Rises (at + 1) (n ∷ ns) = (omega (arith, l), h.1) in
-      ap (λ t. cond t (f ∷ picked (at + 1) (n ∷ ns) fs) (picked (at + 1) (n ∷ ns) fs)) (none_is at (at + 1) ns (omega arith) next) ∙ all both ∙ sym (shift f fs at (at + 1) (n ∷ ns) (omega arith) both)
+picked_are (f ∷ fs) at (n ∷ ns) h b = by (n == at) refl (λ r. picked_are fs (at + 1) ns r (moved at f fs ns b.1))
+    (λ r. picked_are fs (at + 1) (n ∷ ns) r (moved at f fs (n ∷ ns) b)) where
+      by : (t : Bool) → (n == at) ≡ t → (Rises (at + 1) ns → picked (at + 1) ns fs ≡ filter_map (λ m. slice_get fs (m - (at + 1))) ns)
+          → (Rises (at + 1) (n ∷ ns) → picked (at + 1) (n ∷ ns) fs ≡ filter_map (λ m. slice_get fs (m - (at + 1))) (n ∷ ns))
+          → cond (t || list_any (λ m. m == at) ns) (f ∷ picked (at + 1) (n ∷ ns) fs) (picked (at + 1) (n ∷ ns) fs) ≡ filter_map
+          (λ m. slice_get (f ∷ fs) (m - at)) (n ∷ ns)
+      by true e rest all =
+          let same : n ≡ at = is_same n at e in
+          let next : Rises (at + 1) ns = subst (λ (k : ℕ). Rises (k + 1) ns) same h.1 in
+          hit f fs at n ns same next (rest next)
+      by false e rest all =
+          let l : at < n = is_above n at h.0 e in
+          let next : Rises (at + 1) ns = weaker (at + 1) (n + 1) ns (omega (arith, l)) h.1 in
+          let both : Rises (at + 1) (n ∷ ns) = (omega (arith, l), h.1) in
+          ap (λ t. cond t (f ∷ picked (at + 1) (n ∷ ns) fs) (picked (at + 1) (n ∷ ns) fs)) (none_is at (at + 1) ns (omega arith) next) ∙ all both
+          ∙ sym (shift f fs at (at + 1) (n ∷ ns) (omega arith) both)
 
 from_none : (n : ℕ) (ns : List ℕ) → AllByRecursion (λ m. m < n) ns → AllByRecursion (λ m. m < 0 + n) ns
 from_none n [] h = tt
@@ -124,16 +133,19 @@ no_shift : (fs : List SourceFile) (ns : List ℕ) → filter_map (λ m. slice_ge
 no_shift fs [] = refl
 no_shift fs (n ∷ ns) =
     let same : n - 0 ≡ n = omega arith in
-    ap (λ (i : ℕ). cons_option (slice_get fs i) (filter_map (λ m. slice_get fs (m - 0)) ns)) same ∙ ap (λ (v : List SourceFile). cons_option (slice_get fs n) v) (no_shift fs ns)
+    ap (λ (i : ℕ). cons_option (slice_get fs i) (filter_map (λ m. slice_get fs (m - 0)) ns)) same
+    ∙ ap (λ (v : List SourceFile). cons_option (slice_get fs n) v) (no_shift fs ns)
 
 -- the files of numbers in strict order that all number a file
-pub files_picked : (fs : List SourceFile) (ns : List ℕ) → IsStrictlySortedBy nat_cmp ns → AllByRecursion (λ n. n < length fs) ns → picked 0 ns fs ≡ files_at fs ns
+pub files_picked : (fs : List SourceFile) (ns : List ℕ) → IsStrictlySortedBy nat_cmp ns → AllByRecursion (λ n. n < length fs) ns
+    → picked 0 ns fs ≡ files_at fs ns
 files_picked fs ns s b = picked_are fs 0 ns (rises_by 0 ns (from_zero ns) s) (from_none (length fs) ns b) ∙ no_shift fs ns
 
 files_at-append : (fs : List SourceFile) (ns ms : List ℕ) → files_at fs (ns ++ ms) ≡ files_at fs ns ++ files_at fs ms
 files_at-append fs [] ms = refl
 files_at-append fs (n ∷ ns) ms = by (slice_get fs n) (files_at-append fs ns ms) where
-  by : (found : Option SourceFile) → files_at fs (ns ++ ms) ≡ files_at fs ns ++ files_at fs ms → cons_option found (files_at fs (ns ++ ms)) ≡ cons_option found (files_at fs ns) ++ files_at fs ms
+  by : (found : Option SourceFile) → files_at fs (ns ++ ms) ≡ files_at fs ns ++ files_at fs ms
+      → cons_option found (files_at fs (ns ++ ms)) ≡ cons_option found (files_at fs ns) ++ files_at fs ms
   by None rest = rest
   by (Some f) rest = ap (λ (v : List SourceFile). f ∷ v) rest
 
@@ -143,18 +155,21 @@ each_known m (n ∷ ns) zero h l = h.0
 each_known m (n ∷ ns) (suc i) h l = each_known m ns i h.1 (omega arith)
 
 -- one more file is copied
-pub files_at_more : (fs : List SourceFile) (ns : List ℕ) (i : ℕ) (f g : SourceFile) (found more : List SourceFile) → i < length ns → All (λ n. n < length fs) ns → g ≡ get_or fs (get_or ns i 0) g → f ≡ g
+pub files_at_more : (fs : List SourceFile) (ns : List ℕ) (i : ℕ) (f g : SourceFile) (found more : List SourceFile) → i < length ns
+    → All (λ n. n < length fs) ns → g ≡ get_or fs (get_or ns i 0) g → f ≡ g
     → found ≡ files_at fs (take i ns) → more ≡ found ++ f ∷ [] → more ≡ files_at fs (take (i + 1) ns)
 files_at_more fs ns i f g found more l b e s h m =
     let n = get_or ns i 0 in
     let front : take (i + 1) ns ≡ take i ns ++ n ∷ [] = take_more ns i 0 l in
     let known : n < length fs = each_known (length fs) ns i (recursion_from_All (λ k. k < length fs) ns b) l in
     let one : files_at fs (n ∷ []) ≡ g ∷ [] = ap (λ (o : Option SourceFile). cons_option o []) (slice_get_read fs (length fs) n g refl known e) in
-    m ∙ ap (λ (v : SourceFile). found ++ v ∷ []) s ∙ ap (λ (v : List SourceFile). v ++ g ∷ []) h ∙ ap (λ (v : List SourceFile). files_at fs (take i ns) ++ v) (sym one)
+    m ∙ ap (λ (v : SourceFile). found ++ v ∷ []) s ∙ ap (λ (v : List SourceFile). v ++ g ∷ []) h
+    ∙ ap (λ (v : List SourceFile). files_at fs (take i ns) ++ v) (sym one)
     ∙ sym (files_at-append fs (take i ns) (n ∷ [])) ∙ ap (files_at fs) (sym front)
 
 -- the text of files of a project is a plan
 pub plan_of_files : (files : FileSet) (ns : List ℕ) → IsProject files → IsStrictlySortedBy nat_cmp ns → All (λ n. n < length files.entries) ns
     → IsPlan (plan_text (files_at files.entries ns)) (files_at files.entries ns)
 plan_of_files files ns h s b =
-    subst (λ (fs : List SourceFile). IsPlan (plan_text fs) fs) (files_picked files.entries ns s (recursion_from_All (λ n. n < length files.entries) ns b)) (picked_plan files ns h)
+    subst (λ (fs : List SourceFile). IsPlan (plan_text fs) fs)
+    (files_picked files.entries ns s (recursion_from_All (λ n. n < length files.entries) ns b)) (picked_plan files ns h)

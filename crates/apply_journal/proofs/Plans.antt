@@ -1,5 +1,6 @@
 -- The bytes of a plan are the plan of one list of files at most.
-use Rattle.std.proofs.Common.{◌≡◌, ℕ, ◌+◌, ◌-◌, ◌%◌, ◌^◌, ◌<◌, ◌≤◌, ◌==◌, ◌&&◌, ◌||◌, List, [], ◌∷◌, ◌++◌, Bool, true, false, length, take, drop, flat_map, nat_lt, codes, refl, sym, ap, subst, ◌∙◌, append_assoc, arith, take-append-drop}
+use Rattle.std.proofs.Common.{◌≡◌, ℕ, ◌+◌, ◌-◌, ◌%◌, ◌^◌, ◌<◌, ◌≤◌, ◌==◌, ◌&&◌, ◌||◌, List, [], ◌∷◌, ◌++◌, Bool, true, false, length, take, drop}
+use Rattle.std.proofs.Common.{flat_map, nat_lt, codes, refl, sym, ap, subst, ◌∙◌, append_assoc, arith, take-append-drop}
 use Rattle.std.specs.Fmt.{decimal}
 use Rattle.std.specs.List.{list_any, list_all}
 use Rattle.std.specs.Cmp.Lexicographic.{bytes_decides}
@@ -29,7 +30,8 @@ both_true false b e = cc
 pub free-append : (c : ℕ) (xs ys : List ℕ) → Free c xs → Free c ys → Free c (xs ++ ys)
 free-append c [] ys f g = g
 free-append c (x ∷ xs) ys f g = by (x == c) f (free-append c xs ys) where
-  by : (b : Bool) → (b || list_any (λ b. b == c) xs) ≡ false → (Free c xs → Free c ys → Free c (xs ++ ys)) → (b || list_any (λ b. b == c) (xs ++ ys)) ≡ false
+  by : (b : Bool) → (b || list_any (λ b. b == c) xs) ≡ false → (Free c xs → Free c ys → Free c (xs ++ ys))
+      → (b || list_any (λ b. b == c) (xs ++ ys)) ≡ false
   by true e rest = cc
   by false e rest = rest e g
 
@@ -61,7 +63,8 @@ digit_free d h = grind (arith, nat_tests)
 
 -- a number has no LF
 pub decimal_free : (n : ℕ) → n < 2 ^ 64 → Free 10 (decimal n)
-decimal_free = decimal_by_steps (λ m ds. Free 10 ds) (λ m l. digit_free m l) (λ m ds l h. free-append 10 ds ((48 + m % 10) ∷ []) h (digit_free (m % 10) (omega arith)))
+decimal_free = decimal_by_steps (λ m ds. Free 10 ds) (λ m l. digit_free m l)
+    (λ m ds l h. free-append 10 ds ((48 + m % 10) ∷ []) h (digit_free (m % 10) (omega arith)))
 
 -- ---- the name of a source has no space
 
@@ -88,7 +91,8 @@ ended_free ending name f h =
     let n = length name - length ending in
     let t = both_true _ _ h in
     let end : drop n name ≡ ending = (bytes_decides (drop n name) ending).0 t.0 in
-    let whole : Free 32 (take n name ++ drop n name) = free-append 32 (take n name) (drop n name) (word_free (take n name) t.1) (subst (Free 32) (sym end) f) in
+    let whole : Free 32 (take n name ++ drop n name) = free-append 32 (take n name) (drop n name) (word_free (take n name) t.1)
+    (subst (Free 32) (sym end) f) in
     subst (Free 32) (take-append-drop n name) whole
 
 pub source_free : (name : List ℕ) → is_source_name name ≡ true → Free 32 name
@@ -107,7 +111,8 @@ abbrev pub Entries : List SourceFile → Type 0
 Entries [] = Unit {0}
 Entries (f ∷ fs) = (is_source_name f.name ≡ true) × (length f.bytes < 2 ^ 64) × Entries fs
 
-entries_by : (fs : List SourceFile) → list_all is_source_name (names_of fs) ≡ true → list_any (λ file. nat_lt 1048576 (length file.bytes)) fs ≡ false → Entries fs
+entries_by : (fs : List SourceFile) → list_all is_source_name (names_of fs) ≡ true → list_any (λ file. nat_lt 1048576 (length file.bytes)) fs ≡ false
+    → Entries fs
 entries_by [] n s = tt
 entries_by (f ∷ fs) n s =
     let t = both_true _ _ n in
@@ -122,18 +127,25 @@ pub plan_few : (bytes : List ℕ) (fs : List SourceFile) → IsPlan bytes fs →
 plan_few bytes fs h = let few = few_of fs h.few in omega (arith, few)
 
 -- one file in front
-pub entry_one : (f g : SourceFile) (xs ys : List ℕ) → is_source_name f.name ≡ true → is_source_name g.name ≡ true → length f.bytes < 2 ^ 64 → length g.bytes < 2 ^ 64
+pub entry_one : (f g : SourceFile) (xs ys : List ℕ) → is_source_name f.name ≡ true → is_source_name g.name ≡ true → length f.bytes < 2 ^ 64
+    → length g.bytes < 2 ^ 64
     → plan_entry f ++ xs ≡ plan_entry g ++ ys → (f ≡ g) × (xs ≡ ys)
 entry_one f g xs ys nf ng lf lg e =
-    let names = cut 32 f.name g.name ((line (decimal (length f.bytes)) ++ line f.bytes) ++ xs) ((line (decimal (length g.bytes)) ++ line g.bytes) ++ ys) (source_free f.name nf) (source_free g.name ng)
-    (sym (append_assoc (f.name ++ 32 ∷ []) (line (decimal (length f.bytes)) ++ line f.bytes) xs) ∙ e ∙ append_assoc (g.name ++ 32 ∷ []) (line (decimal (length g.bytes)) ++ line g.bytes) ys) in
-    let lengths = cut 10 (decimal (length f.bytes)) (decimal (length g.bytes)) (line f.bytes ++ xs) (line g.bytes ++ ys) (decimal_free (length f.bytes) lf) (decimal_free (length g.bytes) lg)
-    (sym (append_assoc (line (decimal (length f.bytes))) (line f.bytes) xs) ∙ names.1 ∙ append_assoc (line (decimal (length g.bytes))) (line g.bytes) ys) in
+    let names = cut 32 f.name g.name ((line (decimal (length f.bytes)) ++ line f.bytes) ++ xs)
+    ((line (decimal (length g.bytes)) ++ line g.bytes) ++ ys) (source_free f.name nf) (source_free g.name ng)
+    (sym (append_assoc (f.name ++ 32 ∷ []) (line (decimal (length f.bytes)) ++ line f.bytes) xs) ∙ e
+    ∙ append_assoc (g.name ++ 32 ∷ []) (line (decimal (length g.bytes)) ++ line g.bytes) ys) in
+    let lengths = cut 10 (decimal (length f.bytes)) (decimal (length g.bytes)) (line f.bytes ++ xs) (line g.bytes ++ ys)
+    (decimal_free (length f.bytes) lf) (decimal_free (length g.bytes) lg)
+    (sym (append_assoc (line (decimal (length f.bytes))) (line f.bytes) xs) ∙ names.1
+    ∙ append_assoc (line (decimal (length g.bytes))) (line g.bytes) ys) in
     let long : length f.bytes ≡ length g.bytes = decimal_injective (length f.bytes) (length g.bytes) lf lg lengths.0 in
-    let bytes = split_same f.bytes g.bytes (10 ∷ xs) (10 ∷ ys) long (sym (append_assoc f.bytes (10 ∷ []) xs) ∙ lengths.1 ∙ append_assoc g.bytes (10 ∷ []) ys) in
+    let bytes = split_same f.bytes g.bytes (10 ∷ xs) (10 ∷ ys) long
+    (sym (append_assoc f.bytes (10 ∷ []) xs) ∙ lengths.1 ∙ append_assoc g.bytes (10 ∷ []) ys) in
     ((λ i. record { name = names.0 i; bytes = bytes.0 i }), ap (drop 1) bytes.1)
 
-entries_one : (fs gs : List SourceFile) (xs ys : List ℕ) → length fs ≡ length gs → Entries fs → Entries gs → flat_map plan_entry fs ++ xs ≡ flat_map plan_entry gs ++ ys → fs ≡ gs
+entries_one : (fs gs : List SourceFile) (xs ys : List ℕ) → length fs ≡ length gs → Entries fs → Entries gs
+    → flat_map plan_entry fs ++ xs ≡ flat_map plan_entry gs ++ ys → fs ≡ gs
 entries_one [] [] xs ys l f g e = refl
 entries_one [] (y ∷ gs) xs ys l f g e = absurd (omega (arith, l))
 entries_one (x ∷ fs) [] xs ys l f g e = absurd (omega (arith, l))
@@ -146,10 +158,13 @@ entries_one (x ∷ fs) (y ∷ gs) xs ys l f g e =
 text_one : (fs gs : List SourceFile) → length fs < 2 ^ 64 → length gs < 2 ^ 64 → Entries fs → Entries gs → plan_text fs ≡ plan_text gs → fs ≡ gs
 text_one fs gs lf lg f g e =
     let body = λ (hs : List SourceFile). flat_map plan_entry hs ++ line (codes "end") in
-    let counted : line (decimal (length fs)) ++ body fs ≡ line (decimal (length gs)) ++ body gs = append_cancel_left (line (codes "rotor-plan 1") ++ codes "files ") _ _ e in
-    let numbers = cut 10 (decimal (length fs)) (decimal (length gs)) (body fs) (body gs) (decimal_free (length fs) lf) (decimal_free (length gs) lg) counted in
+    let counted : line (decimal (length fs)) ++ body fs ≡ line (decimal (length gs)) ++ body gs =
+    append_cancel_left (line (codes "rotor-plan 1") ++ codes "files ") _ _ e in
+    let numbers = cut 10 (decimal (length fs)) (decimal (length gs)) (body fs) (body gs) (decimal_free (length fs) lf)
+    (decimal_free (length gs) lg) counted in
     entries_one fs gs (line (codes "end")) (line (codes "end")) (decimal_injective (length fs) (length gs) lf lg numbers.0) f g numbers.1
 
 -- bytes are the plan of one list of files at most
 pub plans_one : (bytes : List ℕ) (one other : List SourceFile) → IsPlan bytes one → IsPlan bytes other → one ≡ other
-plans_one bytes one other h k = text_one one other (plan_few bytes one h) (plan_few bytes other k) (plan_entries bytes one h) (plan_entries bytes other k) (sym h.written ∙ k.written)
+plans_one bytes one other h k = text_one one other (plan_few bytes one h) (plan_few bytes other k) (plan_entries bytes one h)
+    (plan_entries bytes other k) (sym h.written ∙ k.written)

@@ -1,5 +1,7 @@
 -- The text of a plan, piece by piece, and the files that are picked.
-use Rattle.std.proofs.Common.{◌≡◌, ℕ, ◌+◌, ◌-◌, ◌*◌, ◌<◌, ◌≤◌, ◌==◌, ◌&&◌, ◌||◌, List, [], ◌∷◌, ◌++◌, Bool, true, false, cond, Option, Some, None, option_map, length, take, drop, get_or, flat_map, sum_by, nat_lt, codes, refl, sym, ap, ◌∙◌, append_assoc, append-nil, arith, length-append, take-append-drop}
+use Rattle.std.proofs.Common.{◌≡◌, ℕ, ◌+◌, ◌-◌, ◌*◌, ◌<◌, ◌≤◌, ◌==◌, ◌&&◌, ◌||◌, List, [], ◌∷◌, ◌++◌, Bool, true, false, cond, Option, Some, None}
+use Rattle.std.proofs.Common.{option_map, length, take, drop, get_or, flat_map, sum_by, nat_lt, codes, refl, sym, ap, ◌∙◌, append_assoc, append-nil}
+use Rattle.std.proofs.Common.{arith, length-append, take-append-drop}
 use Rattle.std.specs.List.{list_any, list_all, AllByRecursion}
 use Rattle.std.specs.List.Sorted.{IsStrictlySortedBy}
 use Rattle.std.specs.Fmt.{decimal}
@@ -25,7 +27,8 @@ shape h d l e z = append_assoc ((h ++ d) ++ l) e z ∙ ap (λ v. v ++ (e ++ z)) 
 
 pub entries-append : (fs gs : List SourceFile) → flat_map plan_entry (fs ++ gs) ≡ flat_map plan_entry fs ++ flat_map plan_entry gs
 entries-append [] gs = refl
-entries-append (f ∷ fs) gs = ap (λ v. plan_entry f ++ v) (entries-append fs gs) ∙ sym (append_assoc (plan_entry f) (flat_map plan_entry fs) (flat_map plan_entry gs))
+entries-append (f ∷ fs) gs = ap (λ v. plan_entry f ++ v) (entries-append fs gs)
+    ∙ sym (append_assoc (plan_entry f) (flat_map plan_entry fs) (flat_map plan_entry gs))
 
 -- one more file
 pub entries_more : (fs : List SourceFile) (i : ℕ) (f : SourceFile) (start text more : List ℕ) → i < length fs → f ≡ get_or fs i f
@@ -33,7 +36,8 @@ pub entries_more : (fs : List SourceFile) (i : ℕ) (f : SourceFile) (start text
 entries_more fs i f start text more h e t m =
     let front : take (i + 1) fs ≡ take i fs ++ f ∷ [] = take_more fs i f h ∙ ap (λ (g : SourceFile). take i fs ++ g ∷ []) (sym e) in
     let all : flat_map plan_entry (take (i + 1) fs) ≡ flat_map plan_entry (take i fs) ++ plan_entry f =
-    ap (flat_map plan_entry) front ∙ entries-append (take i fs) (f ∷ []) ∙ ap (λ v. flat_map plan_entry (take i fs) ++ v) (append-nil (plan_entry f)) in
+    ap (flat_map plan_entry) front ∙ entries-append (take i fs) (f ∷ [])
+    ∙ ap (λ v. flat_map plan_entry (take i fs) ++ v) (append-nil (plan_entry f)) in
     m ∙ ap (λ v. v ++ plan_entry f) t ∙ append_assoc start (flat_map plan_entry (take i fs)) (plan_entry f) ∙ ap (λ v. start ++ v) (sym all)
 
 -- ---- the files that are picked
@@ -45,10 +49,12 @@ picked at numbers (file ∷ files) = cond (list_any (λ n. n == at) numbers) (fi
 
 -- ---- picked files have the properties of the files of a project
 
-picked_all : (p : List ℕ → Bool) (at : ℕ) (ns : List ℕ) (fs : List SourceFile) → list_all p (names_of fs) ≡ true → list_all p (names_of (picked at ns fs)) ≡ true
+picked_all : (p : List ℕ → Bool) (at : ℕ) (ns : List ℕ) (fs : List SourceFile) → list_all p (names_of fs) ≡ true
+    → list_all p (names_of (picked at ns fs)) ≡ true
 picked_all p at ns [] h = refl
 picked_all p at ns (f ∷ fs) h = by (list_any (λ n. n == at) ns) (picked_all p (at + 1) ns fs (both_true _ _ h).1) where
-  by : (b : Bool) → list_all p (names_of (picked (at + 1) ns fs)) ≡ true → list_all p (names_of (cond b (f ∷ picked (at + 1) ns fs) (picked (at + 1) ns fs))) ≡ true
+  by : (b : Bool) → list_all p (names_of (picked (at + 1) ns fs)) ≡ true
+      → list_all p (names_of (cond b (f ∷ picked (at + 1) ns fs) (picked (at + 1) ns fs))) ≡ true
   by true rest = ap (λ t. t && list_all p (names_of (picked (at + 1) ns fs))) (both_true _ _ h).0 ∙ rest
   by false rest = rest
 
@@ -62,11 +68,13 @@ picked_above name at ns (f ∷ fs) h = by (list_any (λ n. n == at) ns) (picked_
   by true rest = (h.0, rest)
   by false rest = rest
 
-picked_rise : (at : ℕ) (ns : List ℕ) (fs : List SourceFile) → IsStrictlySortedBy (slice_cmp nat_cmp) (names_of fs) → IsStrictlySortedBy (slice_cmp nat_cmp) (names_of (picked at ns fs))
+picked_rise : (at : ℕ) (ns : List ℕ) (fs : List SourceFile) → IsStrictlySortedBy (slice_cmp nat_cmp) (names_of fs)
+    → IsStrictlySortedBy (slice_cmp nat_cmp) (names_of (picked at ns fs))
 unfolding IsStrictlySortedBy
 picked_rise at ns [] h = tt
 picked_rise at ns (f ∷ fs) h = by (list_any (λ n. n == at) ns) (picked_rise (at + 1) ns fs h.1) where
-  by : (b : Bool) → IsStrictlySortedBy (slice_cmp nat_cmp) (names_of (picked (at + 1) ns fs)) → IsStrictlySortedBy (slice_cmp nat_cmp) (names_of (cond b (f ∷ picked (at + 1) ns fs) (picked (at + 1) ns fs)))
+  by : (b : Bool) → IsStrictlySortedBy (slice_cmp nat_cmp) (names_of (picked (at + 1) ns fs))
+      → IsStrictlySortedBy (slice_cmp nat_cmp) (names_of (cond b (f ∷ picked (at + 1) ns fs) (picked (at + 1) ns fs)))
   by true rest = (picked_above f.name (at + 1) ns fs h.0, rest)
   by false rest = rest
 
@@ -114,12 +122,15 @@ fits m n l = grind (arith, nat_tests)
 within : (m n : ℕ) → nat_lt m n ≡ false → n ≤ m
 within m n e = grind arith
 
-no_first : (front xs : List SourceFile) → are_over front ≡ false → has_big xs ≡ false → Total front + Total xs ≤ 8388608 → first_with (λ f. are_over (front ++ f)) xs ≡ None
+no_first : (front xs : List SourceFile) → are_over front ≡ false → has_big xs ≡ false → Total front + Total xs ≤ 8388608
+    → first_with (λ f. are_over (front ++ f)) xs ≡ None
 no_first front [] o b l = refl
 no_first front (x ∷ xs) o b l =
     let small : nat_lt 1048576 (length x.bytes) ≡ false = (both_free _ _ b).0 in
-    let fit : nat_lt 8388608 (Total front + length x.bytes) ≡ false = fits 8388608 (Total front + length x.bytes) (omega (arith, l, total_cons x xs)) in
-    let over : are_over (front ++ x ∷ []) ≡ false = are_over_with front x o ∙ ap (λ t. t || nat_lt 8388608 (Total front + length x.bytes)) small ∙ fit in
+    let fit : nat_lt 8388608 (Total front + length x.bytes) ≡ false =
+    fits 8388608 (Total front + length x.bytes) (omega (arith, l, total_cons x xs)) in
+    let over : are_over (front ++ x ∷ []) ≡ false = are_over_with front x o ∙ ap (λ t. t || nat_lt 8388608 (Total front + length x.bytes)) small
+    ∙ fit in
     let more : Total (front ++ x ∷ []) ≡ Total front + length x.bytes = grind (arith, common_steps) in
     first_with_miss front x xs over ∙ no_first (front ++ x ∷ []) xs over (both_free _ _ b).1 (omega (arith, l, more, total_cons x xs))
 
@@ -142,7 +153,8 @@ ended_short ending name l h =
     let t = both_true _ _ h in
     let end : drop n name ≡ ending = (bytes_decides (drop n name) ending).0 t.0 in
     let front = stem_short (take n name) t.1 in
-    let whole : length (take n name) + length (drop n name) ≡ length name = sym (length-append (take n name) (drop n name)) ∙ ap length (take-append-drop n name) in
+    let whole : length (take n name) + length (drop n name) ≡ length name = sym (length-append (take n name) (drop n name))
+    ∙ ap length (take-append-drop n name) in
     let back : length (drop n name) ≡ length ending = ap length end in
     omega (arith, front, whole, back, l)
 
@@ -170,18 +182,29 @@ entry_short f n l =
       length-append f.bytes (10 ∷ []),
     )
 
-entries_short : (fs : List SourceFile) → list_all is_source_name (names_of fs) ≡ true → has_big fs ≡ false → length (flat_map plan_entry fs) ≤ Total fs + 282 * length fs
+entries_short : (fs : List SourceFile) → list_all is_source_name (names_of fs) ≡ true → has_big fs ≡ false
+    → length (flat_map plan_entry fs) ≤ Total fs + 282 * length fs
 entries_short [] n b = omega arith
 entries_short (f ∷ fs) n b =
     let rest : length (flat_map plan_entry fs) ≤ Total fs + 282 * length fs = entries_short fs (both_true _ _ n).1 (both_free _ _ b).1 in
     let one = entry_short f (both_true _ _ n).0 (within 1048576 (length f.bytes) (both_free _ _ b).0) in
     omega (arith, rest, one, total_cons f fs, length-append (plan_entry f) (flat_map plan_entry fs))
 
-text_short : (fs : List SourceFile) → list_all is_source_name (names_of fs) ≡ true → has_big fs ≡ false → length fs ≤ 2000 → Total fs ≤ 8388608 → length (plan_text fs) ≤ 16777216
+text_short : (fs : List SourceFile) → list_all is_source_name (names_of fs) ≡ true → has_big fs ≡ false → length fs ≤ 2000 → Total fs ≤ 8388608
+    → length (plan_text fs) ≤ 16777216
 text_short fs n b few total =
     let entries = entries_short fs n b in
     let digits = decimal_short (length fs) (omega (arith, few)) in
-    omega (arith, entries, digits, few, total, length-append (line (decimal (length fs))) (flat_map plan_entry fs ++ line (codes "end")), length-append (decimal (length fs)) (10 ∷ []), length-append (flat_map plan_entry fs) (line (codes "end")))
+    omega (
+      arith,
+      entries,
+      digits,
+      few,
+      total,
+      length-append (line (decimal (length fs))) (flat_map plan_entry fs ++ line (codes "end")),
+      length-append (decimal (length fs)) (10 ∷ []),
+      length-append (flat_map plan_entry fs) (line (codes "end")),
+    )
 
 -- the text of files that are picked is a plan
 pub picked_plan : (files : FileSet) (ns : List ℕ) → IsProject files → IsPlan (plan_text (picked 0 ns files.entries)) (picked 0 ns files.entries)

@@ -36,7 +36,8 @@ pub written_one : (name bytes : List ℕ) (before now : Option FileMap) → Writ
 written_one name bytes None now w = w
 written_one name bytes (Some held) now w = w
 
-pub written_on : (fs gs : List SourceFile) (before mid now : Option FileMap) → Written fs before mid → Written gs mid now → Written (fs ++ gs) before now
+pub written_on : (fs gs : List SourceFile) (before mid now : Option FileMap) → Written fs before mid → Written gs mid now
+    → Written (fs ++ gs) before now
 written_on fs gs None mid now w v = v ∙ ap (option_map (after gs)) w
 written_on fs gs (Some held) mid now w v = v ∙ ap (option_map (after gs)) w ∙ ap (λ (m : FileMap). Some m) (sym (after-append fs gs held))
 
@@ -48,16 +49,25 @@ pub stopped_front : (fs gs : List SourceFile) (before now : Option FileMap) → 
 stopped_front fs gs before now s =
     (s.0, s.1, s.2 ++ gs, s.3, ap (λ (hs : List SourceFile). hs ++ gs) s.4 ∙ append_assoc s.0 (s.1 ∷ s.2) gs, s.5)
 
-pub stopped_back : (fs gs : List SourceFile) (before mid now : Option FileMap) → Written fs before mid → StoppedWriting gs mid now → StoppedWriting (fs ++ gs) before now
-stopped_back fs gs None mid now w s =
-    (fs ++ s.0, s.1, s.2, s.3, ap (λ (hs : List SourceFile). fs ++ hs) s.4 ∙ sym (append_assoc fs s.0 (s.1 ∷ s.2)), s.5 ∙ ap (option_map (λ files. insert (after s.0 files) s.1.name s.3)) w)
+pub stopped_back : (fs gs : List SourceFile) (before mid now : Option FileMap) → Written fs before mid → StoppedWriting gs mid now
+    → StoppedWriting (fs ++ gs) before now
+stopped_back fs gs None mid now w s = (
+  fs ++ s.0,
+  s.1,
+  s.2,
+  s.3,
+  ap (λ (hs : List SourceFile). fs ++ hs) s.4 ∙ sym (append_assoc fs s.0 (s.1 ∷ s.2)),
+  s.5
+      ∙ ap (option_map (λ files. insert (after s.0 files) s.1.name s.3)) w,
+)
 stopped_back fs gs (Some held) mid now w s = (
   fs ++ s.0,
   s.1,
   s.2,
   s.3,
   ap (λ (hs : List SourceFile). fs ++ hs) s.4 ∙ sym (append_assoc fs s.0 (s.1 ∷ s.2)),
-  s.5 ∙ ap (option_map (λ files. insert (after s.0 files) s.1.name s.3)) w ∙ ap (λ (m : FileMap). Some (insert m s.1.name s.3)) (sym (after-append fs s.0 held)),
+  s.5 ∙ ap (option_map (λ files. insert (after s.0 files) s.1.name s.3)) w
+      ∙ ap (λ (m : FileMap). Some (insert m s.1.name s.3)) (sym (after-append fs s.0 held)),
 )
 
 pub room_join : (room : List ℕ → ℕ) (fs gs : List SourceFile) → HasRoom room fs → HasRoom room gs → HasRoom room (fs ++ gs)

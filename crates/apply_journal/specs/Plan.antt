@@ -19,7 +19,8 @@ plan_entry file = (file.name ++ 32 ∷ []) ++ (line (decimal (length file.bytes)
 
 -- the plan of these files (Plan format)
 abbrev pub plan_text : List SourceFile → List ℕ
-plan_text files = line (codes "rotor-plan 1") ++ ((codes "files " ++ line (decimal (length files))) ++ (flat_map plan_entry files ++ line (codes "end")))
+plan_text files = line (codes "rotor-plan 1")
+    ++ ((codes "files " ++ line (decimal (length files))) ++ (flat_map plan_entry files ++ line (codes "end")))
 
 -- The bytes are the plan of these files: sources in strict byte order that keep the limits on files.
 pub record IsPlan (bytes : List ℕ) (files : List SourceFile) : Type 0 where

@@ -71,7 +71,8 @@ pub data IsDue (held : FileMap) : Option (List SourceFile) → Type 0 where
 -- what a recovery answers, and the folder that it leaves
 pub data IsRecovered (held : FileMap) : Option FileMap → Recovery → Type 0 where
   rested : (IsOpen held → ⊥) → IsRecovered held (Some held) Nothing
-  done : (files : List SourceFile) → IsOpen held → HoldsPlan held files → IsRecovered held (Some (after (plan_writes files) held)) (Done (length files))
+  done : (files : List SourceFile) → IsOpen held → HoldsPlan held files
+      → IsRecovered held (Some (after (plan_writes files) held)) (Done (length files))
 
 -- a recovery that stopped at a write
 pub record IsStopped (held : FileMap) (now : Option FileMap) : Type 0 where

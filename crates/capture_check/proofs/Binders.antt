@@ -1,5 +1,6 @@
 -- The places of a sound project's groups are binders, and the table has their names.
-use Rattle.std.proofs.Common.{◌≡◌, ℕ, ◌&&◌, Bool, true, false, refl, ap, ◌∙◌, List, [], ◌∷◌, ◌++◌, map, Contains, IsTrue, Option, Some, None, if◌then◌else◌, unwrap_or}
+use Rattle.std.proofs.Common.{◌≡◌, ℕ, ◌&&◌, Bool, true, false, refl, ap, ◌∙◌, List, [], ◌∷◌, ◌++◌, map, Contains, IsTrue, Option, Some, None}
+use Rattle.std.proofs.Common.{if◌then◌else◌, unwrap_or}
 use Rattle.std.specs.BTreeMap.{BTreeMap}
 use Rattle.rotor_base.specs.declared.place.Place.{Place}
 use Rattle.rotor_base.specs.declared.place.Goal.{Goal}
@@ -10,7 +11,8 @@ use Rattle.ml_syntax.specs.Sound.{IsSound}
 use Rattle.ml_syntax.specs.Tree.{UnitTree}
 use Rattle.shape_core.specs.Shape.{Name, Entries, none, a_val, a_mod, a_mty, a_dark, or_else, some_if}
 use Rattle.ml_syntax.specs.Each.{Each}
-use Rattle.binding_model.specs.Steps.{Steps, quiet, ◌⨾◌, UseAlone, UseUnder, MatchOf, PinOf, TieOf, GroupOf, WeighedSite, OpenedSite, UnitStart, groups_of}
+use Rattle.binding_model.specs.Steps.{Steps, quiet, ◌⨾◌, UseAlone, UseUnder, MatchOf, PinOf, TieOf, GroupOf, WeighedSite, OpenedSite, UnitStart}
+use Rattle.binding_model.specs.Steps.{groups_of}
 use Rattle.binding_model.specs.Walk.{steps}
 use Rattle.binding_model.specs.Facts.{facts, decls}
 use Rattle.binding_model.specs.Renaming.{places, at_place, name_of}
@@ -62,7 +64,8 @@ module _ (us : List UnitTree) (s : IsSound us) where
   mapped_bind (es ∷ gs) h = (all_bind es h.0, mapped_bind gs h.1)
 
   steps_named : NamedSteps Q (steps us)
-  steps_named = units_named Q us none tt (each_map (λ e. at_place (places us) e.0 ≡ Some e.1) (PlaceNamed Q) (places us) (λ e h b. (e.1, h, b)) (found_all (places us) (apart_of us s)))
+  steps_named = units_named Q us none tt
+      (each_map (λ e. at_place (places us) e.0 ≡ Some e.1) (PlaceNamed Q) (places us) (λ e h b. (e.1, h, b)) (found_all (places us) (apart_of us s)))
 
   -- the places of groups are binders
   pub group_binds : (g : List Place) (d : Place) → Contains (facts us).groups g → Contains g d → IsBinder us d
@@ -84,11 +87,13 @@ module _ (us : List UnitTree) (s : IsSound us) where
   stays [] d h = refl
   stays (e ∷ L) d h = ap (λ (o : Option (List ℕ)). filed L o d) (some_own L d e e.1.binds (same_place e.0 d) refl h.0) ∙ stays L d h.1
 
-  found_is : (L : List (Place × Site)) (o : Option (List ℕ)) (d : Place) (x : Site) → Each Own L → at_place L d ≡ Some x → x.binds ≡ true → filed L o d ≡ Some (name_of us d)
+  found_is : (L : List (Place × Site)) (o : Option (List ℕ)) (d : Place) (x : Site) → Each Own L → at_place L d ≡ Some x → x.binds ≡ true
+      → filed L o d ≡ Some (name_of us d)
   found_is [] o d x h e b = absurd cc
   found_is (e ∷ L) o d x h k b =
       by (same_place e.0 d) refl k (λ (p : Option (List ℕ)) (j : at_place L d ≡ Some x). found_is L p d x h.1 j b) where
-        by : (c : Bool) → same_place e.0 d ≡ c → or_else (some_if c e.1) (at_place L d) ≡ Some x → ((p : Option (List ℕ)) → at_place L d ≡ Some x → filed L p d ≡ Some (name_of us d))
+        by : (c : Bool) → same_place e.0 d ≡ c → or_else (some_if c e.1) (at_place L d) ≡ Some x
+            → ((p : Option (List ℕ)) → at_place L d ≡ Some x → filed L p d ≡ Some (name_of us d))
             → filed L (if e.1.binds && same_place e.0 d then Some e.1.name else o) d ≡ Some (name_of us d)
         by false f j rec = rec (if e.1.binds && same_place e.0 d then Some e.1.name else o) j
         by true f j rec =
@@ -103,4 +108,5 @@ module _ (us : List UnitTree) (s : IsSound us) where
   true_is b h = h
 
   pub named_is : (table : BTreeMap Place (List ℕ)) (d : Place) → IsTableOf us table → IsBinder us d → named table d ≡ name_of us d
-  named_is table d t b = ap (λ (o : Option (List ℕ)). unwrap_or o []) (t d ∙ found_is (places us) None d b.0 (sound_named us s) b.1 (true_is b.0.binds b.2))
+  named_is table d t b = ap (λ (o : Option (List ℕ)). unwrap_or o [])
+      (t d ∙ found_is (places us) None d b.0 (sound_named us s) b.1 (true_is b.0.binds b.2))

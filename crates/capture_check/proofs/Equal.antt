@@ -1,5 +1,6 @@
 -- If there is no fault, the facts are equal.
-use Rattle.std.proofs.Common.{◌≡◌, ◌≢◌, ℕ, zero, suc, ◌+◌, ◌⊎◌, ◌==◌, ◌&&◌, Bool, true, false, refl, ap, sym, ◌∙◌, subst, inl, inr, arith, List, [], ◌∷◌, map, length, Option, Some, None, slice_get, true≢false}
+use Rattle.std.proofs.Common.{◌≡◌, ◌≢◌, ℕ, zero, suc, ◌+◌, ◌⊎◌, ◌==◌, ◌&&◌, Bool, true, false, refl, ap, sym, ◌∙◌, subst, inl, inr, arith, List, []}
+use Rattle.std.proofs.Common.{◌∷◌, map, length, Option, Some, None, slice_get, true≢false}
 use Rattle.std.proofs.lemmas.Bool.Decides.{nat_tests}
 use Rattle.rotor_base.specs.declared.place.Place.{Place}
 use Rattle.rotor_base.specs.declared.place.Goal.{Goal}
@@ -87,7 +88,8 @@ place_or p q = by (same_place p q) refl where
 
 -- ---- if there is no least change, no thing differs
 
-module _ {A : Type 0} (make : Place → Goal → A) (keeps : KeepsPlace make) (old new : List A) (tell : (o p : Option A) → (c : Option Change) × Tells make o p c) where
+module _ {A : Type 0} (make : Place → Goal → A) (keeps : KeepsPlace make) (old new : List A)
+    (tell : (o p : Option A) → (c : Option Change) × Tells make o p c) where
   best_at : (n : ℕ) → (c : Option Change) × IsBest make old new n c
   best_at zero = (None, best_begin make keeps old new)
   best_at (suc n) =
@@ -108,9 +110,17 @@ module _ {A : Type 0} (make : Place → Goal → A) (keeps : KeepsPlace make) (o
 
 tell_pair : (r s : Ref) → (c : Option Change) × Tells of_ref (Some r) (Some s) c
 tell_pair r s = elim (place_or r.at s.at) [
-  | inr n ↦ (None, λ p w v e f d. let x : r.at ≡ p = ap (λ (q : Option Ref). at_of r q) e in let y : s.at ≡ p = ap (λ (q : Option Ref). at_of s q) f in n (x ∙ sym y))
+  | inr n ↦ (
+    None,
+    λ p w v e f d. let x : r.at ≡ p = ap (λ (q : Option Ref). at_of r q) e in
+        let y : s.at ≡ p = ap (λ (q : Option Ref). at_of s q) f in n (x ∙ sym y),
+  )
   | inl a ↦ elim (equal_or r.goal s.goal) [
-    | inl g ↦ (None, λ p w v e f d. let x : r.goal ≡ w = ap (λ (q : Option Ref). goal_of r q) e in let y : s.goal ≡ v = ap (λ (q : Option Ref). goal_of s q) f in d (sym x ∙ (g ∙ y)))
+    | inl g ↦ (
+      None,
+      λ p w v e f d. let x : r.goal ≡ w = ap (λ (q : Option Ref). goal_of r q) e in
+          let y : s.goal ≡ v = ap (λ (q : Option Ref). goal_of s q) f in d (sym x ∙ (g ∙ y)),
+    )
     | inr n ↦ (Some (record { at = r.at; was = r.goal; would = s.goal }), (refl, ap (λ (p : Place). Some (of_ref p s.goal)) (sym a), n))
   ]
 ] where
@@ -169,7 +179,8 @@ module _ (f : Ref → Ref) (stays : (r : Ref) → (f r).at ≡ r.at) where
       let rest = refs_equal rs (λ k p w v d. h (suc k) p w v (record { old_one = d.old_one; new_one = d.new_one; differ = d.differ })) in
       let goal : (f r).goal ≡ r.goal = elim (equal_or r.goal (f r).goal) [
         | inl e ↦ sym e
-        | inr n ↦ absurd (h 0 r.at r.goal (f r).goal (record { old_one = refl; new_one = ap (λ (p : Place). Some (of_ref p (f r).goal)) (stays r); differ = n }))
+        | inr n ↦ absurd (h 0 r.at r.goal (f r).goal
+            (record { old_one = refl; new_one = ap (λ (p : Place). Some (of_ref p (f r).goal)) (stays r); differ = n }))
       ] in
       let one : f r ≡ r = ap (λ (p : Place). of_ref p (f r).goal) (stays r) ∙ ap (of_ref r.at) goal in
       ap (λ (q : Ref). q ∷ map f rs) one ∙ ap (λ (qs : List Ref). r ∷ qs) rest
@@ -178,11 +189,13 @@ abbrev pub IsAtDecl : Link → Type 0
 IsAtDecl l = (a : Place) × (l.item ≡ Decl a)
 
 module _ (w : Watch) (ls : List LinkLook) where
-  links_equal : (n : ℕ) (links : List Link) → Each IsAtDecl links → ((k : ℕ) (p : Place) (v u : Goal) → Differs of_link links (would_links w ls n links) k p v u → ⊥)
+  links_equal : (n : ℕ) (links : List Link) → Each IsAtDecl links
+      → ((k : ℕ) (p : Place) (v u : Goal) → Differs of_link links (would_links w ls n links) k p v u → ⊥)
       → would_links w ls n links ≡ links
   links_equal n [] i h = refl
   links_equal n (l ∷ links) i h =
-      let rest = links_equal (suc n) links i.1 (λ k p v u d. h (suc k) p v u (record { old_one = d.old_one; new_one = d.new_one; differ = d.differ })) in
+      let rest = links_equal (suc n) links i.1 (λ k p v u d. h (suc k) p v u (record { old_one = d.old_one; new_one = d.new_one; differ = d.differ }))
+      in
       let new : Goal = would_come w (link_look_at ls n) l.source in
       let item : Goal → Link = λ g. record { item = g; source = new } in
       let source : new ≡ l.source = elim (equal_or l.source new) [
@@ -212,7 +225,8 @@ item_decl l j = chosen l.item refl j.1 where
 
 pub items_decl : (us : List UnitTree) → IsSound us → Each IsAtDecl (facts us).links
 items_decl us s =
-    let named = units_named Anything us none tt (each_map (λ e. at_place (places us) e.0 ≡ Some e.1) (PlaceNamed Anything) (places us) (λ e h. tt) (found_all (places us) (apart_of us s))) in
+    let named = units_named Anything us none tt
+    (each_map (λ e. at_place (places us) e.0 ≡ Some e.1) (PlaceNamed Anything) (places us) (λ e h. tt) (found_all (places us) (apart_of us s))) in
     each_map (Joins Anything) IsAtDecl (facts us).links item_decl (steps_join Anything (steps us) named)
 
 -- Law: if no fault is found, the renamed project has the facts of the old one

@@ -15,9 +15,18 @@ Agree f g groups = (group : List Place) (d : Place) → Contains groups group �
 
 repeats_as : (f g : Names) (groups : List (List Place)) → Agree f g groups → (p q : Place) → Repeats f groups p q → Repeats g groups p q
 repeats_as f g groups a p q r =
-    record { group = r.group; among = r.among; here = r.here; there = r.there; order = r.order; same = sym (a r.group p r.among r.here) ∙ (r.same ∙ a r.group q r.among r.there) }
+    record {
+      group = r.group;
+      among = r.among;
+      here = r.here;
+      there = r.there;
+      order = r.order;
+      same = sym (a r.group p r.among r.here)
+          ∙ (r.same ∙ a r.group q r.among r.there);
+    }
 
-pub first_as : (f g : Names) (groups : List (List Place)) → Agree f g groups → (o : Option Repeat) → IsFirstRepeat f groups o → IsFirstRepeat g groups o
+pub first_as : (f g : Names) (groups : List (List Place)) → Agree f g groups → (o : Option Repeat) → IsFirstRepeat f groups o
+    → IsFirstRepeat g groups o
 first_as f g groups a None h = λ p q r. h p q (repeats_as g f groups (λ x d i j. sym (a x d i j)) p q r)
 first_as f g groups a (Some s) h = record {
   repeats = repeats_as f g groups a s.first s.again h.repeats;
@@ -44,7 +53,8 @@ module _ (names : Names) (old new : Facts) where
   no_mislink h (Mislink Hidden was would, l) = l
   no_mislink h (Mislink (Blur by n b) was would, l) = l
 
-  pub fault_is : (r : Option Repeat) (c m : Option Change) → IsFirstRepeat names new.groups r → IsFirstChange of_ref old.refs new.refs c → IsFirstChange of_link old.links new.links m
+  pub fault_is : (r : Option Repeat) (c m : Option Change) → IsFirstRepeat names new.groups r → IsFirstChange of_ref old.refs new.refs c
+      → IsFirstChange of_link old.links new.links m
       → IsFirstFault names old new (fault_of r c m)
   fault_is (Some r) c m h k l = inl h
   fault_is None (Some c) m h k l = inr (no_clash h, inl k)

@@ -1,5 +1,6 @@
 -- Tables of names, site by site.
-use Rattle.std.proofs.Common.{◌≡◌, ℕ, ◌+◌, ◌&&◌, Bool, true, false, cond, refl, ap, sym, ◌∙◌, subst, List, [], ◌∷◌, ◌++◌, map, drop, Option, Some, if◌then◌else◌}
+use Rattle.std.proofs.Common.{◌≡◌, ℕ, ◌+◌, ◌&&◌, Bool, true, false, cond, refl, ap, sym, ◌∙◌, subst, List, [], ◌∷◌, ◌++◌, map, drop, Option, Some}
+use Rattle.std.proofs.Common.{if◌then◌else◌}
 use Rattle.std.specs.List.{filter}
 use Rattle.std.specs.Ordering.{is_eq}
 use Rattle.std.proofs.lemmas.Cmp.{tied_itself}
@@ -49,20 +50,25 @@ marks_more file marks i m old new start more put h d =
     ∙ (sym (ap (λ (ms : List Mark). filed_marks file ms (get place_cmp old d) d) more) ∙ h d)
 
 -- all binders of a file
-bind_case : (file : ℕ) (x : Site) (xs ys : List Site) (o : Option (List ℕ)) (d : Place) (b : Bool) → ((p : Option (List ℕ)) → filed_marks file (map mark ys) p d ≡ filed (placed_sites file xs) p d)
-    → filed_marks file (map mark (cond b (x ∷ ys) ys)) o d ≡ filed (placed_sites file xs) (if b && same_place (here file x.at) d then Some x.name else o) d
+bind_case : (file : ℕ) (x : Site) (xs ys : List Site) (o : Option (List ℕ)) (d : Place) (b : Bool)
+    → ((p : Option (List ℕ)) → filed_marks file (map mark ys) p d ≡ filed (placed_sites file xs) p d)
+    → filed_marks file (map mark (cond b (x ∷ ys) ys)) o d ≡ filed (placed_sites file xs)
+    (if b && same_place (here file x.at) d then Some x.name else o) d
 bind_case file x xs ys o d true k = k (if same_place (here file x.at) d then Some x.name else o)
 bind_case file x xs ys o d false k = k o
 
-binds_of : (file : ℕ) (xs : List Site) (o : Option (List ℕ)) (d : Place) → filed_marks file (map mark (filter (λ x. x.binds) xs)) o d ≡ filed (placed_sites file xs) o d
+binds_of : (file : ℕ) (xs : List Site) (o : Option (List ℕ)) (d : Place) → filed_marks file (map mark (filter (λ x. x.binds) xs)) o d ≡ filed
+    (placed_sites file xs) o d
 binds_of file [] o d = refl
 binds_of file (x ∷ xs) o d = bind_case file x xs (filter (λ x. x.binds) xs) o d x.binds (λ p. binds_of file xs p d)
 
-file_of : (t : FileTree) (o : Option (List ℕ)) (d : Place) → filed_marks (number_of t) (map mark (binder_sites t)) o d ≡ filed (file_places (Some t)) o d
+file_of : (t : FileTree) (o : Option (List ℕ)) (d : Place) → filed_marks (number_of t) (map mark (binder_sites t)) o d ≡ filed
+    (file_places (Some t)) o d
 file_of (Body file is) o d = binds_of file (sites (Body file is)) o d
 file_of (Face file is) o d = binds_of file (sites (Face file is)) o d
 
-pub file_filed : (t : FileTree) (file : ℕ) (marks left : List Mark) (o p : Option (List ℕ)) (d : Place) → file ≡ number_of t → marks ≡ map mark (binder_sites t) → left ≡ []
+pub file_filed : (t : FileTree) (file : ℕ) (marks left : List Mark) (o p : Option (List ℕ)) (d : Place) → file ≡ number_of t
+    → marks ≡ map mark (binder_sites t) → left ≡ []
     → filed_marks file left p d ≡ filed_marks file marks o d → p ≡ filed (file_places (Some t)) o d
 file_filed t file marks left o p d f m e h =
     sym (ap (λ (ms : List Mark). filed_marks file ms p d) e)
@@ -73,8 +79,10 @@ filed-append : (a b : List (Place × Site)) (o : Option (List ℕ)) (d : Place) 
 filed-append [] b o d = refl
 filed-append (e ∷ a) b o d = filed-append a b (if e.1.binds && same_place e.0 d then Some e.1.name else o) d
 
-pub unit_filed : (u : UnitTree) (us : List UnitTree) (o p q : Option (List ℕ)) (d : Place) → p ≡ filed (file_places u.body) o d → q ≡ filed (file_places u.face) p d
+pub unit_filed : (u : UnitTree) (us : List UnitTree) (o p q : Option (List ℕ)) (d : Place) → p ≡ filed (file_places u.body) o d
+    → q ≡ filed (file_places u.face) p d
     → filed (places us) q d ≡ filed (places (u ∷ us)) o d
 unit_filed u us o p q d b f =
     ap (λ (x : Option (List ℕ)). filed (places us) x d) (f ∙ ap (λ (x : Option (List ℕ)). filed (file_places u.face) x d) b)
-    ∙ sym (filed-append (file_places u.body) (file_places u.face ++ places us) o d ∙ filed-append (file_places u.face) (places us) (filed (file_places u.body) o d) d)
+    ∙ sym (filed-append (file_places u.body) (file_places u.face ++ places us) o d
+    ∙ filed-append (file_places u.face) (places us) (filed (file_places u.body) o d) d)

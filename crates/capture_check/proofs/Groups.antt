@@ -1,5 +1,6 @@
 -- The first repeat of some groups, group by group.
-use Rattle.std.proofs.Common.{◌≡◌, ℕ, zero, suc, bytes_eq, if◌then◌else◌, ◌+◌, ◌<◌, ◌≤◌, ◌⊎◌, refl, sym, subst, inl, inr, arith, List, [], ◌∷◌, length, get_or, Contains, Option, Some, None}
+use Rattle.std.proofs.Common.{◌≡◌, ℕ, zero, suc, bytes_eq, if◌then◌else◌, ◌+◌, ◌<◌, ◌≤◌, ◌⊎◌, refl, sym, subst, inl, inr, arith, List, [], ◌∷◌}
+use Rattle.std.proofs.Common.{length, get_or, Contains, Option, Some, None}
 use Rattle.rotor_base.specs.declared.place.Place.{Place}
 use Rattle.dependency_kernel.proofs.Below.{FoundBelow, found_none, found_more, found_last, found_split, found_all, found_within}
 use Rattle.capture_check.specs.declared.fault.Repeat.{Repeat}
@@ -19,7 +20,8 @@ of_first names groups (Some r) h = record { there = h.repeats; least = h.least }
 
 -- what the scan of a group keeps
 abbrev pub Scans : Names → List Place → ℕ → (List ℕ → Option Place) → Option Repeat → Type 0
-Scans names group n seen least = ((x : List ℕ) → IsLeastOf names (FoundBelow n group) x (seen x)) × IsBestPair (Pairs names (FoundBelow n group)) least
+Scans names group n seen least = ((x : List ℕ) → IsLeastOf names (FoundBelow n group) x (seen x))
+    × IsBestPair (Pairs names (FoundBelow n group)) least
 
 module _ (names : Names) (group : List Place) where
   pub scan_begin : (seen : List ℕ → Option Place) → ((x : List ℕ) → seen x ≡ None) → Scans names group 0 seen None
@@ -47,14 +49,26 @@ module _ (names : Names) (group : List Place) where
     go zero below is = is
     go (suc k) below is = absurd (omega arith)
 
-  pub scan_end : (n : ℕ) (best : Option Repeat) → n ≤ length group → length group ≤ n → IsBestPair (Pairs names (FoundBelow n group)) best → IsFirstRepeat names (group ∷ []) best
+  pub scan_end : (n : ℕ) (best : Option Repeat) → n ≤ length group → length group ≤ n → IsBestPair (Pairs names (FoundBelow n group)) best
+      → IsFirstRepeat names (group ∷ []) best
   scan_end n best le ge h =
       to_first names (group ∷ []) best (kept (Pairs names (FoundBelow n group)) (Repeats names (group ∷ []))
-      (λ f a k. record { group = group; among = (0, omega arith, refl); here = found_within n group f le k.0; there = found_within n group a le k.1; order = k.2; same = k.3 })
+      (λ f a k. record {
+        group = group;
+        among = (0, omega arith, refl);
+        here = found_within n group f le k.0;
+        there = found_within n group a le k.1;
+        order = k.2;
+        same = k.3;
+      })
       best
       (λ f a k.
-      let e = only_group k.group k.among in
-      (found_all n group f ge (subst (λ g. Contains g f) (sym e) k.here), found_all n group a ge (subst (λ g. Contains g a) (sym e) k.there), k.order, k.same))
+      let e = only_group k.group k.among in (
+        found_all n group f ge (subst (λ g. Contains g f) (sym e) k.here),
+        found_all n group a ge (subst (λ g. Contains g a) (sym e) k.there),
+        k.order,
+        k.same,
+      ))
       h)
 
   pub of_group : (o : Option Repeat) → IsFirstRepeat names (group ∷ []) o → IsBestPair (Pairs names (Contains group)) o
@@ -76,7 +90,8 @@ module _ (names : Names) (groups : List (List Place)) where
   pub groups_begin : IsBestPair (Below names groups 0) None
   groups_begin = λ f a h. found_none groups h.0 h.1
 
-  pub groups_more : (n : ℕ) (best found : Option Repeat) (g : List Place) → n < length groups → g ≡ get_or groups n g → IsFirstRepeat names (g ∷ []) found
+  pub groups_more : (n : ℕ) (best found : Option Repeat) (g : List Place) → n < length groups → g ≡ get_or groups n g
+      → IsFirstRepeat names (g ∷ []) found
       → IsBestPair (Below names groups n) best → IsBestPair (Below names groups (n + 1)) (earlier_repeat best found)
   groups_more n best found g within is first h = by found (of_group names g found first) where
     up : Within (Below names groups n) (Below names groups (n + 1))
@@ -89,12 +104,14 @@ module _ (names : Names) (groups : List (List Place)) where
     ]
 
     by : (o : Option Repeat) → IsBestPair (Pairs names (Contains g)) o → IsBestPair (Below names groups (n + 1)) (earlier_repeat best o)
-    by None l = kept_none (Below names groups n) (Below names groups (n + 1)) up best (λ f a k. elim (split f a k) [ inl b ↦ b | inr p ↦ absurd (l f a p) ]) h
+    by None l = kept_none (Below names groups n) (Below names groups (n + 1)) up best
+        (λ f a k. elim (split f a k) [ inl b ↦ b | inr p ↦ absurd (l f a p) ]) h
     by (Some r) l =
         added (Below names groups n) (Below names groups (n + 1)) up r (g, found_last n groups g is, l.there)
         (λ f a k. elim (split f a k) [ inl b ↦ inl b | inr p ↦ inr (l.least f a p) ]) best h
 
-  pub groups_end : (n : ℕ) (best : Option Repeat) → n ≤ length groups → length groups ≤ n → IsBestPair (Below names groups n) best → IsFirstRepeat names groups best
+  pub groups_end : (n : ℕ) (best : Option Repeat) → n ≤ length groups → length groups ≤ n → IsBestPair (Below names groups n) best
+      → IsFirstRepeat names groups best
   groups_end n best le ge h =
       to_first names groups best (kept (Below names groups n) (Repeats names groups)
       (λ f a k. record { group = k.0; among = found_within n groups k.0 le k.1; here = k.2.0; there = k.2.1; order = k.2.2; same = k.2.3 })

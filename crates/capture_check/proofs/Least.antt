@@ -1,5 +1,6 @@
 -- The first change of two lists, thing by thing.
-use Rattle.std.proofs.Common.{◌≡◌, ℕ, ◌+◌, ◌<◌, ◌≤◌, ◌⊎◌, Bool, true, false, refl, ap, sym, ◌∙◌, subst, inl, inr, arith, List, length, Option, Some, None, if◌then◌else◌}
+use Rattle.std.proofs.Common.{◌≡◌, ℕ, ◌+◌, ◌<◌, ◌≤◌, ◌⊎◌, Bool, true, false, refl, ap, sym, ◌∙◌, subst, inl, inr, arith, List, length, Option, Some}
+use Rattle.std.proofs.Common.{None, if◌then◌else◌}
 use Rattle.std.specs.Prelude.{slice_get}
 use Rattle.std.proofs.lemmas.Option.{slice_get_within}
 use Rattle.std.proofs.lemmas.Bool.{cases_order}
@@ -54,7 +55,8 @@ module _ {A : Type 0} (make : Place → Goal → A) (keeps : KeepsPlace make) (o
   place_is o p q g h e f = keeps p q g h (some_is (make p g) (make q h) (sym e ∙ f))
 
   -- a thing with no change
-  same : (n : ℕ) (best : Option Change) → Tells make (slice_get old n) (slice_get new n) None → IsBest make old new n best → IsBest make old new (n + 1) best
+  same : (n : ℕ) (best : Option Change) → Tells make (slice_get old n) (slice_get new n) None → IsBest make old new n best
+      → IsBest make old new (n + 1) best
   same n None t h = λ k p w v lt d. elim (split k n lt) [
     | inl b ↦ h k p w v b d
     | inr e ↦ let P : ℕ → Type 0 = λ k. Differs make old new k p w v in let f = subst P e d in t p w v f.old_one f.new_one f.differ
@@ -119,11 +121,13 @@ module _ {A : Type 0} (make : Place → Goal → A) (keeps : KeepsPlace make) (o
           ];
         }
 
-    or_earlier : (a : Change) (b : Bool) → is_before c.at a.at ≡ b → IsFound make old new n a → IsBest make old new (n + 1) (Some (if b then c else a))
+    or_earlier : (a : Change) (b : Bool) → is_before c.at a.at ≡ b → IsFound make old new n a
+        → IsBest make old new (n + 1) (Some (if b then c else a))
     or_earlier a true e h = less a (tested c.at a.at e) h
     or_earlier a false e h = not_less a (untested c.at a.at e) h
 
-  pub best_more : (n : ℕ) (best found : Option Change) → Tells make (slice_get old n) (slice_get new n) found → IsBest make old new n best → IsBest make old new (n + 1) (earlier_change best found)
+  pub best_more : (n : ℕ) (best found : Option Change) → Tells make (slice_get old n) (slice_get new n) found → IsBest make old new n best
+      → IsBest make old new (n + 1) (earlier_change best found)
   best_more n None None t h = same n None t h
   best_more n None (Some c) t h = first n c t h
   best_more n (Some a) None t h = same n (Some a) t h
@@ -134,4 +138,5 @@ module _ {A : Type 0} (make : Place → Goal → A) (keeps : KeepsPlace make) (o
 
   pub best_all : (n : ℕ) (best : Option Change) → length old ≤ n → IsBest make old new n best → IsFirstChange make old new best
   best_all n None le h = λ k p w v d. h k p w v (below_all n k (make p w) le d.old_one) d
-  best_all n (Some c) le h = record { number = h.number; differs = h.differs; least = λ k p w v d. h.least k p w v (below_all n k (make p w) le d.old_one) d }
+  best_all n (Some c) le h =
+      record { number = h.number; differs = h.differs; least = λ k p w v d. h.least k p w v (below_all n k (make p w) le d.old_one) d }

@@ -58,7 +58,8 @@ module _ (us : List UnitTree) (w : Watch) (s : IsSound us) (k : IsWatched us w) 
           let x : Facts = record { refs = refs; links = links; groups = fs.groups } in
           sym (ap (λ (rs : List Ref). record x { refs = rs }) r ∙ ap (λ (qs : List Link). record (would_facts w ls fs) { links = qs }) q)
 
-      pub local_is : (ref_looks : BTreeMap Place RefLook) (link_looks : BTreeMap ℕ LinkLook) (refs : List Ref) (links : List Link) (old new : BTreeMap Place (List ℕ))
+      pub local_is : (ref_looks : BTreeMap Place RefLook) (link_looks : BTreeMap ℕ LinkLook) (refs : List Ref) (links : List Link)
+          (old new : BTreeMap Place (List ℕ))
           → (repeat : Option Repeat) (capture mislink : Option Change)
           → HasRefLooks ls.refs ref_looks → HasLinkLooks ls.links link_looks
           → refs ≡ map (ref_by members ref_looks) fs.refs → links ≡ links_by members link_looks 0 fs.links
@@ -68,7 +69,8 @@ module _ (us : List UnitTree) (w : Watch) (s : IsSound us) (k : IsWatched us w) 
       local_is ref_looks link_looks refs links old new repeat capture mislink h j e g t n a b c =
           let told = would_be ref_looks link_looks refs links h j e g in
           let now : Facts = record { refs = refs; links = links; groups = fs.groups } in
-          let first = fault_is (would_name w us) fs now repeat capture mislink (first_as (named new) (would_name w us) fs.groups (agrees old new t n) repeat a) b c in
+          let first = fault_is (would_name w us) fs now repeat capture mislink
+          (first_as (named new) (would_name w us) fs.groups (agrees old new t n) repeat a) b c in
           let P : Facts → Type 0 = λ x. IsToldBy us w fs x (fault_of repeat capture mislink) in
           let Q : Facts → Type 0 = λ x. IsToldBy us w x (would_facts w ls x) (fault_of repeat capture mislink) in
           let R : Looks → Type 0 = λ x. IsToldBy us w (facts us) (would_facts w x (facts us)) (fault_of repeat capture mislink) in

@@ -1,5 +1,6 @@
 -- Tables of a footprint and of looks, entry by entry; and what they give is Would.
-use Rattle.std.proofs.Common.{◌≡◌, ℕ, suc, ◌+◌, ◌||◌, Bool, true, false, cond, refl, ap, sym, ◌∙◌, List, [], ◌∷◌, map, drop, Option, Some, None, unwrap_or, if◌then◌else◌}
+use Rattle.std.proofs.Common.{◌≡◌, ℕ, suc, ◌+◌, ◌||◌, Bool, true, false, cond, refl, ap, sym, ◌∙◌, List, [], ◌∷◌, map, drop, Option, Some, None}
+use Rattle.std.proofs.Common.{unwrap_or, if◌then◌else◌}
 use Rattle.std.specs.List.{list_any}
 use Rattle.std.specs.Ordering.{nat_cmp}
 use Rattle.std.specs.BTreeMap.{BTreeMap, get, is_at}
@@ -18,7 +19,8 @@ use Rattle.binding_model.specs.Steps.{a_ref}
 use Rattle.binding_model.specs.Local.{ref_look_at, link_look_at, would_goal, would_come, would_be, would_links}
 use Rattle.binding_model.proofs.Standing.{same_swap}
 use Rattle.capture_check.proofs.Filing.{tests_same, put_is}
-use Rattle.capture_check.specs.Would.{goal_if, source_if, is_in, goal_by, source_by, ref_by, links_by, HasMembers, HasRefLooks, HasLinkLooks, renamed_at}
+use Rattle.capture_check.specs.Would.{goal_if, source_if, is_in, goal_by, source_by, ref_by, links_by, HasMembers, HasRefLooks, HasLinkLooks}
+use Rattle.capture_check.specs.Would.{renamed_at}
 
 -- one more member
 or_moved : (a b c : Bool) → (cond a true b || c) ≡ (b || (a || c))
@@ -42,7 +44,8 @@ members_more ps i p old new more put h d =
     ∙ (sym (ap (λ (qs : List Place). contains place_cmp old d || list_any (same_place d) qs) more) ∙ h d)
 
 -- a set of the declarations has the members
-pub members_are : (w : Watch) (members : BTreeSet Place) → ((d : Place) → contains place_cmp members d ≡ list_any (same_place d) w.foot.decls) → HasMembers w members
+pub members_are : (w : Watch) (members : BTreeSet Place) → ((d : Place) → contains place_cmp members d ≡ list_any (same_place d) w.foot.decls)
+    → HasMembers w members
 members_are w members h (Decl d) = h d
 members_are w members h Outside = refl
 members_are w members h Missing = refl
@@ -59,13 +62,15 @@ module _ (w : Watch) (members : BTreeSet Place) (m : HasMembers w members) where
   source_is None g = refl
   source_is (Some l) g = ap (λ (b : Bool). source_if b l) (m (Decl l.item))
 
-  pub refs_are : (ls : List RefLook) (looks : BTreeMap Place RefLook) → HasRefLooks ls looks → (rs : List Ref) → map (ref_by members looks) rs ≡ map (would_be w ls) rs
+  pub refs_are : (ls : List RefLook) (looks : BTreeMap Place RefLook) → HasRefLooks ls looks → (rs : List Ref)
+      → map (ref_by members looks) rs ≡ map (would_be w ls) rs
   refs_are ls looks h [] = refl
   refs_are ls looks h (r ∷ rs) =
       let goal = ap (λ (o : Option RefLook). goal_by members o r.goal) (h r.at) ∙ goal_is (ref_look_at ls r.at) r.goal in
       ap (λ (g : Goal). a_ref r.at g ∷ map (ref_by members looks) rs) goal ∙ ap (λ (qs : List Ref). would_be w ls r ∷ qs) (refs_are ls looks h rs)
 
-  pub links_are : (ls : List LinkLook) (looks : BTreeMap ℕ LinkLook) → HasLinkLooks ls looks → (n : ℕ) (links : List Link) → links_by members looks n links ≡ would_links w ls n links
+  pub links_are : (ls : List LinkLook) (looks : BTreeMap ℕ LinkLook) → HasLinkLooks ls looks → (n : ℕ) (links : List Link)
+      → links_by members looks n links ≡ would_links w ls n links
   links_are ls looks h n [] = refl
   links_are ls looks h n (l ∷ links) =
       let source = ap (λ (o : Option LinkLook). source_by members o l.source) (h n) ∙ source_is (link_look_at ls n) l.source in
@@ -80,7 +85,8 @@ renamed_case true false x o = refl
 renamed_case false true x o = refl
 renamed_case false false x o = refl
 
-pub renamed_is : (ps : List Place) (x : List ℕ) (o : Option (List ℕ)) (d : Place) → renamed_at ps x o d ≡ (if list_any (same_place d) ps then Some x else o)
+pub renamed_is : (ps : List Place) (x : List ℕ) (o : Option (List ℕ)) (d : Place)
+    → renamed_at ps x o d ≡ (if list_any (same_place d) ps then Some x else o)
 renamed_is [] x o d = refl
 renamed_is (p ∷ ps) x o d =
     renamed_is ps x (if same_place p d then Some x else o) d

@@ -44,7 +44,8 @@ module _ {A : Type 0} (make : Place → Goal → A) (keeps : (p q : Place) (g h 
   goal_is : (xs : List A) (m n : ℕ) (p q : Place) (g h : Goal) → m ≡ n → slice_get xs m ≡ Some (make p g) → slice_get xs n ≡ Some (make q h) → g ≡ h
   goal_is xs m n p q g h e i j = keeps p q g h (some_is (make p g) (make q h) (sym i ∙ (ap (slice_get xs) e ∙ j)))
 
-  one_differing : (p q : Place) (w v x y : Goal) → IsFirstDiffering make old new p w v → IsFirstDiffering make old new q x y → (p ≡ q) × (w ≡ x) × (v ≡ y)
+  one_differing : (p q : Place) (w v x y : Goal) → IsFirstDiffering make old new p w v → IsFirstDiffering make old new q x y
+      → (p ≡ q) × (w ≡ x) × (v ≡ y)
   one_differing p q w v x y h k = by (h.least k.number q x y k.differs) (k.least h.number p w v h.differs) where
     by : IsBefore p q ⊎ ((p ≡ q) × (h.number ≤ k.number)) → IsBefore q p ⊎ ((q ≡ p) × (k.number ≤ h.number)) → (p ≡ q) × (w ≡ x) × (v ≡ y)
     by (inl a) (inl b) = absurd (not_both p q a b)
@@ -53,8 +54,12 @@ module _ {A : Type 0} (make : Place → Goal → A) (keeps : (p q : Place) (g h 
     by (inr a) (inr b) =
         let le : h.number ≤ k.number = a.1 in
         let ge : k.number ≤ h.number = b.1 in
-        let e : h.number ≡ k.number = omega (arith, le, ge) in
-        (a.0, goal_is old h.number k.number p q w x e h.differs.old_one k.differs.old_one, goal_is new h.number k.number p q v y e h.differs.new_one k.differs.new_one)
+        let e : h.number ≡ k.number = omega (arith, le, ge) in (
+          a.0,
+          goal_is old h.number k.number p q w x e h.differs.old_one k.differs.old_one,
+          goal_is new h.number k.number p q v y e h.differs.new_one
+              k.differs.new_one,
+        )
 
 ref_goal : (p q : Place) (g h : Goal) → of_ref p g ≡ of_ref q h → g ≡ h
 ref_goal p q g h e = ap (λ (r : Ref). r.goal) e
@@ -66,7 +71,8 @@ three : {A B C D : Type 0} (f : A → B → C → D) (a a' : A) (b b' : B) (c c'
 three f a a' b b' c c' p q r = ap (λ x. f x b c) p ∙ (ap (λ x. f a' x c) q ∙ ap (λ x. f a' b' x) r)
 
 one_capture : (old new : List Ref) → One (IsCapture old new)
-one_capture old new (Capture p w v) (Capture q x y) h k = let e = one_differing of_ref ref_goal old new p q w v x y h k in three Capture p q w x v y e.0 e.1 e.2
+one_capture old new (Capture p w v) (Capture q x y) h k = let e = one_differing of_ref ref_goal old new p q w v x y h k in
+    three Capture p q w x v y e.0 e.1 e.2
 one_capture old new (Clash f a) b h k = absurd h
 one_capture old new (Mislink i w v) b h k = absurd h
 one_capture old new (Capture p w v) (Clash f a) h k = absurd k
@@ -74,7 +80,8 @@ one_capture old new (Capture p w v) (Mislink i x y) h k = absurd k
 
 one_mislink : (old new : List Link) → One (IsMislink old new)
 one_mislink old new (Mislink (Decl p) w v) (Mislink (Decl q) x y) h k =
-    let e = one_differing of_link link_goal old new p q w v x y h k in three (λ (a : Place) (b c : Goal). Mislink (Decl a) b c) p q w x v y e.0 e.1 e.2
+    let e = one_differing of_link link_goal old new p q w v x y h k in
+    three (λ (a : Place) (b c : Goal). Mislink (Decl a) b c) p q w x v y e.0 e.1 e.2
 one_mislink old new (Clash f a) b h k = absurd h
 one_mislink old new (Capture p w v) b h k = absurd h
 one_mislink old new (Mislink Outside w v) b h k = absurd h
@@ -95,4 +102,5 @@ faults_are_one names old new (Some a) None h k = absurd (k (a, h))
 faults_are_one names old new (Some a) (Some b) h k =
     ap (λ (x : Fault). Some x) (one_before (IsClash names new.groups) (before (IsCapture old.refs new.refs) (IsMislink old.links new.links))
     (one_clash names new.groups)
-    (one_before (IsCapture old.refs new.refs) (IsMislink old.links new.links) (one_capture old.refs new.refs) (one_mislink old.links new.links)) a b h k)
+    (one_before (IsCapture old.refs new.refs) (IsMislink old.links new.links) (one_capture old.refs new.refs) (one_mislink old.links new.links)) a b h
+    k)

@@ -52,7 +52,8 @@ module _ (us : List UnitTree) (w : Watch) (s : IsSound us) (k : IsWatched us w) 
   free d y c = k.free d (member_in d w.foot.decls (member_of d y (is_member w (Decl d)) refl (sym (given w.new w.foot.decls d) ∙ c.0)))
 
   new_name : (d : Place) → IsBinder us d → name_of (respell us (renaming w)) d ≡ would_name w us d
-  new_name d b = binder_name us (renaming w) s free d b ∙ (ap (λ (o : Option Name). or_value o (name_of us d)) (given w.new w.foot.decls d) ∙ named_if (is_member w (Decl d)) (name_of us d))
+  new_name d b = binder_name us (renaming w) s free d b
+      ∙ (ap (λ (o : Option Name). or_value o (name_of us d)) (given w.new w.foot.decls d) ∙ named_if (is_member w (Decl d)) (name_of us d))
 
   agree : Agree (would_name w us) (name_of (respell us (renaming w))) (facts us).groups
   agree g d i j = sym (new_name d (group_binds us s g d i j))

@@ -1,5 +1,6 @@
 -- The first repeat of some groups, place by place.
-use Rattle.std.proofs.Common.{◌≡◌, ℕ, ◌⊎◌, ◌||◌, ◌&&◌, Bool, true, false, refl, ap, sym, ◌∙◌, subst, inl, inr, arith, List, Option, Some, None, if◌then◌else◌, bytes_eq, true≢false}
+use Rattle.std.proofs.Common.{◌≡◌, ℕ, ◌⊎◌, ◌||◌, ◌&&◌, Bool, true, false, refl, ap, sym, ◌∙◌, subst, inl, inr, arith, List, Option, Some, None}
+use Rattle.std.proofs.Common.{if◌then◌else◌, bytes_eq, true≢false}
 use Rattle.std.proofs.lemmas.Slice.Eq.{bytes_eq-Decides}
 use Rattle.rotor_base.specs.declared.place.Place.{Place}
 use Rattle.rotor_base.specs.Place.{same_place, IsBefore}
@@ -30,7 +31,8 @@ later_lex a b true true e f h = inr (same_is b.again a.again e, inr (tested b.fi
 later_lex a b true false e f h = absurd cc
 later_lex a b false t e f h = absurd cc
 
-tested_lex : (a b : Repeat) (s : Bool) → is_before b.again a.again ≡ s → (s || (same_place b.again a.again && is_before b.first a.first)) ≡ true → Lex b a.first a.again
+tested_lex : (a b : Repeat) (s : Bool) → is_before b.again a.again ≡ s → (s || (same_place b.again a.again && is_before b.first a.first)) ≡ true
+    → Lex b a.first a.again
 tested_lex a b true e h = inl (tested b.again a.again e)
 tested_lex a b false e h = later_lex a b (same_place b.again a.again) (is_before b.first a.first) refl refl h
 
@@ -44,11 +46,16 @@ both_true : (s t : Bool) → s ≡ true → (s && t) ≡ false → t ≡ false
 both_true s true e h = absurd cc
 both_true s false e h = refl
 
-untested_lex : (a b : Repeat) (s : Bool) → is_before b.again a.again ≡ s → (s || (same_place b.again a.again && is_before b.first a.first)) ≡ false → Lex a b.first b.again
+untested_lex : (a b : Repeat) (s : Bool) → is_before b.again a.again ≡ s → (s || (same_place b.again a.again && is_before b.first a.first)) ≡ false
+    → Lex a b.first b.again
 untested_lex a b true e h = absurd cc
 untested_lex a b false e h = elim (untested b.again a.again e) [
   | inr less ↦ inl less
-  | inl same ↦ inr (same, untested b.first a.first (both_true (same_place b.again a.again) (is_before b.first a.first) (same_back a.again b.again same) h))
+  | inl same ↦ inr (
+    same,
+    untested b.first a.first
+        (both_true (same_place b.again a.again) (is_before b.first a.first) (same_back a.again b.again same) h),
+  )
 ]
 
 -- the least of some pairs, or none
@@ -82,7 +89,10 @@ module _ (P R : Place → Place → Type 0) (up : Within P R) where
     newer b l h = record { there = here; least = λ f a k. elim (more f a k) [ inl p ↦ lex_trans r b f a l (h.least f a p) | inr l ↦ l ] }
 
     older : (b : Repeat) → Lex b r.first r.again → IsLeastPair P b → IsLeastPair R b
-    older b l h = record { there = up b.first b.again h.there; least = λ f a k. elim (more f a k) [ inl p ↦ h.least f a p | inr m ↦ lex_trans b r f a l m ] }
+    older b l h = record {
+      there = up b.first b.again h.there;
+      least = λ f a k. elim (more f a k) [ inl p ↦ h.least f a p | inr m ↦ lex_trans b r f a l m ];
+    }
 
     or_newer : (b : Repeat) (t : Bool) → is_lesser r b ≡ t → IsLeastPair P b → IsLeastPair R (if t then r else b)
     or_newer b true e h = newer b (tested_lex b r (is_before r.again b.again) refl e) h
@@ -103,7 +113,8 @@ abbrev pub IsLeastOf : Names → (Place → Type 0) → List ℕ → Option Plac
 IsLeastOf names In x None = (q : Place) → In q → names q ≡ x → ⊥
 IsLeastOf names In x (Some m) = In m × (names m ≡ x) × ((q : Place) → In q → names q ≡ x → Upto m q)
 
-module _ (names : Names) (In More : Place → Type 0) (p : Place) (up : (q : Place) → In q → More q) (last : More p) (split : (q : Place) → More q → In q ⊎ (q ≡ p)) where
+module _ (names : Names) (In More : Place → Type 0) (p : Place) (up : (q : Place) → In q → More q) (last : More p)
+    (split : (q : Place) → More q → In q ⊎ (q ≡ p)) where
   abbrev P : Place → Place → Type 0
   P = Pairs names In
 
@@ -176,7 +187,8 @@ module _ (names : Names) (In More : Place → Type 0) (p : Place) (up : (q : Pla
       inr_of q c = upto_before m f p q c
 
     step_of : (best : Option Repeat) (s t : Bool) → is_before m p ≡ s → is_before p m ≡ t → IsBestPair P best
-        → IsBestPair R (earlier_repeat best (if s then Some (record { first = m; again = p }) else (if t then Some (record { first = p; again = m }) else None)))
+        → IsBestPair R (earlier_repeat best
+        (if s then Some (record { first = m; again = p }) else (if t then Some (record { first = p; again = m }) else None)))
     step_of best true t e f h = added P R P_up (record { first = m; again = p }) (after_here (tested m p e)) (after (tested m p e)) best h
     step_of best false true e f h = added P R P_up (record { first = p; again = m }) (ahead_here (tested p m f)) (ahead_all (tested p m f)) best h
     step_of best false false e f h = kept_none P R P_up best (again (same_of (untested m p e) (untested p m f))) h where
@@ -185,7 +197,8 @@ module _ (names : Names) (In More : Place → Type 0) (p : Place) (up : (q : Pla
       same_of (inr a) (inl e) = e
       same_of (inr a) (inr b) = absurd (not_both p m a b)
 
-  pub step : (o : Option Place) (best : Option Repeat) → IsLeastOf names In (names p) o → IsBestPair P best → IsBestPair R (earlier_repeat best (repeat_of o p))
+  pub step : (o : Option Place) (best : Option Repeat) → IsLeastOf names In (names p) o → IsBestPair P best
+      → IsBestPair R (earlier_repeat best (repeat_of o p))
   step None best l h = kept_none P R P_up best (none_new l) h
   step (Some m) best l h = step_of m l best (is_before m p) (is_before p m) refl refl h
 
@@ -209,7 +222,9 @@ module _ (names : Names) (In More : Place → Type 0) (p : Place) (up : (q : Pla
     by true e =
         let same : names p ≡ x = (bytes_eq-Decides (names p) x).0 e in
         let is = put x ∙ ap (λ (t : Bool). if t then Some (lesser (o (names p)) p) else o x) e in
-        subst (IsLeastOf names More x) (sym is) (let Q : List ℕ → Type 0 = λ y. IsLeastOf names More y (Some (lesser (o (names p)) p)) in subst Q same (least_of (o (names p)) (l (names p))))
+        subst (IsLeastOf names More x) (sym is)
+        (let Q : List ℕ → Type 0 = λ y. IsLeastOf names More y (Some (lesser (o (names p)) p)) in
+        subst Q same (least_of (o (names p)) (l (names p))))
     by false e =
         let is = put x ∙ ap (λ (t : Bool). if t then Some (lesser (o (names p)) p) else o x) e in
         subst (IsLeastOf names More x) (sym is) (least_other x (o x) (λ s. true≢false (sym ((bytes_eq-Decides (names p) x).1 s) ∙ e)) (l x))

@@ -44,7 +44,8 @@ earlier_repeat (Some a) (Some b) = Some (if is_lesser b a then b else a)
 -- the repeat that one more place of a name makes with the least of those before it
 abbrev pub repeat_of : Option Place → Place → Option Repeat
 repeat_of None p = None
-repeat_of (Some q) p = if is_before q p then Some (record { first = q; again = p }) else (if is_before p q then Some (record { first = p; again = q }) else None)
+repeat_of (Some q) p = if is_before q p then Some (record { first = q; again = p }) else
+    (if is_before p q then Some (record { first = p; again = q }) else None)
 
 abbrev pub lesser : Option Place → Place → Place
 lesser None p = p

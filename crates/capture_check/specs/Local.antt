@@ -30,4 +30,5 @@ LooksTellFaults = (us : List UnitTree) (w : Watch) (o : Option Fault) → IsSoun
 
 -- Law: if no fault is found, the renamed project has the facts of the old one
 abbrev pub NoFaultKeepsFacts : Type 0
-NoFaultKeepsFacts = (us : List UnitTree) (w : Watch) → IsSound us → IsWatched us w → IsLocalFault us w None → facts (respell us (renaming w)) ≡ facts us
+NoFaultKeepsFacts = (us : List UnitTree) (w : Watch) → IsSound us → IsWatched us w → IsLocalFault us w None
+    → facts (respell us (renaming w)) ≡ facts us

@@ -47,7 +47,8 @@ ref_by members looks r = a_ref r.at (goal_by members (get place_cmp looks r.at) 
 
 abbrev pub links_by : BTreeSet Place → BTreeMap ℕ LinkLook → ℕ → List Link → List Link
 links_by members looks n [] = []
-links_by members looks n (l ∷ ls) = record { item = l.item; source = source_by members (get nat_cmp looks n) l.source } ∷ links_by members looks (suc n) ls
+links_by members looks n (l ∷ ls) = record { item = l.item; source = source_by members (get nat_cmp looks n) l.source } ∷ links_by members looks
+    (suc n) ls
 
 -- the set has the members of a footprint, and no more
 abbrev pub HasMembers : Watch → BTreeSet Place → Type 0

@@ -37,7 +37,8 @@ asked_is_written = each_form (λ ws form. is_written form ws ≡ true) (record {
 
 -- ---- `clap` reads them as that form
 
-flags_heard : (b : ℕ) (bs : List ℕ) (d : ℕ) (ds : List ℕ) → (b == 45) ≡ false → (d == 45) ≡ false → (ws : List Word) (f : Flags) → rename_flags ws ≡ Some f
+flags_heard : (b : ℕ) (bs : List ℕ) (d : ℕ) (ds : List ℕ) → (b == 45) ≡ false → (d == 45) ≡ false → (ws : List Word) (f : Flags)
+    → rename_flags ws ≡ Some f
     → heard.IsHeard (codes "rename" ∷ (b ∷ bs) ∷ (d ∷ ds) ∷ ws) (Rename (b ∷ bs) (d ∷ ds) f)
 flags_heard b bs d ds h g = each_flags (λ ws f. heard.IsHeard (codes "rename" ∷ (b ∷ bs) ∷ (d ∷ ds) ∷ ws) (Rename (b ∷ bs) (d ∷ ds) f)) (record {
   none = heard.rename_is_heard b bs d ds h g;
@@ -56,11 +57,13 @@ asked_is_heard = each_form heard.IsHeard (record {
   footprint = value_begins (λ t. heard.IsHeard (codes "footprint" ∷ t ∷ []) (Footprint t)) heard.footprint_is_heard;
   rename = λ t n v w ws f e.
       value_begins (λ t. heard.IsHeard (codes "rename" ∷ t ∷ n ∷ ws) (Rename t n f))
-      (λ b bs h. value_begins (λ n. heard.IsHeard (codes "rename" ∷ (b ∷ bs) ∷ n ∷ ws) (Rename (b ∷ bs) n f)) (λ d ds g. flags_heard b bs d ds h g ws f e) n w) t v;
+      (λ b bs h. value_begins (λ n. heard.IsHeard (codes "rename" ∷ (b ∷ bs) ∷ n ∷ ws) (Rename (b ∷ bs) n f))
+      (λ d ds g. flags_heard b bs d ds h g ws f e) n w) t v;
   sample = value_begins (λ n. heard.IsHeard (codes "sample" ∷ n ∷ []) (Sample n)) heard.sample_is_heard;
   verify = λ old new v w.
       value_begins (λ old. heard.IsHeard (codes "verify" ∷ old ∷ new ∷ []) (Verify old new))
-      (λ b bs h. value_begins (λ new. heard.IsHeard (codes "verify" ∷ (b ∷ bs) ∷ new ∷ []) (Verify (b ∷ bs) new)) (λ d ds g. heard.verify_is_heard b bs d ds h g) new w) old v;
+      (λ b bs h. value_begins (λ new. heard.IsHeard (codes "verify" ∷ (b ∷ bs) ∷ new ∷ []) (Verify (b ∷ bs) new))
+      (λ d ds g. heard.verify_is_heard b bs d ds h g) new w) old v;
   batch = value_begins (λ file. heard.IsHeard (codes "batch" ∷ file ∷ []) (Batch file false)) heard.batch_is_heard;
   batch_write = value_begins (λ file. heard.IsHeard (codes "batch" ∷ file ∷ codes "--write" ∷ []) (Batch file true)) heard.batch_write_is_heard;
   recover = heard.recover_is_heard;
@@ -82,16 +85,19 @@ either_same P ws xs ys e p q = by_first (same_words ws xs) refl where
   by_first true g = subst P (sym (are_same ws xs g)) p
   by_first false g = subst P (sym (are_same ws ys (rw g at e))) q
 
-flags_asked : (write safe json : Bool) (ws : List Word) → are_flags write safe json ws ≡ true → rename_flags ws ≡ Some (record { write = write; safe = safe; json = json })
+flags_asked : (write safe json : Bool) (ws : List Word) → are_flags write safe json ws ≡ true
+    → rename_flags ws ≡ Some (record { write = write; safe = safe; json = json })
 flags_asked true true json ws e = let bad : false ≡ true = e in cc
 flags_asked false false false ws e = ap rename_flags (are_same ws [] e)
 flags_asked false false true ws e = ap rename_flags (are_same ws (codes "--json" ∷ []) e)
 flags_asked true false false ws e = ap rename_flags (are_same ws (codes "--write" ∷ []) e)
 flags_asked false true false ws e = ap rename_flags (are_same ws (codes "--safe" ∷ []) e)
 flags_asked true false true ws e =
-    either_same (λ ws. rename_flags ws ≡ Some (record { write = true; safe = false; json = true })) ws (codes "--write" ∷ codes "--json" ∷ []) (codes "--json" ∷ codes "--write" ∷ []) e refl refl
+    either_same (λ ws. rename_flags ws ≡ Some (record { write = true; safe = false; json = true })) ws (codes "--write" ∷ codes "--json" ∷ [])
+    (codes "--json" ∷ codes "--write" ∷ []) e refl refl
 flags_asked false true true ws e =
-    either_same (λ ws. rename_flags ws ≡ Some (record { write = false; safe = true; json = true })) ws (codes "--safe" ∷ codes "--json" ∷ []) (codes "--json" ∷ codes "--safe" ∷ []) e refl refl
+    either_same (λ ws. rename_flags ws ≡ Some (record { write = false; safe = true; json = true })) ws (codes "--safe" ∷ codes "--json" ∷ [])
+    (codes "--json" ∷ codes "--safe" ∷ []) e refl refl
 
 renaming_asked : (t n : Word) (f : Flags) (ws : List Word) → is_renaming t n f ws ≡ true → asked ws ≡ Some (Rename t n f)
 renaming_asked t n f [] e = let bad : false ≡ true = e in absurd (cc)

@@ -26,7 +26,9 @@ untaken ws e = no_command ws (none_or (asked ws) (λ form h. let bad : false ≡
 
 -- words that are no subcommand
 pub unread : (ws : List Word) → read_of ws ≡ None → command_of ws ≡ None
-unread ws e = no_command ws (none_or (asked ws) (λ form h. let bad : ◌≡◌ {A = Option (Asked Word)} None (Some form) = sym e ∙ read_by ws form (asked_is_heard form ws h) in cc))
+unread ws e = no_command ws
+    (none_or (asked ws) (λ form h. let bad : ◌≡◌ {A = Option (Asked Word)} None (Some form) = sym e ∙ read_by ws form (asked_is_heard form ws h) in
+    cc))
 
 -- words that are read as a form that is written out in another way
 pub unwritten : (ws : List Word) (form : Asked Word) → read_of ws ≡ Some form → is_written form ws ≡ false → command_of ws ≡ None
@@ -45,6 +47,7 @@ passed (Ok x) e u h g = cc
 passed (Err y) e u h g = cc
 
 -- an answer that the form gives is the answer to the words
-pub ok_by : (ws : List Word) (form : Asked Word) (r : Result Command WordsError) → is_written form ws ≡ true → IfOk r (λ c. command_by form ≡ Some c) → IfOk r (λ c. command_of ws ≡ Some c)
+pub ok_by : (ws : List Word) (form : Asked Word) (r : Result Command WordsError) → is_written form ws ≡ true → IfOk r (λ c. command_by form ≡ Some c)
+    → IfOk r (λ c. command_of ws ≡ Some c)
 ok_by ws form (Ok c) w h = written ws form w ∙ h
 ok_by ws form (Err e) w h = tt

@@ -1,5 +1,6 @@
 -- A word cut at its first byte of a kind.
-use Rattle.std.proofs.Common.{◌≡◌, ℕ, ◌+◌, ◌-◌, ◌<◌, ◌≤◌, ◌==◌, Bool, true, false, List, [], ◌∷◌, length, take, drop, Option, Some, None, nat_lt, refl, sym, ap, arith, length-drop, append_assoc, ◌++◌}
+use Rattle.std.proofs.Common.{◌≡◌, ℕ, ◌+◌, ◌-◌, ◌<◌, ◌≤◌, ◌==◌, Bool, true, false, List, [], ◌∷◌, length, take, drop, Option, Some, None, nat_lt}
+use Rattle.std.proofs.Common.{refl, sym, ap, arith, length-drop, append_assoc, ◌++◌}
 use Rattle.std.proofs.lemmas.List.{take_all, drop-drop}
 use Rattle.std.specs.List.{slice_split, position_or_len, position}
 use Rattle.std.proofs.lemmas.Bool.Decides.{nat_tests}
@@ -20,7 +21,8 @@ split_some c word part behind e = by_test (nat_lt i (length word)) refl where
   i : ℕ
   i = position_or_len (λ b. b == c) word
 
-  by_test : (t : Bool) → nat_lt i (length word) ≡ t → (slice_split (λ b. b == c) word ≡ part ∷ slice_split (λ b. b == c) behind) × (length behind < length word)
+  by_test : (t : Bool) → nat_lt i (length word) ≡ t → (slice_split (λ b. b == c) word ≡ part ∷ slice_split (λ b. b == c) behind)
+      × (length behind < length word)
   by_test true g =
       let whole : ◌≡◌ {A = Option (List ℕ × List ℕ)} (Some (part, behind)) (Some (take i word, drop (i + 1) word)) = rw g at e in
       let pair : ◌≡◌ {A = List ℕ × List ℕ} (part, behind) (take i word, drop (i + 1) word) = cc in
@@ -49,7 +51,8 @@ cut_is c word front rest i at f r =
     rw (tail, f, later, sym at) refl
 
 -- one more part is named
-pub parts_more : (names now all rest : List (List ℕ)) (name part : List ℕ) (behind : List (List ℕ)) → now ≡ names ++ name ∷ [] → name ≡ part → names ++ rest ≡ all → rest ≡ part ∷ behind
+pub parts_more : (names now all rest : List (List ℕ)) (name part : List ℕ) (behind : List (List ℕ)) → now ≡ names ++ name ∷ [] → name ≡ part
+    → names ++ rest ≡ all → rest ≡ part ∷ behind
     → now ++ behind ≡ all
 parts_more names now all rest name part behind n same whole split =
     rw (n, append_assoc names (name ∷ []) behind, same, ← split) whole

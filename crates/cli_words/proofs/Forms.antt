@@ -76,19 +76,23 @@ module _ (b : ℕ) (bs : List ℕ) (d : ℕ) (ds : List ℕ) (h : (b == 45) ≡ 
   unfolding clap_on_literals
   verify_is_heard = record { taken = simp (h, g) refl; read = simp (h, g) refl }
 
-  pub rename_is_heard : IsHeard (codes "rename" ∷ (b ∷ bs) ∷ (d ∷ ds) ∷ []) (Rename (b ∷ bs) (d ∷ ds) (record { write = false; safe = false; json = false }))
+  pub rename_is_heard : IsHeard (codes "rename" ∷ (b ∷ bs) ∷ (d ∷ ds) ∷ [])
+      (Rename (b ∷ bs) (d ∷ ds) (record { write = false; safe = false; json = false }))
   unfolding clap_on_literals
   rename_is_heard = record { taken = simp (h, g) refl; read = simp (h, g) refl }
 
-  pub rename_write_is_heard : IsHeard (codes "rename" ∷ (b ∷ bs) ∷ (d ∷ ds) ∷ codes "--write" ∷ []) (Rename (b ∷ bs) (d ∷ ds) (record { write = true; safe = false; json = false }))
+  pub rename_write_is_heard : IsHeard (codes "rename" ∷ (b ∷ bs) ∷ (d ∷ ds) ∷ codes "--write" ∷ [])
+      (Rename (b ∷ bs) (d ∷ ds) (record { write = true; safe = false; json = false }))
   unfolding clap_on_literals
   rename_write_is_heard = record { taken = simp h (simp g refl); read = simp h (simp g refl) }
 
-  pub rename_safe_is_heard : IsHeard (codes "rename" ∷ (b ∷ bs) ∷ (d ∷ ds) ∷ codes "--safe" ∷ []) (Rename (b ∷ bs) (d ∷ ds) (record { write = false; safe = true; json = false }))
+  pub rename_safe_is_heard : IsHeard (codes "rename" ∷ (b ∷ bs) ∷ (d ∷ ds) ∷ codes "--safe" ∷ [])
+      (Rename (b ∷ bs) (d ∷ ds) (record { write = false; safe = true; json = false }))
   unfolding clap_on_literals
   rename_safe_is_heard = record { taken = simp h (simp g refl); read = simp h (simp g refl) }
 
-  pub rename_json_is_heard : IsHeard (codes "rename" ∷ (b ∷ bs) ∷ (d ∷ ds) ∷ codes "--json" ∷ []) (Rename (b ∷ bs) (d ∷ ds) (record { write = false; safe = false; json = true }))
+  pub rename_json_is_heard : IsHeard (codes "rename" ∷ (b ∷ bs) ∷ (d ∷ ds) ∷ codes "--json" ∷ [])
+      (Rename (b ∷ bs) (d ∷ ds) (record { write = false; safe = false; json = true }))
   unfolding clap_on_literals
   rename_json_is_heard = record { taken = simp h (simp g refl); read = simp h (simp g refl) }
 
@@ -97,18 +101,24 @@ module _ (b : ℕ) (bs : List ℕ) (d : ℕ) (ds : List ℕ) (h : (b == 45) ≡ 
   unfolding clap_on_literals
   behind_values = simp (h, g) refl
 
-  pub rename_write_json_is_heard : IsHeard (codes "rename" ∷ (b ∷ bs) ∷ (d ∷ ds) ∷ codes "--write" ∷ codes "--json" ∷ []) (Rename (b ∷ bs) (d ∷ ds) (record { write = true; safe = false; json = true }))
+  pub rename_write_json_is_heard : IsHeard (codes "rename" ∷ (b ∷ bs) ∷ (d ∷ ds) ∷ codes "--write" ∷ codes "--json" ∷ [])
+      (Rename (b ∷ bs) (d ∷ ds) (record { write = true; safe = false; json = true }))
   unfolding clap_on_literals
-  rename_write_json_is_heard = record { taken = simp h (simp g refl); read = ap (renaming_from (codes "--write" ∷ codes "--json" ∷ [])) behind_values }
+  rename_write_json_is_heard =
+      record { taken = simp h (simp g refl); read = ap (renaming_from (codes "--write" ∷ codes "--json" ∷ [])) behind_values }
 
-  pub rename_json_write_is_heard : IsHeard (codes "rename" ∷ (b ∷ bs) ∷ (d ∷ ds) ∷ codes "--json" ∷ codes "--write" ∷ []) (Rename (b ∷ bs) (d ∷ ds) (record { write = true; safe = false; json = true }))
+  pub rename_json_write_is_heard : IsHeard (codes "rename" ∷ (b ∷ bs) ∷ (d ∷ ds) ∷ codes "--json" ∷ codes "--write" ∷ [])
+      (Rename (b ∷ bs) (d ∷ ds) (record { write = true; safe = false; json = true }))
   unfolding clap_on_literals
-  rename_json_write_is_heard = record { taken = simp h (simp g refl); read = ap (renaming_from (codes "--json" ∷ codes "--write" ∷ [])) behind_values }
+  rename_json_write_is_heard =
+      record { taken = simp h (simp g refl); read = ap (renaming_from (codes "--json" ∷ codes "--write" ∷ [])) behind_values }
 
-  pub rename_safe_json_is_heard : IsHeard (codes "rename" ∷ (b ∷ bs) ∷ (d ∷ ds) ∷ codes "--safe" ∷ codes "--json" ∷ []) (Rename (b ∷ bs) (d ∷ ds) (record { write = false; safe = true; json = true }))
+  pub rename_safe_json_is_heard : IsHeard (codes "rename" ∷ (b ∷ bs) ∷ (d ∷ ds) ∷ codes "--safe" ∷ codes "--json" ∷ [])
+      (Rename (b ∷ bs) (d ∷ ds) (record { write = false; safe = true; json = true }))
   unfolding clap_on_literals
   rename_safe_json_is_heard = record { taken = simp h (simp g refl); read = ap (renaming_from (codes "--safe" ∷ codes "--json" ∷ [])) behind_values }
 
-  pub rename_json_safe_is_heard : IsHeard (codes "rename" ∷ (b ∷ bs) ∷ (d ∷ ds) ∷ codes "--json" ∷ codes "--safe" ∷ []) (Rename (b ∷ bs) (d ∷ ds) (record { write = false; safe = true; json = true }))
+  pub rename_json_safe_is_heard : IsHeard (codes "rename" ∷ (b ∷ bs) ∷ (d ∷ ds) ∷ codes "--json" ∷ codes "--safe" ∷ [])
+      (Rename (b ∷ bs) (d ∷ ds) (record { write = false; safe = true; json = true }))
   unfolding clap_on_literals
   rename_json_safe_is_heard = record { taken = simp h (simp g refl); read = ap (renaming_from (codes "--json" ∷ codes "--safe" ∷ [])) behind_values }

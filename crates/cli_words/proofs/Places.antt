@@ -1,5 +1,7 @@
 -- A place that is written out is read again.
-use Rattle.std.proofs.Common.{◌≡◌, ◌∙◌, ℕ, ◌+◌, ◌-◌, ◌*◌, ◌/◌, ◌%◌, ◌^◌, ◌<◌, ◌≤◌, ◌==◌, ◌&&◌, ◌||◌, Bool, true, false, not, List, [], ◌∷◌, ◌++◌, length, take, drop, Option, Some, None, option_and_then, nat_le, nat_lt, codes, refl, sym, ap, arith, append_assoc, length-append}
+use Rattle.std.proofs.Common.{◌≡◌, ◌∙◌, ℕ, ◌+◌, ◌-◌, ◌*◌, ◌/◌, ◌%◌, ◌^◌, ◌<◌, ◌≤◌, ◌==◌, ◌&&◌, ◌||◌, Bool, true, false, not, List, [], ◌∷◌, ◌++◌}
+use Rattle.std.proofs.Common.{length, take, drop, Option, Some, None, option_and_then, nat_le, nat_lt, codes, refl, sym, ap, arith, append_assoc}
+use Rattle.std.proofs.Common.{length-append}
 use Rattle.std.specs.Char.{is_ascii_digit, is_ascii_alphabetic, is_ascii_lowercase}
 use Rattle.std.specs.Fmt.{decimal}
 use Rattle.std.specs.List.{list_all, position_or_len}
@@ -22,17 +24,19 @@ digit_byte d h = grind (arith, nat_tests)
 below : (n m : ℕ) → n < m → nat_lt n m ≡ true
 below n m h = grind (arith, nat_tests)
 
-digits_last : (k m d : ℕ) (xs : List ℕ) → digits_more k xs ≡ Some m → d < 10 → m * 10 + d < 4294967296 → digits_more k (xs ++ (48 + d) ∷ []) ≡ Some (m * 10 + d)
+digits_last : (k m d : ℕ) (xs : List ℕ) → digits_more k xs ≡ Some m → d < 10 → m * 10 + d < 4294967296
+    → digits_more k (xs ++ (48 + d) ∷ []) ≡ Some (m * 10 + d)
 digits_last k m d [] e h f =
     let same : k ≡ m = cc in
     let value : k * 10 + (48 + d - 48) ≡ m * 10 + d = rw same (omega arith) in
     rw (digit_byte d h, value, below (m * 10 + d) 4294967296 f) refl
-digits_last k m d (x ∷ xs) e h f = by_test (is_ascii_digit x && nat_lt (k * 10 + (x - 48)) 4294967296) refl (λ g. digits_last (k * 10 + (x - 48)) m d xs g h f) where
-  by_test : (b : Bool) → (is_ascii_digit x && nat_lt (k * 10 + (x - 48)) 4294967296) ≡ b
-      → (digits_more (k * 10 + (x - 48)) xs ≡ Some m → digits_more (k * 10 + (x - 48)) (xs ++ (48 + d) ∷ []) ≡ Some (m * 10 + d))
-      → digits_more k ((x ∷ xs) ++ (48 + d) ∷ []) ≡ Some (m * 10 + d)
-  by_test true g rest = rw g (rest (rw g at e))
-  by_test false g rest = let bad : ◌≡◌ {A = Option ℕ} None (Some m) = rw g at e in cc
+digits_last k m d (x ∷ xs) e h f = by_test (is_ascii_digit x && nat_lt (k * 10 + (x - 48)) 4294967296) refl
+    (λ g. digits_last (k * 10 + (x - 48)) m d xs g h f) where
+      by_test : (b : Bool) → (is_ascii_digit x && nat_lt (k * 10 + (x - 48)) 4294967296) ≡ b
+          → (digits_more (k * 10 + (x - 48)) xs ≡ Some m → digits_more (k * 10 + (x - 48)) (xs ++ (48 + d) ∷ []) ≡ Some (m * 10 + d))
+          → digits_more k ((x ∷ xs) ++ (48 + d) ∷ []) ≡ Some (m * 10 + d)
+      by_test true g rest = rw g (rest (rw g at e))
+      by_test false g rest = let bad : ◌≡◌ {A = Option ℕ} None (Some m) = rw g at e in cc
 
 number_last : (m d : ℕ) (xs : List ℕ) → number_at xs ≡ Some m → d < 10 → m * 10 + d < 4294967296 → number_at (xs ++ (48 + d) ∷ []) ≡ Some (m * 10 + d)
 number_last m d [] e h f = cc
@@ -49,7 +53,8 @@ number_decimal n p h = decimal_by_steps (λ m ds. 0 < m → m < 4294967296 → n
       let first : (nat_le 49 (48 + m) && nat_le (48 + m) 57) ≡ true = grind (arith, nat_tests) in
       rw first (ap (λ (k : ℕ). Some k) (omega arith))
 
-  more : (m : ℕ) (ds : List ℕ) → 10 ≤ m → (0 < m / 10 → m / 10 < 4294967296 → number_at ds ≡ Some (m / 10)) → 0 < m → m < 4294967296 → number_at (ds ++ ((48 + m % 10) ∷ [])) ≡ Some m
+  more : (m : ℕ) (ds : List ℕ) → 10 ≤ m → (0 < m / 10 → m / 10 < 4294967296 → number_at ds ≡ Some (m / 10)) → 0 < m → m < 4294967296
+      → number_at (ds ++ ((48 + m % 10) ∷ [])) ≡ Some m
   more m ds big front q f =
       let whole : m / 10 * 10 + m % 10 ≡ m = omega arith in
       number_last (m / 10) (m % 10) ds (front (omega arith) (omega arith)) (omega arith) (omega arith) ∙ ap (λ (k : ℕ). Some k) whole
@@ -106,8 +111,10 @@ mark_place (x ∷ xs) rest h =
 cut_mark : (front rest : Word) → lacks front ≡ true → cut_at 35 (front ++ (35 ∷ rest)) ≡ Some (front, rest)
 cut_mark front rest h =
     let at : position_or_len (λ b. b == 35) (front ++ (35 ∷ rest)) ≡ length front = mark_place front rest h in
-    let inside : nat_lt (length front) (length (front ++ (35 ∷ rest))) ≡ true = below (length front) (length (front ++ (35 ∷ rest))) (omega (arith, length-append front (35 ∷ rest))) in
-    let back : drop (length front + 1) (front ++ (35 ∷ rest)) ≡ rest = ap (drop (length front + 1)) (sym (append_assoc front (35 ∷ []) rest)) ∙ drop_at (front ++ 35 ∷ []) rest (length front + 1) (length-append front (35 ∷ [])) in
+    let inside : nat_lt (length front) (length (front ++ (35 ∷ rest))) ≡ true =
+    below (length front) (length (front ++ (35 ∷ rest))) (omega (arith, length-append front (35 ∷ rest))) in
+    let back : drop (length front + 1) (front ++ (35 ∷ rest)) ≡ rest = ap (drop (length front + 1)) (sym (append_assoc front (35 ∷ []) rest))
+    ∙ drop_at (front ++ 35 ∷ []) rest (length front + 1) (length-append front (35 ∷ [])) in
     let before : take (length front) (front ++ (35 ∷ rest)) ≡ front = take_at front (35 ∷ rest) (length front) refl in
     rw (at, inside, before, back) refl
 
@@ -134,7 +141,8 @@ unfolding ends_stem
 ending_begins ending name more h =
     let k = length name - length ending in
     let p = both (bytes_eq (drop k name) ending) (is_stem_word (take k name)) h in
-    ap (λ (w : Word). is_value (w ++ more)) (sym (take-append-drop k name)) ∙ ap is_value (append_assoc (take k name) (drop k name) more) ∙ stem_begins (take k name) (drop k name ++ more) p.1
+    ap (λ (w : Word). is_value (w ++ more)) (sym (take-append-drop k name)) ∙ ap is_value (append_assoc (take k name) (drop k name) more)
+    ∙ stem_begins (take k name) (drop k name ++ more) p.1
 
 pub source_begins : (file more : Word) → is_source_name file ≡ true → is_value (file ++ more) ≡ true
 source_begins file more h = by_body (is_body_name file) refl where

@@ -4,7 +4,8 @@ use Rattle.std.specs.Bool.{if◌then◌else◌}
 use Rattle.std.specs.Str.{bytes_eq}
 use Rattle.std.proofs.lemmas.Bool.Decides.{nat_tests}
 use Rattle.std.proofs.lemmas.Slice.Eq.{bytes_eq-Decides}
-use Rattle.cli_words.specs.Words.{Word, is_value, is_json_flag, no_flags, with_json, mode_flag, rename_flags, write_flag, nothing_behind, footprint_form, rename_form, sample_form, verify_form, batch_form, asked}
+use Rattle.cli_words.specs.Words.{Word, is_value, is_json_flag, no_flags, with_json, mode_flag, rename_flags, write_flag, nothing_behind}
+use Rattle.cli_words.specs.Words.{footprint_form, rename_form, sample_form, verify_form, batch_form, asked}
 use Rattle.cli_words.specs.declared.asked.Flags.{Flags}
 use Rattle.cli_words.specs.declared.asked.Asked.{Asked}
 use Rattle.cli_words.specs.declared.asked.Asked.TheVariants.{Check, Footprint, Rename, Sample, Verify, Batch, Recover}
@@ -47,7 +48,8 @@ pub record HoldsOfFlags (P : List Word → Flags → Type 0) : Type 0 where
   pub json_safe : P (codes "--json" ∷ codes "--safe" ∷ []) (record { write = false; safe = true; json = true })
 
 -- a word that is `--write` or `--safe`
-each_mode : (P : Word → Flags → Type 0) → P (codes "--write") (record no_flags { write = true }) → P (codes "--safe") (record no_flags { safe = true })
+each_mode : (P : Word → Flags → Type 0) → P (codes "--write") (record no_flags { write = true })
+    → P (codes "--safe") (record no_flags { safe = true })
     → (w : Word) (f : Flags) → mode_flag w ≡ Some f → P w f
 each_mode P p q w f e = by_write (bytes_eq w (codes "--write")) refl where
   by_safe : (t : Bool) → bytes_eq w (codes "--safe") ≡ t → bytes_eq w (codes "--write") ≡ false → P w f
@@ -64,7 +66,8 @@ each_mode P p q w f e = by_write (bytes_eq w (codes "--write")) refl where
       subst (λ v. P v f) (sym (named w (codes "--write") g)) (subst (P (codes "--write")) same p)
   by_write false g = by_safe (bytes_eq w (codes "--safe")) refl g
 
-each_mode_json : (P : Word → Flags → Type 0) → P (codes "--write") (record { write = true; safe = false; json = true }) → P (codes "--safe") (record { write = false; safe = true; json = true })
+each_mode_json : (P : Word → Flags → Type 0) → P (codes "--write") (record { write = true; safe = false; json = true })
+    → P (codes "--safe") (record { write = false; safe = true; json = true })
     → (w : Word) (f : Flags) → option_map with_json (mode_flag w) ≡ Some f → P w f
 each_mode_json P p q w f e = by_mode (mode_flag w) refl where
   by_mode : (m : Option Flags) → mode_flag w ≡ m → P w f
@@ -102,7 +105,8 @@ each_flags P h (w ∷ v ∷ x ∷ xs) f e = absurd (none_is_some f e)
 pub record HoldsOfForms (P : List Word → Asked Word → Type 0) : Type 0 where
   pub check : P (codes "check" ∷ []) Check
   pub footprint : (t : Word) → is_value t ≡ true → P (codes "footprint" ∷ t ∷ []) (Footprint t)
-  pub rename : (t n : Word) → is_value t ≡ true → is_value n ≡ true → (ws : List Word) (f : Flags) → rename_flags ws ≡ Some f → P (codes "rename" ∷ t ∷ n ∷ ws) (Rename t n f)
+  pub rename : (t n : Word) → is_value t ≡ true → is_value n ≡ true → (ws : List Word) (f : Flags) → rename_flags ws ≡ Some f
+      → P (codes "rename" ∷ t ∷ n ∷ ws) (Rename t n f)
   pub sample : (n : Word) → is_value n ≡ true → P (codes "sample" ∷ n ∷ []) (Sample n)
   pub verify : (old new : Word) → is_value old ≡ true → is_value new ≡ true → P (codes "verify" ∷ old ∷ new ∷ []) (Verify old new)
   pub batch : (file : Word) → is_value file ≡ true → P (codes "batch" ∷ file ∷ []) (Batch file false)
@@ -145,11 +149,13 @@ module _ (P : List Word → Asked Word → Type 0) (h : HoldsOfForms P) (form : 
       subst (P (codes "verify" ∷ old ∷ new ∷ [])) p.1 (h.verify old new q.0 q.1)
   verify_shape (old ∷ new ∷ w ∷ ws) e = absurd (none_is_some form e)
 
-  write_shape : (file : Word) (ws : List Word) (w : Bool) → is_value file ≡ true → write_flag ws ≡ Some w → P (codes "batch" ∷ file ∷ ws) (Batch file w)
+  write_shape : (file : Word) (ws : List Word) (w : Bool) → is_value file ≡ true → write_flag ws ≡ Some w
+      → P (codes "batch" ∷ file ∷ ws) (Batch file w)
   write_shape file [] w v e = let same : false ≡ w = cc in subst (λ b. P (codes "batch" ∷ file ∷ []) (Batch file b)) same (h.batch file v)
   write_shape file (x ∷ []) w v e =
       let p = if_some (bytes_eq x (codes "--write")) true w e in
-      subst (λ y. P (codes "batch" ∷ file ∷ y ∷ []) (Batch file w)) (sym (named x (codes "--write") p.0)) (subst (λ b. P (codes "batch" ∷ file ∷ codes "--write" ∷ []) (Batch file b)) p.1 (h.batch_write file v))
+      subst (λ y. P (codes "batch" ∷ file ∷ y ∷ []) (Batch file w)) (sym (named x (codes "--write") p.0))
+      (subst (λ b. P (codes "batch" ∷ file ∷ codes "--write" ∷ []) (Batch file b)) p.1 (h.batch_write file v))
   write_shape file (x ∷ y ∷ ws) w v e = absurd (none_is_some w e)
 
   batch_shape : (ws : List Word) → batch_form ws ≡ Some form → P (codes "batch" ∷ ws) form

@@ -24,7 +24,8 @@ abbrev pub footprint_app : App
 footprint_app = value_app (new_app (codes "footprint")) (codes "TARGET")
 
 abbrev pub rename_app : App
-rename_app = flag_app (flag_app (flag_app (value_app (value_app (new_app (codes "rename")) (codes "TARGET")) (codes "NAME")) (codes "write")) (codes "safe")) (codes "json")
+rename_app = flag_app (flag_app (flag_app (value_app (value_app (new_app (codes "rename")) (codes "TARGET")) (codes "NAME")) (codes "write"))
+    (codes "safe")) (codes "json")
 
 abbrev pub sample_app : App
 sample_app = value_app (new_app (codes "sample")) (codes "N")
@@ -39,7 +40,10 @@ batch_app = flag_app (value_app (new_app (codes "batch")) (codes "FILE")) (codes
 abbrev pub program_app : App
 program_app =
     let program = new_app (codes "rotor") in
-    record program { top = record program.top { no_binary_name = true; disable_help_flag = true; disable_help_subcommand = true; disable_version_flag = true } }
+    record program {
+      top = record program.top
+          { no_binary_name = true; disable_help_flag = true; disable_help_subcommand = true; disable_version_flag = true };
+    }
 
 abbrev pub above_app : App → App → App
 above_app app sub = with_subcommand app sub.top
@@ -47,7 +51,9 @@ above_app app sub = with_subcommand app sub.top
 -- the program and its subcommands
 abbrev pub rotor_app : App
 rotor_app =
-    above_app (above_app (above_app (above_app (above_app (above_app (above_app program_app (new_app (codes "check"))) footprint_app) rename_app) sample_app) verify_app) batch_app) (new_app (codes "recover"))
+    above_app (above_app (above_app
+    (above_app (above_app (above_app (above_app program_app (new_app (codes "check"))) footprint_app) rename_app) sample_app) verify_app)
+    batch_app) (new_app (codes "recover"))
 
 -- the command is declared as this, and declares no argument that its subcommands share
 pub record IsTold (command : Command) (app : App) : Type 0 where
@@ -74,7 +80,8 @@ abbrev pub heard : Word × List Row → Option (Asked Word)
 heard met =
     if bytes_eq met.0 (codes "check") then Some Check
     else (if bytes_eq met.0 (codes "footprint") then with_value Footprint (codes "TARGET") met.1
-    else (if bytes_eq met.0 (codes "rename") then with_values (λ target name. Rename target name (flags_in met.1)) (codes "TARGET") (codes "NAME") met.1
+    else (if bytes_eq met.0 (codes "rename") then with_values (λ target name. Rename target name (flags_in met.1)) (codes "TARGET")
+    (codes "NAME") met.1
     else (if bytes_eq met.0 (codes "sample") then with_value Sample (codes "N") met.1
     else (if bytes_eq met.0 (codes "verify") then with_values Verify (codes "OLDLIST") (codes "NEWLIST") met.1
     else (if bytes_eq met.0 (codes "batch") then with_value (λ file. Batch file (is_used met.1 (codes "write"))) (codes "FILE") met.1

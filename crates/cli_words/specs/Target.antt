@@ -1,5 +1,6 @@
 -- What a target word names.
-use Rattle.std.specs.Prelude.{ℕ, List, [], ◌∷◌, ◌==◌, ◌&&◌, ◌+◌, ◌-◌, ◌*◌, Option, Some, None, option_map, option_and_then, if◌then◌else◌, nat_le, nat_lt, take, drop}
+use Rattle.std.specs.Prelude.{ℕ, List, [], ◌∷◌, ◌==◌, ◌&&◌, ◌+◌, ◌-◌, ◌*◌, Option, Some, None, option_map, option_and_then, if◌then◌else◌, nat_le}
+use Rattle.std.specs.Prelude.{nat_lt, take, drop}
 use Rattle.std.specs.Char.{is_ascii_digit}
 use Rattle.std.specs.List.{slice_split, position}
 use Rattle.rotor_base.specs.Stem.{is_source_name}

@@ -1,5 +1,6 @@
 -- The forms of the words of the command line, and the commands that they request.
-use Rattle.std.specs.Prelude.{ℕ, List, [], ◌∷◌, Bool, true, false, ◌==◌, ◌&&◌, not, Option, Some, None, option_map, option_and_then, if◌then◌else◌, nat_le, codes}
+use Rattle.std.specs.Prelude.{ℕ, List, [], ◌∷◌, Bool, true, false, ◌==◌, ◌&&◌, not, Option, Some, None, option_map, option_and_then, if◌then◌else◌}
+use Rattle.std.specs.Prelude.{nat_le, codes}
 use Rattle.std.specs.Str.{bytes_eq}
 use Rattle.cli_words.specs.Target.{number_at, target_of}
 use Rattle.cli_words.specs.declared.asked.Flags.{Flags}

@@ -25,7 +25,8 @@ are_flags false true true words = same_words words (codes "--safe" ∷ codes "--
 
 abbrev pub is_renaming : Word → Word → Flags → List Word → Bool
 is_renaming target name flags (form ∷ first ∷ second ∷ rest) =
-    is_value target && is_value name && (bytes_eq form (codes "rename") && bytes_eq first target && bytes_eq second name) && are_flags flags.write flags.safe flags.json rest
+    is_value target && is_value name && (bytes_eq form (codes "rename") && bytes_eq first target && bytes_eq second name) && are_flags flags.write
+    flags.safe flags.json rest
 is_renaming target name flags _ = false
 
 abbrev pub batch_words : Word → Bool → List Word

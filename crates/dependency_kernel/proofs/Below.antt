@@ -16,7 +16,8 @@ found_more n xs x f = let below : f.0 < n = f.1 in (f.0, omega arith, f.2)
 pub found_last : {X : Type 0} (n : ℕ) (xs : List X) (x : X) → x ≡ get_or xs n x → FoundBelow (n + 1) xs x
 found_last n xs x is = (n, omega arith, sym is)
 
-pub found_split : {X : Type 0} (n : ℕ) (xs : List X) (x y : X) → n < length xs → y ≡ get_or xs n y → FoundBelow (n + 1) xs x → FoundBelow n xs x ⊎ (x ≡ y)
+pub found_split : {X : Type 0} (n : ℕ) (xs : List X) (x y : X) → n < length xs → y ≡ get_or xs n y → FoundBelow (n + 1) xs x
+    → FoundBelow n xs x ⊎ (x ≡ y)
 found_split n xs x y within is f =
     let below : f.0 < n + 1 = f.1 in
     elim (cases_eq f.0 n) [

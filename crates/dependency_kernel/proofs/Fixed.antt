@@ -1,5 +1,6 @@
 -- Declarations in links with the outside.
-use Rattle.std.proofs.Common.{◌≡◌, ℕ, ◌+◌, ◌<◌, ◌≤◌, ◌⊎◌, Bool, true, false, cond, refl, ap, sym, ◌∙◌, subst, inl, inr, List, [], length, get_or, Contains, AllPairs, Some, None}
+use Rattle.std.proofs.Common.{◌≡◌, ℕ, ◌+◌, ◌<◌, ◌≤◌, ◌⊎◌, Bool, true, false, cond, refl, ap, sym, ◌∙◌, subst, inl, inr, List, [], length, get_or}
+use Rattle.std.proofs.Common.{Contains, AllPairs, Some, None}
 use Rattle.std.proofs.lemmas.List.{get_or_default}
 use Rattle.std.proofs.lemmas.Bool.{cases_order}
 use Rattle.std.specs.Ordering.{is_eq}
@@ -84,10 +85,12 @@ module _ (n : ℕ) (links : List Link) (link : Link) (within : n < length links)
     ]
 
 -- of all links
-pub fixed_sound : (n : ℕ) (links : List Link) (fixed : BTreeSet Place) → n ≤ length links → IsFixedSet n links fixed → (p : Place) → contains place_cmp fixed p ≡ true → IsFixed links p
+pub fixed_sound : (n : ℕ) (links : List Link) (fixed : BTreeSet Place) → n ≤ length links → IsFixedSet n links fixed → (p : Place)
+    → contains place_cmp fixed p ≡ true → IsFixed links p
 fixed_sound n links fixed le s p h = let f = s.0 p h in (f.0, found_within n links f.0 le f.1, f.2)
 
-pub fixed_whole : (n : ℕ) (links : List Link) (fixed : BTreeSet Place) → length links ≤ n → IsFixedSet n links fixed → (p : Place) → IsFixed links p → contains place_cmp fixed p ≡ true
+pub fixed_whole : (n : ℕ) (links : List Link) (fixed : BTreeSet Place) → length links ≤ n → IsFixedSet n links fixed → (p : Place) → IsFixed links p
+    → contains place_cmp fixed p ≡ true
 fixed_whole n links fixed le s p f = s.1 p (f.0, found_all n links f.0 le f.1, f.2)
 
 -- no declaration of the first n is fixed
@@ -97,7 +100,8 @@ NoneFixed n decls fixed = (q : Place) → FoundBelow n decls q → contains plac
 pub none_begin : (decls : List Place) (fixed : BTreeSet Place) → NoneFixed 0 decls fixed
 none_begin decls fixed q f h = found_none decls q f
 
-pub none_more : (n : ℕ) (decls : List Place) (fixed : BTreeSet Place) (place : Place) → n < length decls → place ≡ get_or decls n place → contains place_cmp fixed place ≡ false
+pub none_more : (n : ℕ) (decls : List Place) (fixed : BTreeSet Place) (place : Place) → n < length decls → place ≡ get_or decls n place
+    → contains place_cmp fixed place ≡ false
     → NoneFixed n decls fixed → NoneFixed (n + 1) decls fixed
 none_more n decls fixed place within is out none q f h =
     elim (found_split n decls q place within is f) [
@@ -106,8 +110,10 @@ none_more n decls fixed place within is out none q f h =
     ]
 
 -- the first that is fixed is the least, since the declarations are in order
-pub first_is_least : (n : ℕ) (links : List Link) (decls : List Place) (fixed : BTreeSet Place) (place : Place) → n < length decls → place ≡ get_or decls n place → contains place_cmp fixed place ≡ true
-    → AllPairs IsBefore decls → ((p : Place) → contains place_cmp fixed p ≡ true → IsFixed links p) → ((p : Place) → IsFixed links p → contains place_cmp fixed p ≡ true)
+pub first_is_least : (n : ℕ) (links : List Link) (decls : List Place) (fixed : BTreeSet Place) (place : Place) → n < length decls
+    → place ≡ get_or decls n place → contains place_cmp fixed place ≡ true
+    → AllPairs IsBefore decls → ((p : Place) → contains place_cmp fixed p ≡ true → IsFixed links p)
+    → ((p : Place) → IsFixed links p → contains place_cmp fixed p ≡ true)
     → NoneFixed n decls fixed → IsLeastFixed links decls (Some place)
 first_is_least n links decls fixed place within is has ordered sound whole none =
     record { member = (n, within, sym is); fixed = sound place has; least = least; none = tt } where
@@ -125,6 +131,8 @@ first_is_least n links decls fixed place within is has ordered sound whole none 
           ]
 
 -- if none is fixed, there is no least
-pub none_is_fixed : (n : ℕ) (links : List Link) (decls : List Place) (fixed : BTreeSet Place) → length decls ≤ n → ((p : Place) → IsFixed links p → contains place_cmp fixed p ≡ true)
+pub none_is_fixed : (n : ℕ) (links : List Link) (decls : List Place) (fixed : BTreeSet Place) → length decls ≤ n
+    → ((p : Place) → IsFixed links p → contains place_cmp fixed p ≡ true)
     → NoneFixed n decls fixed → IsLeastFixed links decls None
-none_is_fixed n links decls fixed le whole none = record { member = tt; fixed = tt; least = tt; none = λ q f fix. none q (found_all n decls q le f) (whole q fix) }
+none_is_fixed n links decls fixed le whole none =
+    record { member = tt; fixed = tt; least = tt; none = λ q f fix. none q (found_all n decls q le f) (whole q fix) }

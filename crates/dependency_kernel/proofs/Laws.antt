@@ -27,8 +27,10 @@ changes_all links d foot old new is was agree a in_a apart b in_b =
     let news : new b ≡ new a = has_one_name links d foot new is agree b a in_b in_a in
     ((λ same. apart (sym news ∙ (same ∙ olds))), news)
 
-stays : (links : List Link) (d : Place) (foot : Foot) (old new : Place → List ℕ) (outside : Option Place) → IsFoot links d foot → IsLeastFixed links foot.decls outside
-    → AgreesAlong links old → AgreesAlong links new → ((p : Place) → IsFixed links p → new p ≡ old p) → IsSome outside → (b : Place) → Contains foot.decls b → new b ≡ old b
+stays : (links : List Link) (d : Place) (foot : Foot) (old new : Place → List ℕ) (outside : Option Place) → IsFoot links d foot
+    → IsLeastFixed links foot.decls outside
+    → AgreesAlong links old → AgreesAlong links new → ((p : Place) → IsFixed links p → new p ≡ old p) → IsSome outside → (b : Place)
+    → Contains foot.decls b → new b ≡ old b
 stays links d foot old new None is least was agree keeps some b in_b = cc
 stays links d foot old new (Some p) is least was agree keeps some b in_b =
     has_one_name links d foot new is agree b p in_b least.member ∙ (keeps p least.fixed ∙ has_one_name links d foot old is was p b least.member in_b)
@@ -36,7 +38,8 @@ stays links d foot old new (Some p) is least was agree keeps some b in_b =
 pub fixed_stays : FixedStays
 fixed_stays links d foot old new is was agree keeps some b in_b = stays links d foot old new foot.outside is is.outside was agree keeps some b in_b
 
-pinned : (links : List Link) (d : Place) (foot : Foot) (outside : Option Place) → IsFoot links d foot → IsLeastFixed links foot.decls outside → IsSome outside ↔ IsPinned links d
+pinned : (links : List Link) (d : Place) (foot : Foot) (outside : Option Place) → IsFoot links d foot → IsLeastFixed links foot.decls outside
+    → IsSome outside ↔ IsPinned links d
 pinned links d foot None is least = ((λ some. cc), (λ p. absurd (least.none p.0 (is.all p.0 p.1) p.2)))
 pinned links d foot (Some p) is least = ((λ some. (p, is.reached p least.member, least.fixed)), (λ q. refl))
 

@@ -1,5 +1,6 @@
 -- Lists in order with the same members are the same.
-use Rattle.std.proofs.Common.{◌≡◌, ℕ, zero, suc, ◌<◌, ◌⊎◌, refl, ap, sym, ◌∙◌, subst, inl, inr, arith, List, [], ◌∷◌, length, get_or, Contains, AllPairs, Option, Some, None}
+use Rattle.std.proofs.Common.{◌≡◌, ℕ, zero, suc, ◌<◌, ◌⊎◌, refl, ap, sym, ◌∙◌, subst, inl, inr, arith, List, [], ◌∷◌, length, get_or, Contains}
+use Rattle.std.proofs.Common.{AllPairs, Option, Some, None}
 use Rattle.rotor_base.specs.declared.place.Place.{Place}
 use Rattle.rotor_base.specs.declared.place.Link.{Link}
 use Rattle.rotor_base.specs.declared.place.Foot.{Foot}
@@ -42,7 +43,8 @@ tail_ordered p ps h i j d ij jn = h (suc i) (suc j) d (omega arith) (omega arith
 abbrev Within : List Place → List Place → Type 0
 Within ps qs = (x : Place) → Contains ps x → Contains qs x
 
-same_head : (p q : Place) (ps qs : List Place) → AllPairs IsBefore (p ∷ ps) → AllPairs IsBefore (q ∷ qs) → Within (p ∷ ps) (q ∷ qs) → Within (q ∷ qs) (p ∷ ps) → p ≡ q
+same_head : (p q : Place) (ps qs : List Place) → AllPairs IsBefore (p ∷ ps) → AllPairs IsBefore (q ∷ qs) → Within (p ∷ ps) (q ∷ qs)
+    → Within (q ∷ qs) (p ∷ ps) → p ≡ q
 same_head p q ps qs op oq pq qp =
     elim (head_or_tail q p qs (pq p (at_head p ps))) [
       | inl e ↦ sym e
@@ -69,7 +71,8 @@ same_members [] (q ∷ qs) op oq pq qp = absurd (no_member q qs qp)
 same_members (p ∷ ps) [] op oq pq qp = absurd (no_member p ps pq)
 same_members (p ∷ ps) (q ∷ qs) op oq pq qp =
     let e : p ≡ q = same_head p q ps qs op oq pq qp in
-    let rest : ps ≡ qs = same_members ps qs (tail_ordered p ps op) (tail_ordered q qs oq) (tail_within p q ps qs op e pq) (tail_within q p qs ps oq (sym e) qp) in
+    let rest : ps ≡ qs = same_members ps qs (tail_ordered p ps op) (tail_ordered q qs oq) (tail_within p q ps qs op e pq)
+    (tail_within q p qs ps oq (sym e) qp) in
     ap (λ (x : Place). x ∷ ps) e ∙ ap (λ (xs : List Place). q ∷ xs) rest
 
 -- there is one least
@@ -85,7 +88,8 @@ same_least links ps (Some p) (Some q) la lb = ap Some (either (la.least q lb.mem
 
 pub is_the_only : IsTheOnly
 is_the_only links d foot other is too =
-    let decls : foot.decls ≡ other.decls = same_members foot.decls other.decls is.ordered too.ordered (λ x h. too.all x (is.reached x h)) (λ x h. is.all x (too.reached x h)) in
+    let decls : foot.decls ≡ other.decls = same_members foot.decls other.decls is.ordered too.ordered (λ x h. too.all x (is.reached x h))
+    (λ x h. is.all x (too.reached x h)) in
     let P : List Place → Type 0 = λ ps. IsLeastFixed links ps foot.outside in
     let outside : foot.outside ≡ other.outside = same_least links other.decls foot.outside other.outside (subst P decls is.outside) too.outside in
     let make : List Place → Option Place → Foot = λ ps o. record { decls = ps; outside = o } in

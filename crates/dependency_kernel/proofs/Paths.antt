@@ -30,13 +30,17 @@ joined_within n links a b le (inl f) = inl (found_within n links (link_of a b) l
 joined_within n links a b le (inr f) = inr (found_within n links (link_of b a) le f)
 
 -- the last of the first n + 1 links joins its own ends, and is the only new one
-pub joined_last : (n : ℕ) (links : List Link) (link : Link) (a b : Place) → link ≡ get_or links n link → link ≡ link_of a b → FoundBelow (n + 1) links (link_of a b)
+pub joined_last : (n : ℕ) (links : List Link) (link : Link) (a b : Place) → link ≡ get_or links n link → link ≡ link_of a b
+    → FoundBelow (n + 1) links (link_of a b)
 joined_last n links link a b is e = let P : Link → Type 0 = λ x. FoundBelow (n + 1) links x in subst P e (found_last n links link is)
 
-pub joined_split : (n : ℕ) (links : List Link) (link : Link) (a b : Place) → n < length links → link ≡ get_or links n link → JoinedBelow (n + 1) links a b
+pub joined_split : (n : ℕ) (links : List Link) (link : Link) (a b : Place) → n < length links → link ≡ get_or links n link
+    → JoinedBelow (n + 1) links a b
     → JoinedBelow n links a b ⊎ ((link ≡ link_of a b) ⊎ (link ≡ link_of b a))
-joined_split n links link a b within is (inl f) = elim (found_split n links (link_of a b) link within is f) [ inl g ↦ inl (inl g) | inr e ↦ inr (inl (sym e)) ]
-joined_split n links link a b within is (inr f) = elim (found_split n links (link_of b a) link within is f) [ inl g ↦ inl (inr g) | inr e ↦ inr (inr (sym e)) ]
+joined_split n links link a b within is (inl f) =
+    elim (found_split n links (link_of a b) link within is f) [ inl g ↦ inl (inl g) | inr e ↦ inr (inl (sym e)) ]
+joined_split n links link a b within is (inr f) =
+    elim (found_split n links (link_of b a) link within is f) [ inl g ↦ inl (inr g) | inr e ↦ inr (inr (sym e)) ]
 
 -- the ends of a link
 pub same_item : (a b c d : Place) → link_of a b ≡ link_of c d → a ≡ c
@@ -59,7 +63,8 @@ pub record Adds (old new : BTreeMap Place (Vec Place)) (from to : Place) : Type 
 
 module _ (n : ℕ) (links : List Link) (link : Link) (within : n < length links) (is : link ≡ get_or links n link) where
   -- a link that joins no declarations changes nothing
-  pub table_same : (table : BTreeMap Place (Vec Place)) → ((a b : Place) → link ≡ link_of a b → ⊥) → IsTableOf n links table → IsTableOf (n + 1) links table
+  pub table_same : (table : BTreeMap Place (Vec Place)) → ((a b : Place) → link ≡ link_of a b → ⊥) → IsTableOf n links table
+      → IsTableOf (n + 1) links table
   table_same table others t = (
     (λ a b h. joined_more n links a b (t.0 a b h)),
     (λ a b j. elim (joined_split n links link a b within is j) [
@@ -69,7 +74,8 @@ module _ (n : ℕ) (links : List Link) (link : Link) (within : n < length links)
   )
 
   -- a link of two declarations adds each to the neighbors of the other
-  pub table_more : (old mid new : BTreeMap Place (Vec Place)) (x y : Place) → link ≡ link_of x y → Adds old mid x y → Adds mid new y x → IsTableOf n links old → IsTableOf (n + 1) links new
+  pub table_more : (old mid new : BTreeMap Place (Vec Place)) (x y : Place) → link ≡ link_of x y → Adds old mid x y → Adds mid new y x
+      → IsTableOf n links old → IsTableOf (n + 1) links new
   table_more old mid new x y ends one two t = (sound, whole) where
     last : FoundBelow (n + 1) links (link_of x y)
     last = joined_last n links link x y is ends
@@ -77,13 +83,15 @@ module _ (n : ℕ) (links : List Link) (link : Link) (within : n < length links)
     from_mid : (a b : Place) → HasNeighbor mid a b → JoinedBelow (n + 1) links a b
     from_mid a b h = elim (one.only a b h) [
       | inl before ↦ joined_more n links a b (t.0 a b before)
-      | inr e ↦ inl (let P : Link → Type 0 = λ l. FoundBelow (n + 1) links l in subst P (ap (λ p. link_of p y) (sym e.0) ∙ ap (link_of a) (sym e.1)) last)
+      | inr e ↦ inl (let P : Link → Type 0 = λ l. FoundBelow (n + 1) links l in
+          subst P (ap (λ p. link_of p y) (sym e.0) ∙ ap (link_of a) (sym e.1)) last)
     ]
 
     sound : (a b : Place) → HasNeighbor new a b → JoinedBelow (n + 1) links a b
     sound a b h = elim (two.only a b h) [
       | inl before ↦ from_mid a b before
-      | inr e ↦ inr (let P : Link → Type 0 = λ l. FoundBelow (n + 1) links l in subst P (ap (λ p. link_of p y) (sym e.1) ∙ ap (link_of b) (sym e.0)) last)
+      | inr e ↦ inr (let P : Link → Type 0 = λ l. FoundBelow (n + 1) links l in
+          subst P (ap (λ p. link_of p y) (sym e.1) ∙ ap (link_of b) (sym e.0)) last)
     ]
 
     whole : (a b : Place) → JoinedBelow (n + 1) links a b → HasNeighbor new a b

@@ -1,5 +1,6 @@
 -- One step of the table of neighbors.
-use Rattle.std.proofs.Common.{◌<◌, arith, ◌≡◌, ◌⊎◌, Bool, true, false, cond, refl, ap, sym, ◌∙◌, subst, inl, inr, List, [], Option, Some, None, Contains}
+use Rattle.std.proofs.Common.{◌<◌, arith, ◌≡◌, ◌⊎◌, Bool, true, false, cond, refl, ap, sym, ◌∙◌, subst, inl, inr, List, [], Option, Some, None}
+use Rattle.std.proofs.Common.{Contains}
 use Rattle.std.specs.Prelude.{IsSomeAnd}
 use Rattle.std.specs.BTreeMap.{BTreeMap, get, is_at}
 use Rattle.std.specs.Global.{Vec}
@@ -24,7 +25,8 @@ module _ (old m : BTreeMap Place (Vec Place)) (from : Place) (one : Option (Vec 
   pub put_keeps : ((b : Place) → HasNeighbor old from b → InList b one) → (a b : Place) → HasNeighbor old a b → HasNeighbor m a b
   put_keeps was a b h = by_test (is_at (place_cmp from) a) refl where
     by_test : (t : Bool) → is_at (place_cmp from) a ≡ t → HasNeighbor m a b
-    by_test true e = subst (InList b) (sym (at_from a true e)) (was b (let P : Place → Type 0 = λ x. HasNeighbor old x b in subst P (sym (place_found from a e)) h))
+    by_test true e = subst (InList b) (sym (at_from a true e))
+        (was b (let P : Place → Type 0 = λ x. HasNeighbor old x b in subst P (sym (place_found from a e)) h))
     by_test false e = subst (InList b) (sym (at_from a false e)) h
 
   -- what the new table has is in the old one or in the new entry
@@ -51,15 +53,19 @@ abbrev pub IsTaken : Option (Vec Place) → List Place → Type 0
 IsTaken taken places = ((list : Vec Place) × (taken ≡ Some list) × (list.items ≡ places)) ⊎ ((taken ≡ None) × (places ≡ []))
 
 -- they have each neighbor that the table has
-pub taken_has : (old : BTreeMap Place (Vec Place)) (from : Place) (taken : Option (Vec Place)) (places : List Place) → taken ≡ get place_cmp old from → IsTaken taken places
+pub taken_has : (old : BTreeMap Place (Vec Place)) (from : Place) (taken : Option (Vec Place)) (places : List Place) → taken ≡ get place_cmp old from
+    → IsTaken taken places
     → (b : Place) → HasNeighbor old from b → Contains places b
-taken_has old from taken places value (inl e) b h = let P : List Place → Type 0 = λ xs. Contains xs b in subst P e.2 (subst (InList b) (sym value ∙ e.1) h)
+taken_has old from taken places value (inl e) b h = let P : List Place → Type 0 = λ xs. Contains xs b in
+    subst P e.2 (subst (InList b) (sym value ∙ e.1) h)
 taken_has old from taken places value (inr e) b h = absurd (subst (InList b) (sym value ∙ e.0) h)
 
 -- and no other
-pub taken_only : (old : BTreeMap Place (Vec Place)) (from : Place) (taken : Option (Vec Place)) (places : List Place) → taken ≡ get place_cmp old from → IsTaken taken places
+pub taken_only : (old : BTreeMap Place (Vec Place)) (from : Place) (taken : Option (Vec Place)) (places : List Place) → taken ≡ get place_cmp old from
+    → IsTaken taken places
     → (b : Place) → Contains places b → HasNeighbor old from b
-taken_only old from taken places value (inl e) b h = let P : List Place → Type 0 = λ xs. Contains xs b in subst (InList b) (sym (sym value ∙ e.1)) (subst P (sym e.2) h)
+taken_only old from taken places value (inl e) b h = let P : List Place → Type 0 = λ xs. Contains xs b in
+    subst (InList b) (sym (sym value ∙ e.1)) (subst P (sym e.2) h)
 taken_only old from taken places value (inr e) b h =
     let P : List Place → Type 0 = λ xs. Contains xs b in
     let none : Contains [] b = subst P e.1 h in

@@ -1,5 +1,6 @@
 -- One step of the worklist, over plain values.
-use Rattle.std.proofs.Common.{◌≡◌, ℕ, ◌+◌, length, length-append, ◌<◌, ◌⊎◌, Bool, true, false, cond, refl, ap, sym, ◌∙◌, subst, inl, inr, arith, List, [], ◌∷◌, ◌++◌, Option, None, Contains}
+use Rattle.std.proofs.Common.{◌≡◌, ℕ, ◌+◌, length, length-append, ◌<◌, ◌⊎◌, Bool, true, false, cond, refl, ap, sym, ◌∙◌, subst, inl, inr, arith, List}
+use Rattle.std.proofs.Common.{[], ◌∷◌, ◌++◌, Option, None, Contains}
 use Rattle.std.proofs.lemmas.List.Elements.{Contains-append_left, Contains-append_right, Contains-append_cases, Contains-push, Contains-push_cases}
 use Rattle.std.specs.Ordering.{is_eq}
 use Rattle.std.proofs.lemmas.Cmp.{tied_itself}
@@ -48,7 +49,8 @@ module _ (links : List Link) (d : Place) (table : BTreeMap Place (Vec Place)) (d
     | inr s ↦ taken b s
   ]
 
-module _ (links : List Link) (d : Place) (table table' : BTreeMap Place (Vec Place)) (decls decls' : BTreeSet Place) (todo rest todo' next : List Place) (place : Place)
+module _ (links : List Link) (d : Place) (table table' : BTreeMap Place (Vec Place)) (decls decls' : BTreeSet Place)
+    (todo rest todo' next : List Place) (place : Place)
     (pop : todo ≡ rest ++ place ∷ []) (more : todo' ≡ rest ++ next)
     (gone : Puts table table' place None)
     (next_has : (b : Place) → HasNeighbor table place b → Contains next b)
@@ -105,7 +107,8 @@ module _ (links : List Link) (d : Place) (table table' : BTreeMap Place (Vec Pla
     | inr s ↦ inr (seen_keeps b s)
     | inl o ↦ by_test o (is_at (place_cmp place) a) refl
   ] where
-    by_test : HasNeighbor table a b × (Has decls a → ⊥) → (t : Bool) → is_at (place_cmp place) a ≡ t → (HasNeighbor table' a b × (Has decls' a → ⊥)) ⊎ Seen decls' todo' b
+    by_test : HasNeighbor table a b × (Has decls a → ⊥) → (t : Bool) → is_at (place_cmp place) a ≡ t → (HasNeighbor table' a b × (Has decls' a → ⊥))
+        ⊎ Seen decls' todo' b
     by_test o true e =
         let Q : Place → Type 0 = λ q. HasNeighbor table q b in
         inr (inr (in_new b (Contains-append_right rest next b (next_has b (subst Q (sym (place_found place a e)) o.0)))))
@@ -115,8 +118,10 @@ module _ (links : List Link) (d : Place) (table table' : BTreeMap Place (Vec Pla
   works_on = record { sound = sound; start = seen_keeps d works.start; joined = joined; open_or_seen = open_or_seen }
 
 -- the worklist begins with the declaration alone
-pub works_begin : (links : List Link) (d : Place) (table : BTreeMap Place (Vec Place)) (decls : BTreeSet Place) (todo none : List Place) → decls.keys ≡ [] → none ≡ [] → todo ≡ none ++ d ∷ []
-    → ((a b : Place) → HasNeighbor table a b → Joined links a b) → ((a b : Place) → Joined links a b → HasNeighbor table a b) → Works links d table decls todo
+pub works_begin : (links : List Link) (d : Place) (table : BTreeMap Place (Vec Place)) (decls : BTreeSet Place) (todo none : List Place)
+    → decls.keys ≡ [] → none ≡ [] → todo ≡ none ++ d ∷ []
+    → ((a b : Place) → HasNeighbor table a b → Joined links a b) → ((a b : Place) → Joined links a b → HasNeighbor table a b)
+    → Works links d table decls todo
 works_begin links d table decls todo none empty nothing first joined all =
     record { sound = sound; start = inr start; joined = joined; open_or_seen = λ a b j. inl (all a b j, not_taken a) } where
       not_taken : (p : Place) → Has decls p → ⊥
@@ -143,12 +148,15 @@ count list = length list.items
 
 -- each step takes one off what is left
 pub falls : (table table' : BTreeMap Place (Vec Place)) (place : Place) (taken : Option (Vec Place)) (todo rest todo' next : List Place)
-    → table'.entries ≡ remove_entry (is_at (place_cmp place)) table.entries → taken ≡ get place_cmp table place → IsTaken taken next → todo ≡ rest ++ place ∷ [] → todo' ≡ rest ++ next
+    → table'.entries ≡ remove_entry (is_at (place_cmp place)) table.entries → taken ≡ get place_cmp table place → IsTaken taken next
+    → todo ≡ rest ++ place ∷ [] → todo' ≡ rest ++ next
     → sum_by count (values table') + length todo' < sum_by count (values table) + length todo
 falls table table' place taken todo rest todo' next entries value is pop more =
     let whole = sum_by-remove_entry count (is_at (place_cmp place)) table.entries in
-    let left : sum_by count (values table') ≡ sum_by count (values_of (remove_entry (is_at (place_cmp place)) table.entries)) = ap (λ es. sum_by count (values_of es)) entries in
-    let part : unwrap_or (option_map count (get place_cmp table place)) 0 ≡ length next = ap (λ o. unwrap_or (option_map count o) 0) (sym value) ∙ counted is in
+    let left : sum_by count (values table') ≡ sum_by count (values_of (remove_entry (is_at (place_cmp place)) table.entries)) =
+    ap (λ es. sum_by count (values_of es)) entries in
+    let part : unwrap_or (option_map count (get place_cmp table place)) 0 ≡ length next = ap (λ o. unwrap_or (option_map count o) 0) (sym value)
+    ∙ counted is in
     omega (arith, whole, left, part, ap length pop, ap length more, length-append rest (place ∷ []), length-append rest next) where
       counted : IsTaken taken next → unwrap_or (option_map count taken) 0 ≡ length next
       counted (inl e) = ap (λ o. unwrap_or (option_map count o) 0) e.1 ∙ ap length e.2

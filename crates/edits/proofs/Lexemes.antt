@@ -1,5 +1,6 @@
 -- Replacing the spans of lexemes is respelling them.
-use Rattle.std.proofs.Common.{◌≡◌, ℕ, ◌+◌, ◌-◌, ◌<◌, ◌≤◌, List, [], ◌∷◌, ◌++◌, length, take, drop, refl, ap, sym, ◌∙◌, arith, append_assoc, drop-drop, take-add}
+use Rattle.std.proofs.Common.{◌≡◌, ℕ, ◌+◌, ◌-◌, ◌<◌, ◌≤◌, List, [], ◌∷◌, ◌++◌, length, take, drop, refl, ap, sym, ◌∙◌, arith, append_assoc, drop-drop}
+use Rattle.std.proofs.Common.{take-add}
 use Rattle.std.specs.Prelude.{slice_range}
 use Rattle.std.proofs.lemmas.List.Folds.{drop_split}
 use Rattle.ml_lexer.specs.Lexed.{Lexeme}
@@ -14,7 +15,8 @@ use Rattle.edits.proofs.Pieces.{rest_is_pieces}
 later : (src : List ℕ) (from end : ℕ) → from ≤ end → drop (end - from) (drop from src) ≡ drop end src
 later src from end le = let sum : from + (end - from) ≡ end = omega (arith, le) in drop-drop (end - from) from src ∙ ap (λ n. drop n src) sum
 
-slice_split : (src : List ℕ) (from mid end : ℕ) → from ≤ mid → mid ≤ end → slice_range src from end ≡ slice_range src from mid ++ slice_range src mid end
+slice_split : (src : List ℕ) (from mid end : ℕ) → from ≤ mid → mid ≤ end
+    → slice_range src from end ≡ slice_range src from mid ++ slice_range src mid end
 slice_split src from mid end le le' =
     let sum : end - from ≡ (mid - from) + (end - mid) = omega (arith, le, le') in
     ap (λ n. take n (drop from src)) sum
@@ -22,7 +24,8 @@ slice_split src from mid end le le' =
     ∙ ap (λ b. slice_range src from mid ++ take (end - mid) b) (later src from mid le)
 
 -- the pieces from an earlier byte on
-sooner : (src : List ℕ) (from mid : ℕ) (edits : List Edit) → from ≤ mid → AreInOrder mid (length src) edits → pieces from src edits ≡ slice_range src from mid ++ pieces mid src edits
+sooner : (src : List ℕ) (from mid : ℕ) (edits : List Edit) → from ≤ mid → AreInOrder mid (length src) edits
+    → pieces from src edits ≡ slice_range src from mid ++ pieces mid src edits
 sooner src from mid [] le h = drop_split src from mid le
 sooner src from mid (edit ∷ edits) le h =
     let rest = edit.text ++ pieces edit.end src edits in
@@ -36,7 +39,8 @@ record Same (src : List ℕ) (from : ℕ) (xs : List Lexeme) (words : List (List
   order : AreInOrder from (length src) edits
   same : pieces from src edits ≡ respelled_from from (drop from src) xs words
 
-same_from : (src : List ℕ) (from : ℕ) {xs : List Lexeme} {words : List (List ℕ)} {edits : List Edit} → InOrder src from xs → GiveWords xs words edits → Same src from xs words edits
+same_from : (src : List ℕ) (from : ℕ) {xs : List Lexeme} {words : List (List ℕ)} {edits : List Edit} → InOrder src from xs → GiveWords xs words edits
+    → Same src from xs words edits
 same_from src from h nothing = record { order = h; same = refl }
 same_from src from h (kept {x = x} {xs = xs} {word = word} {words = words} {edits = edits} e g) =
     let r = same_from src x.end h.4 g in
@@ -50,7 +54,8 @@ same_from src from h (kept {x = x} {xs = xs} {word = word} {words = words} {edit
           sooner src from x.start edits start inside
           ∙ ap (λ b. slice_range src from x.start ++ b) (sooner src x.start x.end edits (omega (arith, span)) r.order)
           ∙ ap (λ b. slice_range src from x.start ++ (b ++ pieces x.end src edits)) (sym h.3 ∙ sym e)
-          ∙ ap (λ b. slice_range src from x.start ++ (word ++ b)) (r.same ∙ ap (λ b. respelled_from x.end b xs words) (sym (later src from x.end within)))
+          ∙ ap (λ b. slice_range src from x.start ++ (word ++ b))
+          (r.same ∙ ap (λ b. respelled_from x.end b xs words) (sym (later src from x.end within)))
           ∙ sym (append_assoc (slice_range src from x.start) word (respelled_from x.end (drop (x.end - from) (drop from src)) xs words));
     }
 same_from src from h (changed {x = x} {xs = xs} {word = word} {words = words} {edits = edits} g) =
@@ -60,7 +65,8 @@ same_from src from h (changed {x = x} {xs = xs} {word = word} {words = words} {e
     let within : from ≤ x.end = omega (arith, start, span) in
     record {
       order = (start, span, h.2, r.order);
-      same = ap (λ b. slice_range src from x.start ++ (word ++ b)) (r.same ∙ ap (λ b. respelled_from x.end b xs words) (sym (later src from x.end within)))
+      same = ap (λ b. slice_range src from x.start ++ (word ++ b))
+          (r.same ∙ ap (λ b. respelled_from x.end b xs words) (sym (later src from x.end within)))
           ∙ sym (append_assoc (slice_range src from x.start) word (respelled_from x.end (drop (x.end - from) (drop from src)) xs words));
     }
 

@@ -1,5 +1,6 @@
 -- Replacing the last span first is reading the pieces from the front.
-use Rattle.std.proofs.Common.{◌≡◌, ℕ, suc, ◌+◌, ◌*◌, ◌-◌, ◌<◌, ◌≤◌, List, [], ◌∷◌, ◌++◌, length, get_or, take, drop, refl, ap, sym, ◌∙◌, arith, length-append, length-drop, All}
+use Rattle.std.proofs.Common.{◌≡◌, ℕ, suc, ◌+◌, ◌*◌, ◌-◌, ◌<◌, ◌≤◌, List, [], ◌∷◌, ◌++◌, length, get_or, take, drop, refl, ap, sym, ◌∙◌, arith}
+use Rattle.std.proofs.Common.{length-append, length-drop, All}
 use Rattle.std.specs.Prelude.{slice_range}
 use Rattle.std.proofs.lemmas.List.{length-take, length-take-le, take-append-le, drop-append-le, take-take, drop-take, at_drop_more}
 use Rattle.edits.specs.declared.Edit.{Edit}
@@ -26,7 +27,8 @@ shorter_kept : (m n : ℕ) (a b : List ℕ) → m ≤ n → take n a ≡ take n 
 shorter_kept m n a b h e = sym (take-take m n a h) ∙ (ap (take m) e ∙ take-take m n b h)
 
 -- the bytes before a replaced span stay
-front_of_span : (from start : ℕ) (a b rest : List ℕ) → from ≤ start → start ≤ length a → take start a ≡ take start b → take from (take start a ++ rest) ≡ take from b
+front_of_span : (from start : ℕ) (a b rest : List ℕ) → from ≤ start → start ≤ length a → take start a ≡ take start b
+    → take from (take start a ++ rest) ≡ take from b
 front_of_span from start a b rest h k e =
     let long : from ≤ length (take start a) = omega (arith, length-take-le start a k) in
     take-append-le from (take start a) rest long ∙ (take-take from start a h ∙ shorter_kept from start a b h e)
@@ -41,7 +43,8 @@ front_stays from src (edit ∷ edits) h =
     (shorter_kept edit.start edit.end (replaced src edits) src (omega arith) kept)
 
 -- from `from` on, a replaced span follows the bytes that are kept before it
-rest_of_span : (from start : ℕ) (a b rest : List ℕ) → from ≤ start → start ≤ length a → take start a ≡ take start b → drop from (take start a ++ rest) ≡ slice_range b from start ++ rest
+rest_of_span : (from start : ℕ) (a b rest : List ℕ) → from ≤ start → start ≤ length a → take start a ≡ take start b
+    → drop from (take start a ++ rest) ≡ slice_range b from start ++ rest
 rest_of_span from start a b rest h k e =
     let long : from ≤ length (take start a) = omega (arith, length-take-le start a k) in
     let gap : from + (start - from) ≡ start = omega arith in
@@ -49,7 +52,8 @@ rest_of_span from start a b rest h k e =
     (ap (drop from) e ∙ (ap (λ (n : ℕ). drop from (take n b)) (sym gap) ∙ drop-take from (start - from) b))
 
 -- what follows `from` is the pieces
-pub rest_is_pieces : (from : ℕ) (src : List ℕ) (edits : List Edit) → AreInOrder from (length src) edits → drop from (replaced src edits) ≡ pieces from src edits
+pub rest_is_pieces : (from : ℕ) (src : List ℕ) (edits : List Edit) → AreInOrder from (length src) edits
+    → drop from (replaced src edits) ≡ pieces from src edits
 rest_is_pieces from src [] h = refl
 rest_is_pieces from src (edit ∷ edits) h =
     let kept : take edit.end (replaced src edits) ≡ take edit.end src = front_stays edit.end src edits h.3 in
@@ -59,7 +63,8 @@ rest_is_pieces from src (edit ∷ edits) h =
     ∙ ap (λ (x : List ℕ). slice_range src from edit.start ++ (edit.text ++ x)) (rest_is_pieces edit.end src edits h.3)
 
 -- the pieces have this many bytes
-pub length-pieces : (from : ℕ) (src : List ℕ) (edits : List Edit) → AreInOrder from (length src) edits → length (pieces from src edits) ≡ pieces_len from (length src) edits
+pub length-pieces : (from : ℕ) (src : List ℕ) (edits : List Edit) → AreInOrder from (length src) edits
+    → length (pieces from src edits) ≡ pieces_len from (length src) edits
 length-pieces from src [] h = length-drop from src
 length-pieces from src (edit ∷ edits) h =
     omega (
@@ -72,11 +77,13 @@ length-pieces from src (edit ∷ edits) h =
     )
 
 -- the new source has this many bytes
-pub length-replaced : (src : List ℕ) (edits : List Edit) → AreInOrder 0 (length src) edits → length (replaced src edits) ≡ pieces_len 0 (length src) edits
+pub length-replaced : (src : List ℕ) (edits : List Edit) → AreInOrder 0 (length src) edits
+    → length (replaced src edits) ≡ pieces_len 0 (length src) edits
 length-replaced src edits h = ap length (rest_is_pieces 0 src edits h) ∙ length-pieces 0 src edits h
 
 -- the new source is short
-pub pieces_len-le : (from len : ℕ) (edits : List Edit) → AreInOrder from len edits → All HasShortText edits → pieces_len from len edits + 256 * from ≤ 256 * len
+pub pieces_len-le : (from len : ℕ) (edits : List Edit) → AreInOrder from len edits → All HasShortText edits
+    → pieces_len from len edits + 256 * from ≤ 256 * len
 pieces_len-le from len [] h t = omega arith
 pieces_len-le from len (edit ∷ edits) h t =
     let short : length edit.text ≤ 255 = t 0 edit (omega arith) in

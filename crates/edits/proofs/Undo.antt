@@ -1,5 +1,6 @@
 -- Inverse edits give the source back.
-use Rattle.std.proofs.Common.{◌≡◌, ℕ, suc, ◌+◌, ◌-◌, ◌<◌, ◌≤◌, List, [], ◌∷◌, ◌++◌, length, take, drop, refl, ap, sym, ◌∙◌, subst, arith, length-append, length-drop, append_assoc, All}
+use Rattle.std.proofs.Common.{◌≡◌, ℕ, suc, ◌+◌, ◌-◌, ◌<◌, ◌≤◌, List, [], ◌∷◌, ◌++◌, length, take, drop, refl, ap, sym, ◌∙◌, subst, arith}
+use Rattle.std.proofs.Common.{length-append, length-drop, append_assoc, All}
 use Rattle.std.specs.Prelude.{slice_range}
 use Rattle.std.proofs.lemmas.List.{length-take, take_at, drop_at}
 use Rattle.std.proofs.lemmas.List.Elements.{All-cons}
@@ -17,7 +18,8 @@ length-part src from end h = omega (arith, length-take (end - from) (drop from s
 put_back : (front text rest part : List ℕ) (start end : ℕ) → length front ≡ start → length front + length text ≡ end
     → take start ((front ++ text) ++ rest) ++ (part ++ drop end ((front ++ text) ++ rest)) ≡ front ++ (part ++ rest)
 put_back front text rest part start end s e =
-    let taken : take start ((front ++ text) ++ rest) ≡ front = ap (take start) (append_assoc front text rest) ∙ take_at front (text ++ rest) start s in
+    let taken : take start ((front ++ text) ++ rest) ≡ front = ap (take start) (append_assoc front text rest)
+    ∙ take_at front (text ++ rest) start s in
     let dropped : drop end ((front ++ text) ++ rest) ≡ rest = drop_at (front ++ text) rest end (length-append front text ∙ e) in
     ap (λ (x : List ℕ). x ++ (part ++ drop end ((front ++ text) ++ rest))) taken ∙ ap (λ (x : List ℕ). front ++ (part ++ x)) dropped
 
@@ -57,13 +59,19 @@ in_order src now from (edit ∷ edits) h small =
     let text : IsSmall edit = small 0 edit (omega arith) in
     let some : 0 < length edit.text = text.0 in
     let long : length (pieces from src (edit ∷ edits)) ≡ (edit.start - from) + length edit.text + length (pieces edit.end src edits)
-    = omega (arith, length-append kept (edit.text ++ pieces edit.end src edits), length-append edit.text (pieces edit.end src edits), length-part src from edit.start (omega arith)) in
+    = omega (
+      arith,
+      length-append kept (edit.text ++ pieces edit.end src edits),
+      length-append edit.text (pieces edit.end src edits),
+      length-part src from edit.start (omega arith),
+    ) in
     let whole : end + length (pieces edit.end src edits) ≡ now + length (pieces from src (edit ∷ edits)) = omega arith in
     let P : ℕ → Type 0 = λ n. AreInOrder end n (inverse_from end edit.end src edits) in
     (omega arith, omega arith, omega arith, subst P whole (in_order src end edit.end edits h.3 (λ k d below. small (suc k) d (omega arith))))
 
 -- what they put back is short
-short_texts : (src : List ℕ) (now from : ℕ) (edits : List Edit) → AreInOrder from (length src) edits → All IsSmall edits → All HasShortText (inverse_from now from src edits)
+short_texts : (src : List ℕ) (now from : ℕ) (edits : List Edit) → AreInOrder from (length src) edits → All IsSmall edits
+    → All HasShortText (inverse_from now from src edits)
 short_texts src now from [] h small = λ k d below. absurd (omega arith)
 short_texts src now from (edit ∷ edits) h small =
     let text : IsSmall edit = small 0 edit (omega arith) in

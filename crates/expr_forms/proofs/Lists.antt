@@ -14,11 +14,14 @@ use Rattle.expr_forms.specs.Forms.{wrapped_label, module_named}
 use Rattle.expr_parts.specs.Rows.{upper_word}
 
 module _ (d : ℕ) where
-  pub named_none : (ts : List Tok) (x : pure.ValueName) (ps : List Param) (r : List Tok) → length ps ≡ 0 → named_binding (read_expr d) d ts x (params ps) r ≡ plain_binding (read_expr d) d ts
+  pub named_none : (ts : List Tok) (x : pure.ValueName) (ps : List Param) (r : List Tok) → length ps ≡ 0
+      → named_binding (read_expr d) d ts x (params ps) r ≡ plain_binding (read_expr d) d ts
   named_none ts x [] r h = refl
   named_none ts x (p ∷ ps) r h = absurd (omega arith)
 
-  pub named_some : (ts : List Tok) (x : pure.ValueName) (ps : List Param) (r : List Tok) → 0 < length ps → named_binding (read_expr d) d ts x (params ps) r ≡ (bound (read_expr d) d r >>= λ v. Some (pure.AppliedBinding x (params ps) v.0.0 v.0.1 v.0.2, v.1))
+  pub named_some : (ts : List Tok) (x : pure.ValueName) (ps : List Param) (r : List Tok) → 0 < length ps
+      → named_binding (read_expr d) d ts x
+      (params ps) r ≡ (bound (read_expr d) d r >>= λ v. Some (pure.AppliedBinding x (params ps) v.0.0 v.0.1 v.0.2, v.1))
   named_some ts x [] r h = absurd (omega arith)
   named_some ts x (p ∷ ps) r h = refl
 
@@ -26,7 +29,9 @@ module _ (d : ℕ) where
   fun_none at [] r h = refl
   fun_none at (p ∷ ps) r h = absurd (omega arith)
 
-  pub fun_some : (at : ℕ) (ps : List Param) (r : List Tok) → 0 < length ps → fun_end (read_expr d) d at (params ps) r ≡ (expect key.Arrow r >>= λ r'. read_expr d wanted.Sequence r' >>= λ e. Some (pure.Fun at (params ps) e.0, e.1))
+  pub fun_some : (at : ℕ) (ps : List Param) (r : List Tok) → 0 < length ps
+      → fun_end (read_expr d) d at (params ps) r
+      ≡ (expect key.Arrow r >>= λ r'. read_expr d wanted.Sequence r' >>= λ e. Some (pure.Fun at (params ps) e.0, e.1))
   fun_some at [] r h = absurd (omega arith)
   fun_some at (p ∷ ps) r h = refl
 
@@ -34,11 +39,13 @@ module _ (d : ℕ) where
   types_none at [] r h = refl
   types_none at (x ∷ xs) r h = absurd (omega arith)
 
-  pub types_some : (at : ℕ) (xs : List Word) (r : List Tok) → 0 < length xs → types_end (read_expr d) d at (view_words xs, r) ≡ (expect key.RightParen r >>= λ r'. Some (pure.TypesParam at (view_words xs), r'))
+  pub types_some : (at : ℕ) (xs : List Word) (r : List Tok) → 0 < length xs
+      → types_end (read_expr d) d at (view_words xs, r) ≡ (expect key.RightParen r >>= λ r'. Some (pure.TypesParam at (view_words xs), r'))
   types_some at [] r h = absurd (omega arith)
   types_some at (x ∷ xs) r h = refl
 
-  pub wrapped_by : (at : ℕ) (b : Bool) (ts : List Tok) → wrapped_param (read_expr d) d at b ts ≡ (expect_at key.LeftParen ts >>= λ q. wrapped_label d at b q.0 q.1)
+  pub wrapped_by : (at : ℕ) (b : Bool) (ts : List Tok)
+      → wrapped_param (read_expr d) d at b ts ≡ (expect_at key.LeftParen ts >>= λ q. wrapped_label d at b q.0 q.1)
   unfolding wrapped_param
   wrapped_by at b (placed key.LeftParen at' ∷ word class.Lower x ∷ ts) = refl
   wrapped_by at b (placed key.LeftParen at' ∷ _) = refl

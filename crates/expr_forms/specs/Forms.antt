@@ -27,7 +27,8 @@ default_end d x at p run ts = do
 
 -- after a `~` or a `?` and a `(`
 abbrev pub wrapped_label : ℕ → ℕ → Bool → ℕ → Read Param
-wrapped_label d at optional at' ts = lower_word ts >>= λ x. wrapped_end (read_expr d) d at optional at' x.0 (optional_type x.1).0 (optional_type x.1).1
+wrapped_label d at optional at' ts = lower_word ts >>= λ x. wrapped_end (read_expr d) d at optional at' x.0 (optional_type x.1).0
+    (optional_type x.1).1
 
 -- after the `=` of a `let module`
 abbrev pub module_in : ℕ → ℕ → ℕ → Name → ℕ → Read Expr

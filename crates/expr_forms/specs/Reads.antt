@@ -12,7 +12,10 @@ use Rattle.parse_base.specs.Gives.{from, Gives}
 use Rattle.expr_reading.specs.declared.wanted.Wanted.{Wanted}
 use Rattle.expr_reading.specs.ExprReading.{read_expr}
 
-pub record Nests (depth : ℕ) (pre : Global → Bor (List Token) → ℕ → ℕ → Wanted → ℕ → Type 0) (post : Global → Bor (List Token) → ℕ → ℕ → Wanted → ℕ → Result (Box Source × ℕ) ReadError → Type 0) : Type 0 where
-  pub callable : (alloc : Global) (ts : Bor (List Token)) (levels : ℕ) (w : Wanted) (at : ℕ) → length ts.now ≤ max_file_bytes → pre alloc ts depth levels w at
-  pub reads : (alloc : Global) (ts : Bor (List Token)) (levels : ℕ) (w : Wanted) (at : ℕ) (r : Result (Box Source × ℕ) ReadError) → post alloc ts depth levels w at r
+pub record Nests (depth : ℕ) (pre : Global → Bor (List Token) → ℕ → ℕ → Wanted → ℕ → Type 0)
+    (post : Global → Bor (List Token) → ℕ → ℕ → Wanted → ℕ → Result (Box Source × ℕ) ReadError → Type 0) : Type 0 where
+  pub callable : (alloc : Global) (ts : Bor (List Token)) (levels : ℕ) (w : Wanted) (at : ℕ) → length ts.now ≤ max_file_bytes
+      → pre alloc ts depth levels w at
+  pub reads : (alloc : Global) (ts : Bor (List Token)) (levels : ℕ) (w : Wanted) (at : ℕ) (r : Result (Box Source × ℕ) ReadError)
+      → post alloc ts depth levels w at r
       → Gives (λ x. (view x.0.value, from ts.now x.1)) r (read_expr depth w (from ts.now at))

@@ -1,5 +1,6 @@
 -- The right edge of an expression whose last part is in a `Vec`.
-use Rattle.std.proofs.Common.{◌≡◌, ℕ, zero, suc, ◌-◌, ◌<◌, List, [], ◌∷◌, ◌++◌, length, Bool, true, false, Option, Some, None, refl, sym, ap, ◌∙◌, arith}
+use Rattle.std.proofs.Common.{◌≡◌, ℕ, zero, suc, ◌-◌, ◌<◌, List, [], ◌∷◌, ◌++◌, length, Bool, true, false, Option, Some, None, refl, sym, ap, ◌∙◌}
+use Rattle.std.proofs.Common.{arith}
 use Rattle.std.specs.List.{slice_get}
 use Rattle.ml_syntax.specs.declared.word.Word.{Word}
 use Rattle.ml_syntax.specs.declared.expression.Case.{Case}
@@ -62,7 +63,8 @@ module _ (q : Expr → Bool) where
   ops_last b [] x = refl
   ops_last b (y ∷ ys) x = ops_last (on_edge q (view y.1)) ys x
 
-  pub ops_end : (b : Bool) (xs : List (Word × Source)) (x : Word × Source) → slice_get xs (length xs - 1) ≡ Some x → on_links q b (ops xs) ≡ on_edge q (view x.1)
+  pub ops_end : (b : Bool) (xs : List (Word × Source)) (x : Word × Source) → slice_get xs (length xs - 1) ≡ Some x
+      → on_links q b (ops xs) ≡ on_edge q (view x.1)
   ops_end b xs x h = let r = last_is xs x h in ap (λ l. on_links q b (ops l)) r.1 ∙ ops_last b r.0 x
 
   pub ops_none : (b : Bool) (xs : List (Word × Source)) → slice_get xs (length xs - 1) ≡ None → on_links q b (ops xs) ≡ b
@@ -82,7 +84,8 @@ module _ (q : Expr → Bool) where
   tail_last b [] x = refl
   tail_last b (y ∷ ys) x = tail_last (on_edge q (view y.then)) ys x
 
-  pub tail_end : (b : Bool) (xs : List Branch) (x : Branch) → slice_get xs (length xs - 1) ≡ Some x → on_tail q b (tail_before pure.no_else xs) ≡ on_edge q (view x.then)
+  pub tail_end : (b : Bool) (xs : List Branch) (x : Branch) → slice_get xs (length xs - 1) ≡ Some x
+      → on_tail q b (tail_before pure.no_else xs) ≡ on_edge q (view x.then)
   tail_end b xs x h = let r = last_is xs x h in ap (λ l. on_tail q b (tail_before pure.no_else l)) r.1 ∙ tail_last b r.0 x
 
   pub tail_none : (b : Bool) (xs : List Branch) → slice_get xs (length xs - 1) ≡ None → on_tail q b (tail_before pure.no_else xs) ≡ b
@@ -96,41 +99,49 @@ edge_seq edge.If e es = refl
 edge_seq edge.OpenIf e es = refl
 edge_seq edge.Cases e es = refl
 
-pub edge_chain : (q : Edge) (n : ℕ) (e : Expr) (es : Links) → on_edge (test_of q) (pure.Chain n e es) ≡ on_links (test_of q) (on_edge (test_of q) e) es
+pub edge_chain : (q : Edge) (n : ℕ) (e : Expr) (es : Links) → on_edge (test_of q) (pure.Chain n e es) ≡ on_links (test_of q)
+    (on_edge (test_of q) e) es
 edge_chain edge.Form n e es = refl
 edge_chain edge.If n e es = refl
 edge_chain edge.OpenIf n e es = refl
 edge_chain edge.Cases n e es = refl
 
 module _ (q : Edge) (form : q ≡ edge.Form → ⊥) (several : q ≡ edge.Cases → ⊥) where
-  pub edge_function : (at : ℕ) (bar : Bool) (c : pure.Case) (cs : pure.Cases) → on_edge (test_of q) (pure.Function at bar c cs) ≡ on_cases (test_of q) (on_body (test_of q) c) cs
+  pub edge_function : (at : ℕ) (bar : Bool) (c : pure.Case) (cs : pure.Cases) → on_edge (test_of q) (pure.Function at bar c cs) ≡ on_cases (test_of q)
+      (on_body (test_of q) c) cs
   edge_function at bar c cs = by q form several
     where
-      by : (k : Edge) → (k ≡ edge.Form → ⊥) → (k ≡ edge.Cases → ⊥) → on_edge (test_of k) (pure.Function at bar c cs) ≡ on_cases (test_of k) (on_body (test_of k) c) cs
+      by : (k : Edge) → (k ≡ edge.Form → ⊥) → (k ≡ edge.Cases → ⊥) → on_edge (test_of k) (pure.Function at bar c cs) ≡ on_cases (test_of k)
+          (on_body (test_of k) c) cs
       by edge.Form x y = absurd (x refl)
       by edge.If x y = refl
       by edge.OpenIf x y = refl
       by edge.Cases x y = absurd (y refl)
 
-  pub edge_match : (at : ℕ) (e : Expr) (bar : Bool) (c : pure.Case) (cs : pure.Cases) → on_edge (test_of q) (pure.Match at e bar c cs) ≡ on_cases (test_of q) (on_body (test_of q) c) cs
+  pub edge_match : (at : ℕ) (e : Expr) (bar : Bool) (c : pure.Case) (cs : pure.Cases) → on_edge (test_of q) (pure.Match at e bar c cs) ≡ on_cases
+      (test_of q) (on_body (test_of q) c) cs
   edge_match at e bar c cs = by q form several
     where
-      by : (k : Edge) → (k ≡ edge.Form → ⊥) → (k ≡ edge.Cases → ⊥) → on_edge (test_of k) (pure.Match at e bar c cs) ≡ on_cases (test_of k) (on_body (test_of k) c) cs
+      by : (k : Edge) → (k ≡ edge.Form → ⊥) → (k ≡ edge.Cases → ⊥) → on_edge (test_of k) (pure.Match at e bar c cs) ≡ on_cases (test_of k)
+          (on_body (test_of k) c) cs
       by edge.Form x y = absurd (x refl)
       by edge.If x y = refl
       by edge.OpenIf x y = refl
       by edge.Cases x y = absurd (y refl)
 
-  pub edge_try : (at : ℕ) (e : Expr) (bar : Bool) (c : pure.Case) (cs : pure.Cases) → on_edge (test_of q) (pure.Try at e bar c cs) ≡ on_cases (test_of q) (on_body (test_of q) c) cs
+  pub edge_try : (at : ℕ) (e : Expr) (bar : Bool) (c : pure.Case) (cs : pure.Cases)
+      → on_edge (test_of q) (pure.Try at e bar c cs) ≡ on_cases (test_of q) (on_body (test_of q) c) cs
   edge_try at e bar c cs = by q form several
     where
-      by : (k : Edge) → (k ≡ edge.Form → ⊥) → (k ≡ edge.Cases → ⊥) → on_edge (test_of k) (pure.Try at e bar c cs) ≡ on_cases (test_of k) (on_body (test_of k) c) cs
+      by : (k : Edge) → (k ≡ edge.Form → ⊥) → (k ≡ edge.Cases → ⊥) → on_edge (test_of k) (pure.Try at e bar c cs) ≡ on_cases (test_of k)
+          (on_body (test_of k) c) cs
       by edge.Form x y = absurd (x refl)
       by edge.If x y = refl
       by edge.OpenIf x y = refl
       by edge.Cases x y = absurd (y refl)
 
-edge_if : (q : Edge) (at : ℕ) (c a : Expr) (tail : pure.Tail) → (q ≡ edge.If → ⊥) → (q ≡ edge.OpenIf → has_else tail ≡ true) → on_edge (test_of q) (pure.If at c a tail) ≡ on_tail (test_of q) (on_edge (test_of q) a) tail
+edge_if : (q : Edge) (at : ℕ) (c a : Expr) (tail : pure.Tail) → (q ≡ edge.If → ⊥) → (q ≡ edge.OpenIf → has_else tail ≡ true)
+    → on_edge (test_of q) (pure.If at c a tail) ≡ on_tail (test_of q) (on_edge (test_of q) a) tail
 edge_if edge.Form at c a tail x y = refl
 edge_if edge.If at c a tail x y = absurd (x refl)
 edge_if edge.OpenIf at c a tail x y = rw (y refl) refl
@@ -151,10 +162,12 @@ tail_else q b e (x ∷ xs) = tail_else q (on_edge q (view x.then)) e xs
 pub if_open : (at : ℕ) (c a : Expr) (xs : List Branch) → true ≡ on_edge is_open_if (pure.If at c a (tail_before pure.no_else xs))
 if_open at c a xs = rw (no_else_before xs) refl
 
-pub if_other : (q : Edge) (at : ℕ) (c a e : Expr) (xs : List Branch) → (q ≡ edge.If → ⊥) → on_edge (test_of q) (pure.If at c a (tail_before (pure.or_else e) xs)) ≡ on_edge (test_of q) e
+pub if_other : (q : Edge) (at : ℕ) (c a e : Expr) (xs : List Branch) → (q ≡ edge.If → ⊥)
+    → on_edge (test_of q) (pure.If at c a (tail_before (pure.or_else e) xs)) ≡ on_edge (test_of q) e
 if_other q at c a e xs x = edge_if q at c a (tail_before (pure.or_else e) xs) x (λ _. else_before e xs) ∙ tail_else (test_of q) _ e xs
 
-pub if_none : (q : Edge) (at : ℕ) (c a : Expr) (xs : List Branch) → (q ≡ edge.If → ⊥) → (q ≡ edge.OpenIf → ⊥) → on_edge (test_of q) (pure.If at c a (tail_before pure.no_else xs)) ≡ on_tail (test_of q) (on_edge (test_of q) a) (tail_before pure.no_else xs)
+pub if_none : (q : Edge) (at : ℕ) (c a : Expr) (xs : List Branch) → (q ≡ edge.If → ⊥) → (q ≡ edge.OpenIf → ⊥)
+    → on_edge (test_of q) (pure.If at c a (tail_before pure.no_else xs)) ≡ on_tail (test_of q) (on_edge (test_of q) a) (tail_before pure.no_else xs)
 if_none q at c a xs x y = edge_if q at c a (tail_before pure.no_else xs) x (λ h. absurd (y h))
 
 -- ---- the last of a row

@@ -8,12 +8,15 @@ use Rattle.ml_syntax.specs.declared.expression.LocalArgument.{LocalArgument}
 use Rattle.ml_syntax.specs.declared.expression.LocalArgument.TheBlock as l
 use Rattle.ml_syntax.specs.declared.fixed.Fixed.TheVariants as key
 use Rattle.ml_syntax.specs.Tok.{Name, Tok, fixed, word}
-use Rattle.ml_syntax.specs.Tree.{no_part, more_part, Expr, Constr, Tag, ConstrApply, TagApply, LocalPath, Links, no_link, Field, Fields, no_field, more_field}
+use Rattle.ml_syntax.specs.Tree.{no_part, more_part, Expr, Constr, Tag, ConstrApply, TagApply, LocalPath, Links, no_link, Field, Fields, no_field}
+use Rattle.ml_syntax.specs.Tree.{more_field}
 use Rattle.ml_syntax.specs.WellFormed.{op_level, is_constr}
 use Rattle.ml_syntax.specs.View.{view, view_tok, view_path, view_locals}
 use Rattle.parse_base.specs.Steps.{Read, ◌>>=◌, expect, many_if, always}
 use Rattle.expr_reading.specs.declared.wanted.Wanted.TheVariants as wanted
-use Rattle.expr_reading.specs.ExprReading.{part_behind, grown_postfix, grown_seq, tier, operator_part, goes_on, cons_operand, grown_chain, read_expr, expr, enclosed, closed_by, no_form, last_of, ends_field, last_field, next_field, semicolon_if, semicolon_part, cons_link, LocalPart, given_module, given_none, Otherwise, if_branch}
+use Rattle.expr_reading.specs.ExprReading.{part_behind, grown_postfix, grown_seq, tier, operator_part, goes_on, cons_operand, grown_chain, read_expr}
+use Rattle.expr_reading.specs.ExprReading.{expr, enclosed, closed_by, no_form, last_of, ends_field, last_field, next_field, semicolon_if}
+use Rattle.expr_reading.specs.ExprReading.{semicolon_part, cons_link, LocalPart, given_module, given_none, Otherwise, if_branch}
 
 -- a name of class Upper
 abbrev pub upper_word : Read Name

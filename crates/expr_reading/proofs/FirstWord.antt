@@ -6,9 +6,12 @@ use Rattle.ml_syntax.specs.declared.fixed.Fixed.TheVariants as key
 use Rattle.ml_syntax.specs.declared.word.Bracket.{Bracket}
 use Rattle.ml_syntax.specs.declared.word.Bracket.TheVariants as bracket
 use Rattle.ml_syntax.specs.Tok.{Name, Tok, fixed, placed, word}
-use Rattle.ml_syntax.specs.Words.{opening, truth, dotted_then, path_then, qualified_then, name_then, optional_then, expr_then, links_then, arguments_then, parts_then}
+use Rattle.ml_syntax.specs.Words.{opening, truth, dotted_then, path_then, qualified_then, name_then, optional_then, expr_then, links_then}
+use Rattle.ml_syntax.specs.Words.{arguments_then, parts_then}
 use Rattle.ml_syntax.specs.WellFormed.{Wf, level, is_operator, is_literal}
-use Rattle.ml_syntax.specs.Tree.{ValueName, PlainName, OperatorName, Expr, Seq, Let, LetOpen, LetModule, Fun, Function, Match, Try, If, Chain, Minus, Apply, ConstrApply, TagApply, Assert, Lazy, Postfix, Prefixed, Literal, BoolExpr, Value, Constr, Tag, UnitExpr, Paren, Typed, Coerced, EmptyBegin, Begin, EmptyList, ListExpr, Record, Opened, While, For}
+use Rattle.ml_syntax.specs.Tree.{ValueName, PlainName, OperatorName, Expr, Seq, Let, LetOpen, LetModule, Fun, Function, Match, Try, If, Chain, Minus}
+use Rattle.ml_syntax.specs.Tree.{Apply, ConstrApply, TagApply, Assert, Lazy, Postfix, Prefixed, Literal, BoolExpr, Value, Constr, Tag, UnitExpr}
+use Rattle.ml_syntax.specs.Tree.{Paren, Typed, Coerced, EmptyBegin, Begin, EmptyList, ListExpr, Record, Opened, While, For}
 
 -- words that can begin a Postfix
 abbrev pub begins_postfix : Tok → Bool
@@ -53,7 +56,8 @@ pub record Begins (ts : List Tok) : Type 0 where
   pub begins : begins_expr first ≡ true
   pub behind : is_operator first ≡ true → (t : Tok) × (r : List Tok) × (rest ≡ t ∷ r) × (begins_expr t ≡ true)
 
-no_operator : (t : Tok) (rest : List Tok) → is_operator t ≡ false → is_operator t ≡ true → (u : Tok) × (r : List Tok) × (rest ≡ u ∷ r) × (begins_expr u ≡ true)
+no_operator : (t : Tok) (rest : List Tok) → is_operator t ≡ false → is_operator t ≡ true → (u : Tok) × (r : List Tok) × (rest ≡ u ∷ r)
+    × (begins_expr u ≡ true)
 no_operator t rest e h = absurd cc
 
 begun : (t : Tok) (rest : List Tok) → begins_expr t ≡ true → is_operator t ≡ false → Begins (t ∷ rest)

@@ -5,8 +5,10 @@ use Rattle.ml_syntax.specs.declared.fixed.Fixed.{Fixed}
 use Rattle.ml_syntax.specs.declared.fixed.Fixed.TheVariants as key
 use Rattle.ml_syntax.specs.Tok.{Name, Tok, fixed, placed, word}
 use Rattle.ml_syntax.specs.Words.{expr_then}
-use Rattle.ml_syntax.specs.WellFormed.{level, op_level, infix_level, keyword_level, on_edge, on_body, on_links, on_cases, on_tail, is_form, is_if, is_open_if, has_cases, NoForm, Calm, NoOpenIf, is_constr, Wf}
-use Rattle.ml_syntax.specs.Tree.{LocalModule, Expr, Seq, Let, LetOpen, LetModule, Fun, Function, Match, Try, If, Chain, Minus, Links, no_link, more_link, Tail, no_else, or_else, or_if, Binding, Bindings, Case, CaseOf, Cases, no_case, more_case, Params}
+use Rattle.ml_syntax.specs.WellFormed.{level, op_level, infix_level, keyword_level, on_edge, on_body, on_links, on_cases, on_tail, is_form, is_if}
+use Rattle.ml_syntax.specs.WellFormed.{is_open_if, has_cases, NoForm, Calm, NoOpenIf, is_constr, Wf}
+use Rattle.ml_syntax.specs.Tree.{LocalModule, Expr, Seq, Let, LetOpen, LetModule, Fun, Function, Match, Try, If, Chain, Minus, Links, no_link}
+use Rattle.ml_syntax.specs.Tree.{more_link, Tail, no_else, or_else, or_if, Binding, Bindings, Case, CaseOf, Cases, no_case, more_case, Params}
 use Rattle.expr_reading.specs.ExprReading.{last_of}
 use Rattle.expr_reading.proofs.FirstWord.{begins_postfix, begins_expr, Begins, expr_begins, Starts}
 
@@ -76,7 +78,8 @@ fixed_begun k ts b = fixed_begins k ts (subst Begins (sym b.words) (expr_begins 
 
 -- ---- what stops
 
-pub closer_stops : (n : ℕ) (e : Expr) (k : Fixed) (r : List Tok) → grip (fixed k) ≡ 0 → (fixed k ≡ fixed key.Else → ⊥) → (fixed k ≡ fixed key.Bar → ⊥) → Goes n e (fixed k ∷ r) → ⊥
+pub closer_stops : (n : ℕ) (e : Expr) (k : Fixed) (r : List Tok) → grip (fixed k) ≡ 0 → (fixed k ≡ fixed key.Else → ⊥) → (fixed k ≡ fixed key.Bar → ⊥)
+    → Goes n e (fixed k ∷ r) → ⊥
 closer_stops n e k r z x y (by_level h) = absurd (omega (arith, h, z))
 closer_stops n e k r z x y (by_form p h) = absurd (omega (arith, h, z))
 closer_stops n e k r z x y (by_if p h) = absurd (omega (arith, h, z))

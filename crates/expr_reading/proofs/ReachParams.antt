@@ -1,6 +1,7 @@
 -- No expression is missed: what is read from its words and more is this expression, or goes farther. The beginning:
 -- what this says of an expression at each level, and module paths, parameters and names.
-use Rattle.std.proofs.Common.{◌≡◌, ◌≢◌, ℕ, zero, suc, ◌-◌, ◌<◌, ◌≤◌, inl, inr, List, [], ◌∷◌, ◌++◌, length, Bool, true, false, cond, Option, Some, None, refl, sym, ap, subst, ◌∙◌, arith}
+use Rattle.std.proofs.Common.{◌≡◌, ◌≢◌, ℕ, zero, suc, ◌-◌, ◌<◌, ◌≤◌, inl, inr, List, [], ◌∷◌, ◌++◌, length, Bool, true, false, cond, Option, Some}
+use Rattle.std.proofs.Common.{None, refl, sym, ap, subst, ◌∙◌, arith}
 use Rattle.rotor_base.specs.declared.token.Class.{Class}
 use Rattle.rotor_base.specs.declared.token.Class.TheVariants as class
 use Rattle.ml_syntax.specs.declared.fixed.Fixed.{Fixed}
@@ -9,9 +10,19 @@ use Rattle.ml_syntax.specs.declared.word.Bracket.TheVariants as bracket
 use Rattle.ml_syntax.specs.Tok.{Name, Tok, fixed, placed, word}
 use Rattle.expr_reading.specs.declared.wanted.Wanted.TheVariants as wanted
 use Rattle.ml_syntax.specs.Runs.{has_colon}
-use Rattle.ml_syntax.specs.Words.{wrap, path_then, name_then, names_then, type_then, pat_then, local_then, locals_then, lowers_then, expr_then, param_then, params_then}
-use Rattle.ml_syntax.specs.WellFormed.{WfName, WfType, WfPat, pat_level, is_operator, level, IsOperand, is_bracketed, WfLocal, WfLocals, Wf, WfParam, WfParams}
-use Rattle.ml_syntax.specs.Tree.{Pat, AsPat, OrPat, TuplePat, ConsPat, ConstrApplyPat, TagApplyPat, LazyPat, ExceptionPat, AnyPat, ValuePat, LiteralPat, NegativePat, RangePat, ConstrPat, TagPat, BoolPat, UnitPat, ParenPat, TypedPat, EmptyPat, ListPat, RecordPat, OpenedPat, no_pat, more_pat, ValueName, PlainName, OperatorName, LocalModule, LocalPath, LocalArguments, no_local, more_local, no_module, Expr, Links, no_link, more_link, MaybeExpr, no_expr, some_expr, Tail, no_else, or_else, or_if, Binding, PlainBinding, AppliedBinding, Bindings, no_binding, more_binding, Case, CaseOf, Cases, no_case, more_case, Argument, Positional, LabelPun, Labelled, Arguments, no_argument, more_argument, Param, PatternParam, LabelParam, LabelPattern, DefaultParam, WrappedParam, WrappedDefault, TypesParam, Params, no_param, more_param, Part, LabelPart, IndexPart, CharPart, Parts, no_part, more_part, Field, FieldPun, AssignedField, Fields, no_field, more_field}
+use Rattle.ml_syntax.specs.Words.{wrap, path_then, name_then, names_then, type_then, pat_then, local_then, locals_then, lowers_then, expr_then}
+use Rattle.ml_syntax.specs.Words.{param_then, params_then}
+use Rattle.ml_syntax.specs.WellFormed.{WfName, WfType, WfPat, pat_level, is_operator, level, IsOperand, is_bracketed, WfLocal, WfLocals, Wf, WfParam}
+use Rattle.ml_syntax.specs.WellFormed.{WfParams}
+use Rattle.ml_syntax.specs.Tree.{Pat, AsPat, OrPat, TuplePat, ConsPat, ConstrApplyPat, TagApplyPat, LazyPat, ExceptionPat, AnyPat, ValuePat}
+use Rattle.ml_syntax.specs.Tree.{LiteralPat, NegativePat, RangePat, ConstrPat, TagPat, BoolPat, UnitPat, ParenPat, TypedPat, EmptyPat, ListPat}
+use Rattle.ml_syntax.specs.Tree.{RecordPat, OpenedPat, no_pat, more_pat, ValueName, PlainName, OperatorName, LocalModule, LocalPath, LocalArguments}
+use Rattle.ml_syntax.specs.Tree.{no_local, more_local, no_module, Expr, Links, no_link, more_link, MaybeExpr, no_expr, some_expr, Tail, no_else}
+use Rattle.ml_syntax.specs.Tree.{or_else, or_if, Binding, PlainBinding, AppliedBinding, Bindings, no_binding, more_binding, Case, CaseOf, Cases}
+use Rattle.ml_syntax.specs.Tree.{no_case, more_case, Argument, Positional, LabelPun, Labelled, Arguments, no_argument, more_argument, Param}
+use Rattle.ml_syntax.specs.Tree.{PatternParam, LabelParam, LabelPattern, DefaultParam, WrappedParam, WrappedDefault, TypesParam, Params, no_param}
+use Rattle.ml_syntax.specs.Tree.{more_param, Part, LabelPart, IndexPart, CharPart, Parts, no_part, more_part, Field, FieldPun, AssignedField, Fields}
+use Rattle.ml_syntax.specs.Tree.{no_field, more_field}
 use Rattle.parse_base.specs.Steps.{Read, ◌>>=◌, expect, many, always}
 use Rattle.parse_base.specs.Pieces.{dot_upper, lower_word, operator_at, value_name}
 use Rattle.parse_base.specs.PatReading.{simple_pat, read_pat, closed_by as pat_closed_by}
@@ -22,7 +33,9 @@ use Rattle.parse_base.proofs.LongerPat.{begins_pat, Opens, pat_opens, pat_longer
 use Rattle.parse_base.proofs.ReachPieces.{uppers_reach, name_read, type_run_read, type_read}
 use Rattle.parse_base.proofs.ReachSimple.{grip as pat_grip, Goes as PatGoes, paren_else}
 use Rattle.parse_base.proofs.ReachPat.{pat_reach, simple_reach}
-use Rattle.expr_reading.specs.ExprReading.{cons_local, upper_path, local_part, local_parts, local_module, read_local, simple_at, enclosed, prefixed, postfix, default_param, wrapped_param, param, more_params, plain_binding, binding_by, binding, tier, seq, read_expr, LocalPart, given_module, given_none}
+use Rattle.expr_reading.specs.ExprReading.{cons_local, upper_path, local_part, local_parts, local_module, read_local, simple_at, enclosed, prefixed}
+use Rattle.expr_reading.specs.ExprReading.{postfix, default_param, wrapped_param, param, more_params, plain_binding, binding_by, binding, tier, seq}
+use Rattle.expr_reading.specs.ExprReading.{read_expr, LocalPart, given_module, given_none}
 use Rattle.expr_reading.proofs.LongerExpr.{lowers_more, local_more, expr_more, param_more, path_strict, expr_longer}
 use Rattle.expr_reading.proofs.FoundExpr.{IsLocalPart, local_part_found, local_found, param_found, expr_reads, is_given, is_none}
 use Rattle.expr_reading.proofs.GoesExpr.{grip, Holds, Goes, closer_stops, AtDot}
@@ -45,9 +58,11 @@ seq_at f = seq (read_expr f) f
 -- what is read at each level from the words of an expression and more
 pub record Good (e : Expr) : Type 0 where
   pub encloseds : is_bracketed e ≡ true → Wf e → (f : ℕ) (r : List Tok) → length (expr_then e r) ≤ suc f → enclosed_at f (expr_then e r) ≡ Some (e, r)
-  pub prefixeds : 15 < level e → Wf e → (f : ℕ) (r : List Tok) → length (expr_then e r) ≤ suc f → Reach (AtDot e r) e r (prefixed_at f (expr_then e r))
+  pub prefixeds : 15 < level e → Wf e → (f : ℕ) (r : List Tok) → length (expr_then e r) ≤ suc f
+      → Reach (AtDot e r) e r (prefixed_at f (expr_then e r))
   pub posts : 14 < level e → Wf e → (f : ℕ) (r : List Tok) → length (expr_then e r) ≤ suc f → Reach (Holds 15 r) e r (postfix_at f (expr_then e r))
-  pub tiers : (d : ℕ) → d ≤ 10 → IsOperand (12 - d) e → Wf e → (f : ℕ) (r : List Tok) → length (expr_then e r) ≤ suc f → Reach (Goes (13 - d) e r) e r (tier_at f d (expr_then e r))
+  pub tiers : (d : ℕ) → d ≤ 10 → IsOperand (12 - d) e → Wf e → (f : ℕ) (r : List Tok) → length (expr_then e r) ≤ suc f
+      → Reach (Goes (13 - d) e r) e r (tier_at f d (expr_then e r))
   pub seqs : Wf e → (f : ℕ) (r : List Tok) → length (expr_then e r) ≤ suc f → Reach (Goes 0 e r) e r (seq_at f (expr_then e r))
 
 abbrev pub AllLinks : (Expr → Type 0) → Links → Type 0
@@ -118,7 +133,8 @@ GoodFields (more_field f fs) = GoodField f × GoodFields fs
 
 -- ---- through the knot
 
-pub sub_seq : (e : Expr) → Good e → Wf e → (f : ℕ) (r : List Tok) → length (expr_then e r) ≤ f → Reach (Goes 0 e r) e r (read_expr f wanted.Sequence (expr_then e r))
+pub sub_seq : (e : Expr) → Good e → Wf e → (f : ℕ) (r : List Tok) → length (expr_then e r) ≤ f
+    → Reach (Goes 0 e r) e r (read_expr f wanted.Sequence (expr_then e r))
 unfolding read_expr
 sub_seq e g w zero r len = absurd (omega (arith, len, expr_longer e r w))
 sub_seq e g w (suc f) r len = g.seqs w f r len
@@ -132,31 +148,39 @@ operand_of e h = by (level e) refl
     by (suc (suc zero)) q = inr (h, omega (arith, q))
     by (suc (suc (suc n))) q = inl (omega (arith, q))
 
-pub sub_expr : (e : Expr) → Good e → 0 < level e → Wf e → (f : ℕ) (r : List Tok) → length (expr_then e r) ≤ f → Reach (Goes 3 e r) e r (read_expr f wanted.Expression (expr_then e r))
+pub sub_expr : (e : Expr) → Good e → 0 < level e → Wf e → (f : ℕ) (r : List Tok) → length (expr_then e r) ≤ f
+    → Reach (Goes 3 e r) e r (read_expr f wanted.Expression (expr_then e r))
 unfolding read_expr
 sub_expr e g h w zero r len = absurd (omega (arith, len, expr_longer e r w))
 sub_expr e g h w (suc f) r len = g.tiers 10 (omega arith) (operand_of e h) w f r len
 
-pub sub_operand : (e : Expr) → Good e → IsOperand 12 e → Wf e → (f : ℕ) (r : List Tok) → length (expr_then e r) ≤ f → Reach (Goes 13 e r) e r (read_expr f wanted.Operand (expr_then e r))
+pub sub_operand : (e : Expr) → Good e → IsOperand 12 e → Wf e → (f : ℕ) (r : List Tok) → length (expr_then e r) ≤ f
+    → Reach (Goes 13 e r) e r (read_expr f wanted.Operand (expr_then e r))
 unfolding read_expr tier
 sub_operand e g h w zero r len = absurd (omega (arith, len, expr_longer e r w))
 sub_operand e g h w (suc f) r len = g.tiers 0 (omega arith) h w f r len
 
-pub sub_postfix : (e : Expr) → Good e → 14 < level e → Wf e → (f : ℕ) (r : List Tok) → length (expr_then e r) ≤ f → Reach (Holds 15 r) e r (read_expr f wanted.Postfix (expr_then e r))
+pub sub_postfix : (e : Expr) → Good e → 14 < level e → Wf e → (f : ℕ) (r : List Tok) → length (expr_then e r) ≤ f
+    → Reach (Holds 15 r) e r (read_expr f wanted.Postfix (expr_then e r))
 unfolding read_expr
 sub_postfix e g h w zero r len = absurd (omega (arith, len, expr_longer e r w))
 sub_postfix e g h w (suc f) r len = g.posts h w f r len
 
-pub sub_prefixed : (e : Expr) → Good e → 15 < level e → Wf e → (f : ℕ) (r : List Tok) → length (expr_then e r) ≤ f → Reach (AtDot e r) e r (read_expr f wanted.Prefixed (expr_then e r))
+pub sub_prefixed : (e : Expr) → Good e → 15 < level e → Wf e → (f : ℕ) (r : List Tok) → length (expr_then e r) ≤ f
+    → Reach (AtDot e r) e r (read_expr f wanted.Prefixed (expr_then e r))
 unfolding read_expr
 sub_prefixed e g h w zero r len = absurd (omega (arith, len, expr_longer e r w))
 sub_prefixed e g h w (suc f) r len = g.prefixeds h w f r len
 
 -- followed by a word that ends an expression
-pub seq_exact : (e : Expr) → Good e → Wf e → (f : ℕ) (k : Fixed) (r : List Tok) → grip (fixed k) ≡ 0 → (fixed k ≡ fixed key.Else → ⊥) → (fixed k ≡ fixed key.Bar → ⊥) → length (expr_then e (fixed k ∷ r)) ≤ f → read_expr f wanted.Sequence (expr_then e (fixed k ∷ r)) ≡ Some (e, fixed k ∷ r)
+pub seq_exact : (e : Expr) → Good e → Wf e → (f : ℕ) (k : Fixed) (r : List Tok) → grip (fixed k) ≡ 0 → (fixed k ≡ fixed key.Else → ⊥)
+    → (fixed k ≡ fixed key.Bar → ⊥) → length (expr_then e (fixed k ∷ r)) ≤ f → read_expr f wanted.Sequence (expr_then e (fixed k ∷ r)) ≡ Some
+    (e, fixed k ∷ r)
 seq_exact e g w f k r z x y len = stop (closer_stops 0 e k r z x y) (sub_seq e g w f (fixed k ∷ r) len)
 
-pub expr_exact : (e : Expr) → Good e → 0 < level e → Wf e → (f : ℕ) (k : Fixed) (r : List Tok) → grip (fixed k) ≡ 0 → (fixed k ≡ fixed key.Else → ⊥) → (fixed k ≡ fixed key.Bar → ⊥) → length (expr_then e (fixed k ∷ r)) ≤ f → read_expr f wanted.Expression (expr_then e (fixed k ∷ r)) ≡ Some (e, fixed k ∷ r)
+pub expr_exact : (e : Expr) → Good e → 0 < level e → Wf e → (f : ℕ) (k : Fixed) (r : List Tok) → grip (fixed k) ≡ 0 → (fixed k ≡ fixed key.Else → ⊥)
+    → (fixed k ≡ fixed key.Bar → ⊥) → length (expr_then e (fixed k ∷ r)) ≤ f → read_expr f wanted.Expression (expr_then e (fixed k ∷ r)) ≡ Some
+    (e, fixed k ∷ r)
 expr_exact e g h w f k r z x y len = stop (closer_stops 3 e k r z x y) (sub_expr e g h w f (fixed k ∷ r) len)
 
 pub pat_exact : (p : Pat) → WfPat p → (f : ℕ) (r : List Tok) → (PatGoes 0 r → ⊥) → length (pat_then p r) ≤ f → read_pat f (pat_then p r) ≡ Some (p, r)
@@ -164,7 +188,8 @@ pat_exact p w f r never len = stop never (pat_reach p w f r len)
 
 -- ---- module paths
 
-pub path_read : (f : ℕ) (path : List Name) (r : List Tok) → path ≢ [] → length (path_then path r) ≤ suc f → dot_upper r ≡ None → upper_path f (path_then path r) ≡ Some (path, r)
+pub path_read : (f : ℕ) (path : List Name) (r : List Tok) → path ≢ [] → length (path_then path r) ≤ suc f → dot_upper r ≡ None
+    → upper_path f (path_then path r) ≡ Some (path, r)
 path_read f [] r some len none = absurd (some refl)
 path_read f (y ∷ ys) r some len none =
     let more = some_is (stop {C = ⊥} (λ c. c) (uppers_reach ⊥ ys r f (omega (arith, len)) (λ x e. let q = sym none ∙ e in absurd cc))) in
@@ -192,14 +217,17 @@ part_shorter _ ts r (is_none at _ _ q) = omega (arith, ap length q)
 local_shorter : (f : ℕ) (ts : List Tok) (x : LocalPart × List Tok) → local_part (read_local f) ts ≡ Some x → length x.1 < length ts
 local_shorter f ts x e = part_shorter x.0 ts x.1 (local_part_found (read_local f) (local_found f) ts x e)
 
-local_first : (sub : Read LocalModule) (at : ℕ) (m : LocalModule) (k : List Tok) → WfLocal m → local_part sub (placed key.LeftParen at ∷ local_then m k) ≡ (sub (local_then m k) >>= λ m. expect key.RightParen m.1 >>= λ r. Some (given_module at m.0, r))
+local_first : (sub : Read LocalModule) (at : ℕ) (m : LocalModule) (k : List Tok) → WfLocal m
+    → local_part sub (placed key.LeftParen at ∷ local_then m k)
+    ≡ (sub (local_then m k) >>= λ m. expect key.RightParen m.1 >>= λ r. Some (given_module at m.0, r))
 local_first sub at (LocalPath [] ms) k w = absurd (w.0 refl)
 local_first sub at (LocalPath (x ∷ xs) ms) k w = refl
 
 mutual
   unfolding read_local local_module
 
-  pub local_read : (m : LocalModule) → WfLocal m → (f : ℕ) (k : List Tok) → EndsLocal k → length (local_then m k) ≤ f → read_local f (local_then m k) ≡ Some (m, k)
+  pub local_read : (m : LocalModule) → WfLocal m → (f : ℕ) (k : List Tok) → EndsLocal k → length (local_then m k) ≤ f
+      → read_local f (local_then m k) ≡ Some (m, k)
   local_read (LocalPath path ms) w zero k ends len = absurd (omega (arith, len, path_strict path (locals_then ms k) w.0))
   local_read (LocalPath path ms) w (suc f) k ends len =
       let shorter = path_strict path (locals_then ms k) w.0 in
@@ -207,19 +235,24 @@ mutual
       let m = some_is (stop {C = ⊥} (λ c. c) (locals_read ms w.1 f k ends f (omega (arith, len, shorter)) (omega arith))) in
       rw (p, m) refl
 
-  locals_read : (ms : LocalArguments) → WfLocals ms → (f : ℕ) (k : List Tok) → EndsLocal k → (n : ℕ) → length (locals_then ms k) ≤ n → n ≤ f → Reach ⊥ ms k (Some (local_parts (read_local f) n (locals_then ms k)))
-  locals_read no_local w f k ends n len le = no_turn no_local cons_local always (local_part (read_local f)) (local_shorter f) ⊥ true k (length k) n (λ _ x e. let q = sym (no_local_part (read_local f) k ends) ∙ e in absurd cc)
+  locals_read : (ms : LocalArguments) → WfLocals ms → (f : ℕ) (k : List Tok) → EndsLocal k → (n : ℕ) → length (locals_then ms k) ≤ n → n ≤ f
+      → Reach ⊥ ms k (Some (local_parts (read_local f) n (locals_then ms k)))
+  locals_read no_local w f k ends n len le = no_turn no_local cons_local always (local_part (read_local f)) (local_shorter f) ⊥ true k (length k) n
+      (λ _ x e. let q = sym (no_local_part (read_local f) k ends) ∙ e in absurd cc)
   locals_read (more_local at m ms) w f k ends zero len le = absurd (omega (arith, len))
   locals_read (more_local at m ms) w f k ends (suc n) len le =
       let rest : List Tok = locals_then ms k in
       let longer = local_more m (fixed key.RightParen ∷ rest) in
       let inside = local_read m w.0 f (fixed key.RightParen ∷ rest) (at_paren rest) (omega (arith, len, le)) in
-      let part : local_part (read_local f) (placed key.LeftParen at ∷ local_then m (fixed key.RightParen ∷ rest)) ≡ Some (given_module at m, rest) = local_first (read_local f) at m (fixed key.RightParen ∷ rest) w.0 ∙ rw inside refl in
-      more_turns no_local cons_local always (local_part (read_local f)) (local_shorter f) ⊥ (given_module at m) ms k (placed key.LeftParen at ∷ local_then m (fixed key.RightParen ∷ rest)) rest (length k) n part refl
+      let part : local_part (read_local f) (placed key.LeftParen at ∷ local_then m (fixed key.RightParen ∷ rest)) ≡ Some (given_module at m, rest) =
+      local_first (read_local f) at m (fixed key.RightParen ∷ rest) w.0 ∙ rw inside refl in
+      more_turns no_local cons_local always (local_part (read_local f)) (local_shorter f) ⊥ (given_module at m) ms k
+      (placed key.LeftParen at ∷ local_then m (fixed key.RightParen ∷ rest)) rest (length k) n part refl
       (locals_read ms w.1 f k ends n (omega (arith, len, longer)) (omega (arith, le)))
   locals_read (no_module at ms) w f k ends zero len le = absurd (omega (arith, len))
   locals_read (no_module at ms) w f k ends (suc n) len le =
-      more_turns no_local cons_local always (local_part (read_local f)) (local_shorter f) ⊥ (given_none at) ms k (placed key.LeftParen at ∷ fixed key.RightParen ∷ locals_then ms k) (locals_then ms k) (length k) n refl refl
+      more_turns no_local cons_local always (local_part (read_local f)) (local_shorter f) ⊥ (given_none at) ms k
+      (placed key.LeftParen at ∷ fixed key.RightParen ∷ locals_then ms k) (locals_then ms k) (length k) n refl refl
       (locals_read ms w f k ends n (omega (arith, len)) (omega (arith, le)))
 
 -- ---- names before patterns
@@ -244,7 +277,8 @@ no_param_read f _ h = absurd h
 operator_ends : (at : ℕ) (ts : List Tok) (x : ValueName × List Tok) → Opens ts → operator_at at ts ≡ Some x → ⊥
 operator_ends at ts x o e = by o.first o.rest o.begins o.behind (subst (λ k. operator_at at k ≡ Some x) o.is e)
   where
-    by : (t : Tok) (rest : List Tok) → begins_pat t ≡ true → (is_operator t ≡ true → (c : Class) × (y : Name) × (r : List Tok) × (rest ≡ word c y ∷ r)) → operator_at at (t ∷ rest) ≡ Some x → ⊥
+    by : (t : Tok) (rest : List Tok) → begins_pat t ≡ true
+        → (is_operator t ≡ true → (c : Class) × (y : Name) × (r : List Tok) × (rest ≡ word c y ∷ r)) → operator_at at (t ∷ rest) ≡ Some x → ⊥
     by t (fixed key.RightParen ∷ r) b behind e = or (is_operator t) refl e
       where
         or : (b : Bool) → is_operator t ≡ b → cond b (Some (OperatorName at t, r)) None ≡ Some x → ⊥
@@ -274,7 +308,8 @@ name_first (ExceptionPat at p) k w h x e = absurd cc
 name_first (AnyPat at) k w h x e = absurd cc
 name_first (ValuePat y) k w h x e = value_first y k w h x e
   where
-    value_first : (y : ValueName) (k : List Tok) → WfName y → NoParam k → (x : ValueName × List Tok) → value_name (name_then y k) ≡ Some x → NoParam x.1
+    value_first : (y : ValueName) (k : List Tok) → WfName y → NoParam k → (x : ValueName × List Tok) → value_name (name_then y k) ≡ Some x
+        → NoParam x.1
     value_first (PlainName y) k w h x e = from_some (λ (z : ValueName × List Tok). NoParam z.1) e h
     value_first (OperatorName at t) k w h x e = from_some (λ (z : ValueName × List Tok). NoParam z.1) (sym (name_read (OperatorName at t) k w) ∙ e) h
 name_first (LiteralPat class.Lower y) k w h x e = absurd cc
@@ -287,8 +322,11 @@ name_first (TagPat y) k w h x e = absurd cc
 name_first (BoolPat at true) k w h x e = absurd cc
 name_first (BoolPat at false) k w h x e = absurd cc
 name_first (UnitPat at) k w h x e = absurd (unit_ends at k x e)
-name_first (ParenPat at p) k w h x e = absurd (operator_ends at (pat_then p (fixed key.RightParen ∷ k)) x (pat_opens p (fixed key.RightParen ∷ k) w) e)
-name_first (TypedPat at p run) k w h x e = absurd (operator_ends at (pat_then p (fixed key.Colon ∷ (run ++ (fixed key.RightParen ∷ k)))) x (pat_opens p (fixed key.Colon ∷ (run ++ (fixed key.RightParen ∷ k))) w.0) e)
+name_first (ParenPat at p) k w h x e =
+    absurd (operator_ends at (pat_then p (fixed key.RightParen ∷ k)) x (pat_opens p (fixed key.RightParen ∷ k) w) e)
+name_first (TypedPat at p run) k w h x e =
+    absurd (operator_ends at (pat_then p (fixed key.Colon ∷ (run ++ (fixed key.RightParen ∷ k)))) x
+    (pat_opens p (fixed key.Colon ∷ (run ++ (fixed key.RightParen ∷ k))) w.0) e)
 name_first (EmptyPat at bracket.List) k w h x e = absurd cc
 name_first (EmptyPat at bracket.Array) k w h x e = absurd cc
 name_first (ListPat at bracket.List p ps last) k w h x e = absurd cc
@@ -303,11 +341,13 @@ none_more f zero ts h = refl
 none_more f (suc n) ts h = rw (no_param_read f ts h) refl
 
 -- a binding whose pattern is no name with parameters
-pub plain_is : (f : ℕ) (p : Pat) (k : List Tok) → WfPat p → NoParam k → binding (read_expr f) f (pat_then p k) ≡ plain_binding (read_expr f) f (pat_then p k)
+pub plain_is : (f : ℕ) (p : Pat) (k : List Tok) → WfPat p → NoParam k → binding (read_expr f) f (pat_then p k) ≡ plain_binding (read_expr f) f
+    (pat_then p k)
 unfolding binding
 plain_is f p k w h = by (value_name (pat_then p k)) refl
   where
-    by : (o : Option (ValueName × List Tok)) → value_name (pat_then p k) ≡ o → binding_by (read_expr f) f (pat_then p k) o ≡ plain_binding (read_expr f) f (pat_then p k)
+    by : (o : Option (ValueName × List Tok)) → value_name (pat_then p k) ≡ o → binding_by (read_expr f) f (pat_then p k) o ≡ plain_binding
+        (read_expr f) f (pat_then p k)
     by None e = refl
     by (Some x) e = rw (none_more f f x.1 (name_first p k w h x e)) refl
 
@@ -426,7 +466,8 @@ module _ (f : ℕ) where
   simple_param (BoolPat at false) k h w = refl
   simple_param (UnitPat at) k h w = paren_param at (fixed key.RightParen ∷ k) tt
   simple_param (ParenPat at p) k h w = paren_param at _ (opens_not_type _ (pat_opens p (fixed key.RightParen ∷ k) w))
-  simple_param (TypedPat at p run) k h w = paren_param at _ (opens_not_type _ (pat_opens p (fixed key.Colon ∷ (run ++ (fixed key.RightParen ∷ k))) w.0))
+  simple_param (TypedPat at p run) k h w =
+      paren_param at _ (opens_not_type _ (pat_opens p (fixed key.Colon ∷ (run ++ (fixed key.RightParen ∷ k))) w.0))
   simple_param (EmptyPat at bracket.List) k h w = refl
   simple_param (EmptyPat at bracket.Array) k h w = refl
   simple_param (ListPat at bracket.List p ps last) k h w = refl
@@ -434,11 +475,14 @@ module _ (f : ℕ) where
   simple_param (RecordPat at x fs rest last) k h w = refl
   simple_param (OpenedPat path at p) k h w = path_param path _ w.0
 
-  simple_exact : (p : Pat) (r : List Tok) → 5 ≤ pat_level p → WfPat p → (PatGoes 5 r → ⊥) → length (pat_then p r) ≤ suc f → simple_at f (pat_then p r) ≡ Some (p, r)
+  simple_exact : (p : Pat) (r : List Tok) → 5 ≤ pat_level p → WfPat p → (PatGoes 5 r → ⊥) → length (pat_then p r) ≤ suc f
+      → simple_at f (pat_then p r) ≡ Some (p, r)
   simple_exact p r h w never len = stop never (simple_reach p h w f r len)
 
   -- a `(`, a pattern, its type and an `=` are no Simple pattern
-  no_simple : (at : ℕ) (p : Pat) (run : Option (List Tok)) (q : ℕ) (k : List Tok) → WfPat p → WfType run → length (pat_then p (type_then run (placed key.Equals q ∷ k))) ≤ f → simple_at f (placed key.LeftParen at ∷ pat_then p (type_then run (placed key.Equals q ∷ k))) ≡ None
+  no_simple : (at : ℕ) (p : Pat) (run : Option (List Tok)) (q : ℕ) (k : List Tok) → WfPat p → WfType run
+      → length (pat_then p (type_then run (placed key.Equals q ∷ k))) ≤ f
+      → simple_at f (placed key.LeftParen at ∷ pat_then p (type_then run (placed key.Equals q ∷ k))) ≡ None
   unfolding simple_pat
   no_simple at p run q k w t len =
       let rest : List Tok = type_then run (placed key.Equals q ∷ k) in
@@ -456,16 +500,22 @@ module _ (f : ℕ) where
   lower_shorter : (ts : List Tok) (x : Name × List Tok) → lower_word ts ≡ Some x → length x.1 < length ts
   lower_shorter ts x e = omega (arith, ap length (lower_ok ts x e))
 
-  lowers_read : (xs : List Name) (r : List Tok) (n : ℕ) → length (lowers_then xs (fixed key.RightParen ∷ r)) ≤ n → Reach ⊥ xs (fixed key.RightParen ∷ r) (Some (many [] ◌∷◌ always lower_word n (lowers_then xs (fixed key.RightParen ∷ r))))
-  lowers_read [] r n len = no_turn [] ◌∷◌ always lower_word lower_shorter ⊥ true (fixed key.RightParen ∷ r) (length (fixed key.RightParen ∷ r)) n (λ _ x e. absurd cc)
+  lowers_read : (xs : List Name) (r : List Tok) (n : ℕ) → length (lowers_then xs (fixed key.RightParen ∷ r)) ≤ n
+      → Reach ⊥ xs (fixed key.RightParen ∷ r) (Some (many [] ◌∷◌ always lower_word n (lowers_then xs (fixed key.RightParen ∷ r))))
+  lowers_read [] r n len = no_turn [] ◌∷◌ always lower_word lower_shorter ⊥ true (fixed key.RightParen ∷ r) (length (fixed key.RightParen ∷ r)) n
+      (λ _ x e. absurd cc)
   lowers_read (x ∷ xs) r zero len = absurd (omega (arith, len))
-  lowers_read (x ∷ xs) r (suc n) len = more_turns [] ◌∷◌ always lower_word lower_shorter ⊥ x xs (fixed key.RightParen ∷ r) (word class.Lower x ∷ lowers_then xs (fixed key.RightParen ∷ r)) (lowers_then xs (fixed key.RightParen ∷ r)) (length (fixed key.RightParen ∷ r)) n refl refl (lowers_read xs r n (omega (arith, len)))
+  lowers_read (x ∷ xs) r (suc n) len = more_turns [] ◌∷◌ always lower_word lower_shorter ⊥ x xs (fixed key.RightParen ∷ r)
+      (word class.Lower x ∷ lowers_then xs (fixed key.RightParen ∷ r)) (lowers_then xs (fixed key.RightParen ∷ r))
+      (length (fixed key.RightParen ∷ r)) n refl refl (lowers_read xs r n (omega (arith, len)))
 
   equals_stop : (run : Option (List Tok)) (q : ℕ) (k : List Tok) → PatGoes 0 (type_then run (placed key.Equals q ∷ k)) → ⊥
   equals_stop None q k h = absurd (omega (arith, h))
   equals_stop (Some run) q k h = absurd (omega (arith, h))
 
-  default_read : (x : Name) (at : ℕ) (p : Pat) (run : Option (List Tok)) (q : ℕ) (e : Expr) (r : List Tok) → Good e → WfParam (DefaultParam x at p run q e) → length (param_then (DefaultParam x at p run q e) r) ≤ suc f → param_at f (param_then (DefaultParam x at p run q e) r) ≡ Some (DefaultParam x at p run q e, r)
+  default_read : (x : Name) (at : ℕ) (p : Pat) (run : Option (List Tok)) (q : ℕ) (e : Expr) (r : List Tok) → Good e
+      → WfParam (DefaultParam x at p run q e) → length (param_then (DefaultParam x at p run q e) r) ≤ suc f
+      → param_at f (param_then (DefaultParam x at p run q e) r) ≡ Some (DefaultParam x at p run q e, r)
   unfolding param default_param
   default_read x at p run q e r g w len =
       let k : List Tok = expr_then e (fixed key.RightParen ∷ r) in
@@ -478,12 +528,15 @@ module _ (f : ℕ) where
       let v = expr_exact e g w.4 w.5 f key.RightParen r refl (λ h. cc) (λ h. cc) (omega (arith, len, longer, l2)) in
       rw (w.0, none, w.1, first, t, v) refl
 
-  wrapped_read : (at : ℕ) (optional : Bool) (at' : ℕ) (x : Name) (run : Option (List Tok)) (r : List Tok) → WfType run → param_at f (param_then (WrappedParam at optional at' x run) r) ≡ Some (WrappedParam at optional at' x run, r)
+  wrapped_read : (at : ℕ) (optional : Bool) (at' : ℕ) (x : Name) (run : Option (List Tok)) (r : List Tok) → WfType run
+      → param_at f (param_then (WrappedParam at optional at' x run) r) ≡ Some (WrappedParam at optional at' x run, r)
   unfolding param wrapped_param
   wrapped_read at true at' x run r w = rw (type_read run (fixed key.RightParen ∷ r) w refl tt) refl
   wrapped_read at false at' x run r w = rw (type_read run (fixed key.RightParen ∷ r) w refl tt) refl
 
-  wrapped_default_read : (at at' : ℕ) (x : Name) (run : Option (List Tok)) (q : ℕ) (e : Expr) (r : List Tok) → Good e → WfParam (WrappedDefault at at' x run q e) → length (param_then (WrappedDefault at at' x run q e) r) ≤ suc f → param_at f (param_then (WrappedDefault at at' x run q e) r) ≡ Some (WrappedDefault at at' x run q e, r)
+  wrapped_default_read : (at at' : ℕ) (x : Name) (run : Option (List Tok)) (q : ℕ) (e : Expr) (r : List Tok) → Good e
+      → WfParam (WrappedDefault at at' x run q e) → length (param_then (WrappedDefault at at' x run q e) r) ≤ suc f
+      → param_at f (param_then (WrappedDefault at at' x run q e) r) ≡ Some (WrappedDefault at at' x run q e, r)
   unfolding param wrapped_param
   wrapped_default_read at at' x run q e r g w len =
       let k : List Tok = expr_then e (fixed key.RightParen ∷ r) in
@@ -491,7 +544,8 @@ module _ (f : ℕ) where
       let v = expr_exact e g w.1 w.2 f key.RightParen r refl (λ h. cc) (λ h. cc) (omega (arith, len, l2)) in
       rw (type_read run (placed key.Equals q ∷ k) w.0 refl tt, v) refl
 
-  types_read : (at : ℕ) (xs : List Name) (r : List Tok) → xs ≢ [] → length (param_then (TypesParam at xs) r) ≤ suc f → param_at f (param_then (TypesParam at xs) r) ≡ Some (TypesParam at xs, r)
+  types_read : (at : ℕ) (xs : List Name) (r : List Tok) → xs ≢ [] → length (param_then (TypesParam at xs) r) ≤ suc f
+      → param_at f (param_then (TypesParam at xs) r) ≡ Some (TypesParam at xs, r)
   unfolding param
   types_read at [] r h len = absurd (h refl)
   types_read at (x ∷ xs) r h len =
@@ -502,11 +556,13 @@ module _ (f : ℕ) where
   unfolding param
   label_read x r w = rw w refl
 
-  label_pattern_read : (x : Name) (p : Pat) (r : List Tok) → has_colon x.text ≡ true → simple_at f (pat_then p r) ≡ Some (p, r) → param_at f (word class.Label x ∷ pat_then p r) ≡ Some (LabelPattern x p, r)
+  label_pattern_read : (x : Name) (p : Pat) (r : List Tok) → has_colon x.text ≡ true → simple_at f (pat_then p r) ≡ Some (p, r)
+      → param_at f (word class.Label x ∷ pat_then p r) ≡ Some (LabelPattern x p, r)
   unfolding param
   label_pattern_read x p r w e = rw (w, e) refl
 
-  pub param_read : (p : Param) → GoodParam p → WfParam p → (r : List Tok) → (PatGoes 5 r → ⊥) → length (param_then p r) ≤ suc f → param_at f (param_then p r) ≡ Some (p, r)
+  pub param_read : (p : Param) → GoodParam p → WfParam p → (r : List Tok) → (PatGoes 5 r → ⊥) → length (param_then p r) ≤ suc f
+      → param_at f (param_then p r) ≡ Some (p, r)
   param_read (PatternParam p) g w r never len = simple_param p r w.0 w.1 ∙ rw (simple_exact p r w.0 w.1 never len) refl
   param_read (LabelParam x) g w r never len = label_read x r w
   param_read (LabelPattern x p) g w r never len = label_pattern_read x p r w.0 (simple_exact p r w.1 w.2 never (omega (arith, len)))
@@ -519,9 +575,19 @@ module _ (f : ℕ) where
   param_longer (PatternParam p) k w = pat_longer p k w.1
   param_longer (LabelParam x) k w = omega arith
   param_longer (LabelPattern x p) k w = omega (arith, pat_longer p k w.2)
-  param_longer (DefaultParam x at p run q e) k w = omega (arith, param_more (DefaultParam x at p run q e) k, pat_longer p (type_then run (placed key.Equals q ∷ expr_then e (fixed key.RightParen ∷ k))) w.2, type_longer run (placed key.Equals q ∷ expr_then e (fixed key.RightParen ∷ k)), expr_more e (fixed key.RightParen ∷ k))
+  param_longer (DefaultParam x at p run q e) k w =
+      omega (
+        arith,
+        param_more (DefaultParam x at p run q e) k,
+        pat_longer p
+            (type_then run (placed key.Equals q ∷ expr_then e (fixed key.RightParen ∷ k))) w.2,
+        type_longer run
+            (placed key.Equals q ∷ expr_then e (fixed key.RightParen ∷ k)),
+        expr_more e (fixed key.RightParen ∷ k),
+      )
   param_longer (WrappedParam at optional at' x run) k w = omega (arith, type_longer run (fixed key.RightParen ∷ k))
-  param_longer (WrappedDefault at at' x run q e) k w = omega (arith, type_longer run (placed key.Equals q ∷ expr_then e (fixed key.RightParen ∷ k)), expr_more e (fixed key.RightParen ∷ k))
+  param_longer (WrappedDefault at at' x run q e) k w =
+      omega (arith, type_longer run (placed key.Equals q ∷ expr_then e (fixed key.RightParen ∷ k)), expr_more e (fixed key.RightParen ∷ k))
   param_longer (TypesParam at xs) k w = omega (arith, lowers_more xs (fixed key.RightParen ∷ k))
 
   pub param_shorter : (ts : List Tok) (x : Param × List Tok) → param_at f ts ≡ Some x → length x.1 < length ts
@@ -529,8 +595,10 @@ module _ (f : ℕ) where
       let p = param_found (read_expr f) f (expr_reads f) ts x e in
       omega (arith, ap length p.words, param_longer x.0 x.1 p.wf)
 
-  pub params_read : (ps : Params) → GoodParams ps → WfParams ps → (k : List Tok) → EndsParams k → (n : ℕ) → length (params_then ps k) ≤ n → n ≤ suc f → Reach ⊥ ps k (Some (many no_param more_param always (param_at f) n (params_then ps k)))
-  params_read no_param g w k ends n len le = no_turn no_param more_param always (param_at f) param_shorter ⊥ true k (length k) n (λ _ x e. let q = sym (no_param_read f k (ends_no_param k ends)) ∙ e in absurd cc)
+  pub params_read : (ps : Params) → GoodParams ps → WfParams ps → (k : List Tok) → EndsParams k → (n : ℕ) → length (params_then ps k) ≤ n → n ≤ suc f
+      → Reach ⊥ ps k (Some (many no_param more_param always (param_at f) n (params_then ps k)))
+  params_read no_param g w k ends n len le = no_turn no_param more_param always (param_at f) param_shorter ⊥ true k (length k) n
+      (λ _ x e. let q = sym (no_param_read f k (ends_no_param k ends)) ∙ e in absurd cc)
   params_read (more_param p ps) g w k ends zero len le = absurd (omega (arith, len, param_longer p (params_then ps k) w.0))
   params_read (more_param p ps) g w k ends (suc n) len le =
       let rest : List Tok = params_then ps k in
@@ -539,5 +607,6 @@ module _ (f : ℕ) where
       more_turns no_param more_param always (param_at f) param_shorter ⊥ p ps k (param_then p rest) rest (length k) n part refl
       (params_read ps g.1 w.1 k ends n (omega (arith, len, longer)) (omega (arith, le)))
 
-  pub params_exact : (ps : Params) → GoodParams ps → WfParams ps → (k : List Tok) → EndsParams k → length (params_then ps k) ≤ f → more_params (read_expr f) f (params_then ps k) ≡ (ps, k)
+  pub params_exact : (ps : Params) → GoodParams ps → WfParams ps → (k : List Tok) → EndsParams k → length (params_then ps k) ≤ f
+      → more_params (read_expr f) f (params_then ps k) ≡ (ps, k)
   params_exact ps g w k ends len = some_is (stop {C = ⊥} (λ c. c) (params_read ps g w k ends f len (omega arith)))

@@ -1,5 +1,6 @@
 -- No record is missed, if none of its parts is.
-use Rattle.std.proofs.Common.{◌≡◌, ℕ, zero, suc, ◌<◌, ◌≤◌, List, [], ◌∷◌, ◌++◌, length, Bool, true, false, not, Option, Some, None, refl, sym, ap, ◌∙◌, arith}
+use Rattle.std.proofs.Common.{◌≡◌, ℕ, zero, suc, ◌<◌, ◌≤◌, List, [], ◌∷◌, ◌++◌, length, Bool, true, false, not, Option, Some, None, refl, sym, ap}
+use Rattle.std.proofs.Common.{◌∙◌, arith}
 use Rattle.rotor_base.specs.declared.token.Class.TheVariants as class
 use Rattle.ml_syntax.specs.declared.fixed.Fixed.{Fixed}
 use Rattle.ml_syntax.specs.declared.fixed.Fixed.TheVariants as key
@@ -7,14 +8,16 @@ use Rattle.ml_syntax.specs.Tok.{Name, Tok, fixed, placed, word}
 use Rattle.expr_reading.specs.declared.wanted.Wanted.TheVariants as wanted
 use Rattle.ml_syntax.specs.Words.{qualified_then, type_then, optional_then, expr_then, base_then, field_then, fields_then}
 use Rattle.ml_syntax.specs.WellFormed.{WfType, level, EndsField, Wf, WfBase, WfField, WfFields}
-use Rattle.ml_syntax.specs.Tree.{PlainName, Expr, Value, Record, MaybeExpr, no_expr, some_expr, Field, FieldPun, AssignedField, Fields, no_field, more_field}
+use Rattle.ml_syntax.specs.Tree.{PlainName, Expr, Value, Record, MaybeExpr, no_expr, some_expr, Field, FieldPun, AssignedField, Fields, no_field}
+use Rattle.ml_syntax.specs.Tree.{more_field}
 use Rattle.parse_base.specs.Steps.{◌>>=◌, expect, many, many_if}
 use Rattle.parse_base.specs.Pieces.{qualifiers, optional_type}
 use Rattle.parse_base.proofs.Stepping.{some_is}
 use Rattle.parse_base.proofs.Reach.{Reach, exact, stop, no_turn, last_turn, more_turns, expect_same}
 use Rattle.parse_base.proofs.LongerPat.{qualified_longer, type_longer}
 use Rattle.parse_base.proofs.ReachPieces.{qualifiers_reach, type_read}
-use Rattle.expr_reading.specs.ExprReading.{ends_field, last_field, semicolon_if, equals_expr, field_expr, next_field, base_part, brace_expr, enclosed, read_expr}
+use Rattle.expr_reading.specs.ExprReading.{ends_field, last_field, semicolon_if, equals_expr, field_expr, next_field, base_part, brace_expr, enclosed}
+use Rattle.expr_reading.specs.ExprReading.{read_expr}
 use Rattle.expr_reading.proofs.LongerExpr.{base_more, field_more}
 use Rattle.expr_reading.proofs.FoundExpr.{next_field_found, expr_reads}
 use Rattle.expr_reading.proofs.GoesExpr.{Holds, semicolon_stops}
@@ -43,11 +46,14 @@ no_equals : (f : ℕ) (x : Field) (k : List Tok) → FollowsField x k → equals
 no_equals f x _ (before_semicolon r e) = refl
 no_equals f x _ (before_brace r) = refl
 
-assigned_exact : (f : ℕ) (path : List Name) (x : Name) (run : Option (List Tok)) (at : ℕ) (e : Expr) (k : List Tok) → Good e → 0 < level e → Wf e → FollowsField (AssignedField path x run at e) k → length (expr_then e k) ≤ f → read_expr f wanted.Expression (expr_then e k) ≡ Some (e, k)
-assigned_exact f path x run at e _ g lv w (before_semicolon r q) len = stop (semicolon_stops 3 e r (omega arith) q) (sub_expr e g lv w f (fixed key.Semicolon ∷ r) len)
+assigned_exact : (f : ℕ) (path : List Name) (x : Name) (run : Option (List Tok)) (at : ℕ) (e : Expr) (k : List Tok) → Good e → 0 < level e → Wf e
+    → FollowsField (AssignedField path x run at e) k → length (expr_then e k) ≤ f → read_expr f wanted.Expression (expr_then e k) ≡ Some (e, k)
+assigned_exact f path x run at e _ g lv w (before_semicolon r q) len =
+    stop (semicolon_stops 3 e r (omega arith) q) (sub_expr e g lv w f (fixed key.Semicolon ∷ r) len)
 assigned_exact f path x run at e _ g lv w (before_brace r) len = expr_exact e g lv w f key.RightBrace r refl (λ h. cc) (λ h. cc) len
 
-field_read : (f : ℕ) (x : Field) (k : List Tok) → GoodField x → WfField x → FollowsField x k → length (field_then x k) ≤ f → field_expr (read_expr f) f (field_then x k) ≡ Some (x, k)
+field_read : (f : ℕ) (x : Field) (k : List Tok) → GoodField x → WfField x → FollowsField x k → length (field_then x k) ≤ f
+    → field_expr (read_expr f) f (field_then x k) ≡ Some (x, k)
 unfolding field_expr
 field_read f (FieldPun path x run) k g w ends len =
     let q = qualifiers_reach path (word class.Lower x ∷ type_then run k) f len refl in
@@ -85,26 +91,38 @@ ends_true : (x : Field) → EndsField x → ends_field x ≡ true
 ends_true (FieldPun path x run) h = refl
 ends_true (AssignedField path x run at e) h = ap not h
 
-next_ends : (f : ℕ) (last : Bool) (r : List Tok) (x : Field × List Tok) → next_field (read_expr f) f (brace_end last r) ≡ Some x → ⊥ × (length x.1 < length (brace_end last r))
+next_ends : (f : ℕ) (last : Bool) (r : List Tok) (x : Field × List Tok) → next_field (read_expr f) f (brace_end last r) ≡ Some x
+    → ⊥ × (length x.1 < length (brace_end last r))
 next_ends f last r x e = let q = sym (no_next f last r) ∙ e in absurd cc
 
-fields_reach : (f : ℕ) (x0 x : Field) (fs : Fields) (last : Bool) (r : List Tok) → GoodFields (more_field x fs) → WfFields x0 (more_field x fs) last → (n : ℕ) → length (fields_then (more_field x fs) (brace_end last r)) ≤ n → n ≤ f
-    → Reach ⊥ (more_field x fs) (brace_end last r) (Some (many no_field more_field ends_field (next_field (read_expr f) f) n (fields_then (more_field x fs) (brace_end last r))))
+fields_reach : (f : ℕ) (x0 x : Field) (fs : Fields) (last : Bool) (r : List Tok) → GoodFields (more_field x fs) → WfFields x0 (more_field x fs) last
+    → (n : ℕ) → length (fields_then (more_field x fs) (brace_end last r)) ≤ n → n ≤ f
+    → Reach ⊥ (more_field x fs) (brace_end last r)
+    (Some (many no_field more_field ends_field (next_field (read_expr f) f) n (fields_then (more_field x fs) (brace_end last r))))
 fields_reach f x0 x fs last r g w zero len le = absurd (omega (arith, len))
 fields_reach f x0 x no_field last r g w (suc n) len le =
     let k : List Tok = brace_end last r in
-    let part = ap (λ o. o >>= field_expr (read_expr f) f) (expect_same key.Semicolon (field_then x k)) ∙ field_read f x k g.0 w.1 (fields_follow x no_field last r w.2) (omega (arith, len, le)) in
-    last_turn no_field more_field ends_field (next_field (read_expr f) f) (field_shorter f) ⊥ x k (fixed key.Semicolon ∷ field_then x k) (length k) n (exact part) (λ h y e. next_ends f last r y e)
+    let part = ap (λ o. o >>= field_expr (read_expr f) f) (expect_same key.Semicolon (field_then x k))
+    ∙ field_read f x k g.0 w.1 (fields_follow x no_field last r w.2) (omega (arith, len, le)) in
+    last_turn no_field more_field ends_field (next_field (read_expr f) f) (field_shorter f) ⊥ x k (fixed key.Semicolon ∷ field_then x k) (length k) n
+    (exact part) (λ h y e. next_ends f last r y e)
 fields_reach f x0 x (more_field y fs) last r g w (suc n) len le =
     let k : List Tok = fields_then (more_field y fs) (brace_end last r) in
     let l = field_more x k in
-    let part = ap (λ o. o >>= field_expr (read_expr f) f) (expect_same key.Semicolon (field_then x k)) ∙ field_read f x k g.0 w.1 (fields_follow x (more_field y fs) last r w.2) (omega (arith, len, le)) in
-    more_turns no_field more_field ends_field (next_field (read_expr f) f) (field_shorter f) ⊥ x (more_field y fs) (brace_end last r) (fixed key.Semicolon ∷ field_then x k) k (length (brace_end last r)) n part (ends_true x w.2.0)
+    let part = ap (λ o. o >>= field_expr (read_expr f) f) (expect_same key.Semicolon (field_then x k))
+    ∙ field_read f x k g.0 w.1 (fields_follow x (more_field y fs) last r w.2) (omega (arith, len, le)) in
+    more_turns no_field more_field ends_field (next_field (read_expr f) f) (field_shorter f) ⊥ x (more_field y fs) (brace_end last r)
+    (fixed key.Semicolon ∷ field_then x k) k (length (brace_end last r)) n part (ends_true x w.2.0)
     (fields_reach f x y fs last r g.1 w.2 n (omega (arith, len, l)) (omega (arith, le)))
 
-fields_all : (f : ℕ) (x : Field) (fs : Fields) (last : Bool) (r : List Tok) → GoodFields fs → WfFields x fs last → length (fields_then fs (brace_end last r)) ≤ f
-    → many_if (ends_field x) no_field more_field ends_field (next_field (read_expr f) f) f (fields_then fs (brace_end last r)) ≡ (fs, brace_end last r)
-fields_all f x no_field last r g w len = some_is (stop {C = ⊥} (λ c. c) (no_turn no_field more_field ends_field (next_field (read_expr f) f) (field_shorter f) ⊥ (ends_field x) (brace_end last r) (length (brace_end last r)) f (λ h y e. next_ends f last r y e)))
+fields_all : (f : ℕ) (x : Field) (fs : Fields) (last : Bool) (r : List Tok) → GoodFields fs → WfFields x fs last
+    → length (fields_then fs (brace_end last r)) ≤ f
+    → many_if (ends_field x) no_field more_field ends_field (next_field (read_expr f) f) f (fields_then fs (brace_end last r))
+    ≡ (fs, brace_end last r)
+fields_all f x no_field last r g w len =
+    some_is (stop {C = ⊥} (λ c. c)
+    (no_turn no_field more_field ends_field (next_field (read_expr f) f) (field_shorter f) ⊥ (ends_field x) (brace_end last r)
+    (length (brace_end last r)) f (λ h y e. next_ends f last r y e)))
 fields_all f x (more_field y fs) last r g w len =
     let on : ends_field x ≡ true = ends_true x w.0 in
     rw on (some_is (stop {C = ⊥} (λ c. c) (fields_reach f x y fs last r g w f len (omega arith))))
@@ -113,7 +131,8 @@ fields_end : (x : Field) (fs : Fields) → WfFields x fs true → EndsField (las
 fields_end x no_field w = w refl
 fields_end x (more_field y fs) w = fields_end y fs w.2
 
-last_read : (x : Field) (fs : Fields) (last : Bool) (r : List Tok) → WfFields x fs last → semicolon_if (ends_field (last_field x fs)) (brace_end last r) ≡ (last, fixed key.RightBrace ∷ r)
+last_read : (x : Field) (fs : Fields) (last : Bool) (r : List Tok) → WfFields x fs last
+    → semicolon_if (ends_field (last_field x fs)) (brace_end last r) ≡ (last, fixed key.RightBrace ∷ r)
 last_read x fs true r w = let on : ends_field (last_field x fs) ≡ true = ends_true (last_field x fs) (fields_end x fs w) in rw on refl
 last_read x fs false r w = by (ends_field (last_field x fs))
   where
@@ -123,12 +142,17 @@ last_read x fs false r w = by (ends_field (last_field x fs))
 
 -- ---- the part before the fields
 
-post_value : (f : ℕ) (path : List Name) (x : Name) (k : List Tok) → (Holds 15 k → ⊥) → length (qualified_then path (word class.Lower x ∷ k)) ≤ f → read_expr f wanted.Postfix (qualified_then path (word class.Lower x ∷ k)) ≡ Some (Value path (PlainName x), k)
+post_value : (f : ℕ) (path : List Name) (x : Name) (k : List Tok) → (Holds 15 k → ⊥) → length (qualified_then path (word class.Lower x ∷ k)) ≤ f
+    → read_expr f wanted.Postfix (qualified_then path (word class.Lower x ∷ k)) ≡ Some (Value path (PlainName x), k)
 unfolding read_expr
 post_value zero path x k never len = absurd (omega (arith, len, qualified_longer path (word class.Lower x ∷ k)))
-post_value (suc f) path x k never len = stop never (as_postfix f (Value path (PlainName x)) k (qualified_then path (word class.Lower x ∷ k)) (exact (value_read f path (PlainName x) k tt len)))
+post_value (suc f) path x k never len =
+    stop never (as_postfix f (Value path (PlainName x)) k (qualified_then path (word class.Lower x ∷ k))
+    (exact (value_read f path (PlainName x) k tt len)))
 
-no_base_by : (f : ℕ) (path : List Name) (x : Name) (k : List Tok) → (Holds 15 k → ⊥) → expect key.With k ≡ None → length (qualified_then path (word class.Lower x ∷ k)) ≤ f → base_part (read_expr f) f (qualified_then path (word class.Lower x ∷ k)) ≡ (no_expr, qualified_then path (word class.Lower x ∷ k))
+no_base_by : (f : ℕ) (path : List Name) (x : Name) (k : List Tok) → (Holds 15 k → ⊥) → expect key.With k ≡ None
+    → length (qualified_then path (word class.Lower x ∷ k)) ≤ f
+    → base_part (read_expr f) f (qualified_then path (word class.Lower x ∷ k)) ≡ (no_expr, qualified_then path (word class.Lower x ∷ k))
 no_base_by f path x k never none len = rw (post_value f path x k never len, none) refl
 
 -- what may follow the name of a field
@@ -159,17 +183,25 @@ assigned_follows : (run : Option (List Tok)) (at : ℕ) (k : List Tok) → Follo
 assigned_follows (Some run) at k = with_colon (run ++ (placed key.Equals at ∷ k))
 assigned_follows None at k = with_equals at k
 
-no_base : (f : ℕ) (x : Field) (k : List Tok) → FollowsField x k → length (field_then x k) ≤ f → base_part (read_expr f) f (field_then x k) ≡ (no_expr, field_then x k)
-no_base f (FieldPun path x run) k ends len = let n = pun_follows (FieldPun path x run) run k ends in no_base_by f path x (type_then run k) (name_stops (type_then run k) n) (name_no_with (type_then run k) n) len
-no_base f (AssignedField path x run at e) k ends len = let n = assigned_follows run at (expr_then e k) in no_base_by f path x (type_then run (placed key.Equals at ∷ expr_then e k)) (name_stops (type_then run (placed key.Equals at ∷ expr_then e k)) n) (name_no_with (type_then run (placed key.Equals at ∷ expr_then e k)) n) len
+no_base : (f : ℕ) (x : Field) (k : List Tok) → FollowsField x k → length (field_then x k) ≤ f
+    → base_part (read_expr f) f (field_then x k) ≡ (no_expr, field_then x k)
+no_base f (FieldPun path x run) k ends len = let n = pun_follows (FieldPun path x run) run k ends in
+    no_base_by f path x (type_then run k) (name_stops (type_then run k) n) (name_no_with (type_then run k) n) len
+no_base f (AssignedField path x run at e) k ends len = let n = assigned_follows run at (expr_then e k) in
+    no_base_by f path x (type_then run (placed key.Equals at ∷ expr_then e k)) (name_stops (type_then run (placed key.Equals at ∷ expr_then e k)) n)
+    (name_no_with (type_then run (placed key.Equals at ∷ expr_then e k)) n) len
 
-base_read : (f : ℕ) (base : MaybeExpr) (x : Field) (k : List Tok) → GoodMaybe base → WfBase base → FollowsField x k → length (base_then base (field_then x k)) ≤ f → base_part (read_expr f) f (base_then base (field_then x k)) ≡ (base, field_then x k)
+base_read : (f : ℕ) (base : MaybeExpr) (x : Field) (k : List Tok) → GoodMaybe base → WfBase base → FollowsField x k
+    → length (base_then base (field_then x k)) ≤ f → base_part (read_expr f) f (base_then base (field_then x k)) ≡ (base, field_then x k)
 base_read f no_expr x k g w ends len = no_base f x k ends len
 base_read f (some_expr e) x k g w ends len =
-    let inside = stop (λ (h : Holds 15 (fixed key.With ∷ field_then x k)). absurd (omega (arith, h))) (sub_postfix e g w.0 w.1 f (fixed key.With ∷ field_then x k) len) in
+    let inside = stop (λ (h : Holds 15 (fixed key.With ∷ field_then x k)). absurd (omega (arith, h)))
+    (sub_postfix e g w.0 w.1 f (fixed key.With ∷ field_then x k) len) in
     rw inside refl
 
-pub record_read : (f at : ℕ) (base : MaybeExpr) (x : Field) (fs : Fields) (last : Bool) (r : List Tok) → GoodMaybe base → GoodField x → GoodFields fs → Wf (Record at base x fs last) → length (expr_then (Record at base x fs last) r) ≤ suc f → enclosed_at f (expr_then (Record at base x fs last) r) ≡ Some (Record at base x fs last, r)
+pub record_read : (f at : ℕ) (base : MaybeExpr) (x : Field) (fs : Fields) (last : Bool) (r : List Tok) → GoodMaybe base → GoodField x → GoodFields fs
+    → Wf (Record at base x fs last) → length (expr_then (Record at base x fs last) r) ≤ suc f
+    → enclosed_at f (expr_then (Record at base x fs last) r) ≡ Some (Record at base x fs last, r)
 unfolding enclosed brace_expr
 record_read f at base x fs last r gb g gs w len =
     let k : List Tok = fields_then fs (brace_end last r) in

@@ -8,8 +8,17 @@ use Rattle.ml_syntax.specs.declared.word.Bracket.TheVariants as bracket
 use Rattle.ml_syntax.specs.Tok.{Name, Tok, fixed, placed, word}
 use Rattle.ml_syntax.specs.Runs.{has_colon, is_optional}
 use Rattle.ml_syntax.specs.Words.{closing}
-use Rattle.ml_syntax.specs.WellFormed.{is_literal, is_minus, is_operator, op_level, on_edge, on_body, is_form, is_if, is_open_if, has_cases, is_postfix, is_bare, is_constr}
-use Rattle.ml_syntax.specs.Tree.{ValueName, PlainName, OperatorName, Pat, Variable, PlainVariable, AnyVariable, LocalModule, LocalPath, LocalArguments, no_local, more_local, no_module, Expr, Seq, Let, LetOpen, LetModule, Fun, Function, Match, Try, If, Chain, Minus, Apply, ConstrApply, TagApply, Assert, Lazy, Postfix, Prefixed, Literal, BoolExpr, Value, Constr, Tag, UnitExpr, Paren, Typed, Coerced, EmptyBegin, Begin, EmptyList, ListExpr, Record, Opened, While, For, Links, no_link, more_link, MaybeExpr, no_expr, some_expr, Tail, no_else, or_else, or_if, Binding, PlainBinding, AppliedBinding, Bindings, no_binding, more_binding, Case, CaseOf, Cases, no_case, more_case, Argument, Positional, LabelPun, Labelled, Arguments, no_argument, more_argument, Param, PatternParam, LabelParam, LabelPattern, DefaultParam, WrappedParam, WrappedDefault, TypesParam, Params, no_param, more_param, Part, LabelPart, IndexPart, CharPart, Parts, no_part, more_part, Field, FieldPun, AssignedField, Fields, no_field, more_field}
+use Rattle.ml_syntax.specs.WellFormed.{is_literal, is_minus, is_operator, op_level, on_edge, on_body, is_form, is_if, is_open_if, has_cases}
+use Rattle.ml_syntax.specs.WellFormed.{is_postfix, is_bare, is_constr}
+use Rattle.ml_syntax.specs.Tree.{ValueName, PlainName, OperatorName, Pat, Variable, PlainVariable, AnyVariable, LocalModule, LocalPath}
+use Rattle.ml_syntax.specs.Tree.{LocalArguments, no_local, more_local, no_module, Expr, Seq, Let, LetOpen, LetModule, Fun, Function, Match, Try, If}
+use Rattle.ml_syntax.specs.Tree.{Chain, Minus, Apply, ConstrApply, TagApply, Assert, Lazy, Postfix, Prefixed, Literal, BoolExpr, Value, Constr, Tag}
+use Rattle.ml_syntax.specs.Tree.{UnitExpr, Paren, Typed, Coerced, EmptyBegin, Begin, EmptyList, ListExpr, Record, Opened, While, For, Links, no_link}
+use Rattle.ml_syntax.specs.Tree.{more_link, MaybeExpr, no_expr, some_expr, Tail, no_else, or_else, or_if, Binding, PlainBinding, AppliedBinding}
+use Rattle.ml_syntax.specs.Tree.{Bindings, no_binding, more_binding, Case, CaseOf, Cases, no_case, more_case, Argument, Positional, LabelPun}
+use Rattle.ml_syntax.specs.Tree.{Labelled, Arguments, no_argument, more_argument, Param, PatternParam, LabelParam, LabelPattern, DefaultParam}
+use Rattle.ml_syntax.specs.Tree.{WrappedParam, WrappedDefault, TypesParam, Params, no_param, more_param, Part, LabelPart, IndexPart, CharPart, Parts}
+use Rattle.ml_syntax.specs.Tree.{no_part, more_part, Field, FieldPun, AssignedField, Fields, no_field, more_field}
 use Rattle.parse_base.specs.Steps.{Read, ◌>>=◌, expect, expect_at, many, many_if, always}
 use Rattle.parse_base.specs.Pieces.{more_uppers, qualifiers, lower_word, value_name, type_run, optional_type}
 use Rattle.parse_base.specs.PatReading.{simple_pat, read_pat, last_semicolon}
@@ -209,7 +218,8 @@ module _ (sub : Wanted → Read Expr) (n : ℕ) where
   -- after a `(`
   unfoldable pub paren_expr : ℕ → Read Expr
   paren_expr at (fixed key.RightParen ∷ ts) = Some (UnitExpr at, ts)
-  paren_expr at (t ∷ fixed key.RightParen ∷ ts) = if is_operator t then Some (Value [] (OperatorName at t), ts) else (sub wanted.Sequence (t ∷ fixed key.RightParen ∷ ts) >>= λ e. closed_by at e.0 e.1)
+  paren_expr at (t ∷ fixed key.RightParen ∷ ts) = if is_operator t then Some (Value [] (OperatorName at t), ts) else
+      (sub wanted.Sequence (t ∷ fixed key.RightParen ∷ ts) >>= λ e. closed_by at e.0 e.1)
   paren_expr at ts = sub wanted.Sequence ts >>= λ e. closed_by at e.0 e.1
 
   -- after a `begin`
@@ -265,7 +275,8 @@ module _ (sub : Wanted → Read Expr) (n : ℕ) where
 
   -- after a `{`
   unfoldable pub brace_expr : ℕ → Read Expr
-  brace_expr at ts = field_expr (base_part ts).1 >>= λ f. record_end at (base_part ts).0 f.0 (many_if (ends_field f.0) no_field more_field ends_field next_field n f.1)
+  brace_expr at ts = field_expr (base_part ts).1 >>= λ f. record_end at (base_part ts).0 f.0
+      (many_if (ends_field f.0) no_field more_field ends_field next_field n f.1)
 
   -- ---- loops
 
@@ -334,8 +345,10 @@ module _ (sub : Wanted → Read Expr) (n : ℕ) where
     Some (LabelPart path.0 x.0, x.1)
 
   unfoldable pub part_behind : Read Part
-  part_behind (fixed key.Dot ∷ placed key.LeftParen at ∷ ts) = sub wanted.Sequence ts >>= λ e. expect key.RightParen e.1 >>= λ r. Some (IndexPart at e.0, r)
-  part_behind (fixed key.Dot ∷ placed key.LeftBracket at ∷ ts) = sub wanted.Sequence ts >>= λ e. expect key.RightBracket e.1 >>= λ r. Some (CharPart at e.0, r)
+  part_behind (fixed key.Dot ∷ placed key.LeftParen at ∷ ts) = sub wanted.Sequence ts >>= λ e. expect key.RightParen e.1 >>= λ r. Some
+      (IndexPart at e.0, r)
+  part_behind (fixed key.Dot ∷ placed key.LeftBracket at ∷ ts) = sub wanted.Sequence ts >>= λ e. expect key.RightBracket e.1 >>= λ r. Some
+      (CharPart at e.0, r)
   part_behind (fixed key.Dot ∷ ts) = label_part ts
   part_behind _ = None
 
@@ -400,7 +413,8 @@ module _ (sub : Wanted → Read Expr) (n : ℕ) where
 
   -- after `~` or `?`
   unfoldable pub wrapped_param : ℕ → Bool → Read Param
-  wrapped_param at optional (placed key.LeftParen at' ∷ word class.Lower x ∷ ts) = wrapped_end at optional at' x (optional_type ts).0 (optional_type ts).1
+  wrapped_param at optional (placed key.LeftParen at' ∷ word class.Lower x ∷ ts) =
+      wrapped_end at optional at' x (optional_type ts).0 (optional_type ts).1
   wrapped_param at optional _ = None
 
   -- after `( type`

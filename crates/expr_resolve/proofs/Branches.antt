@@ -11,7 +11,8 @@ use Rattle.binding_model.specs.Taken.{Taken, taken}
 use Rattle.binding_model.specs.Walk.{expr_steps, tail_steps, maybe_steps, links_steps}
 use Rattle.expr_resolve.specs.Branches.{branches_steps}
 
-other_steps : (t : Taken) (file : ℕ) (sc : Entries) (o : Option (Box Expr)) → taken t (tail_steps file sc (otherwise o)) ≡ taken t (maybe_steps file sc (maybe o))
+other_steps : (t : Taken) (file : ℕ) (sc : Entries) (o : Option (Box Expr))
+    → taken t (tail_steps file sc (otherwise o)) ≡ taken t (maybe_steps file sc (maybe o))
 other_steps t file sc None = refl
 other_steps t file sc (Some e) = refl
 

@@ -21,7 +21,8 @@ itself k h = record { weight = refl; work = omega (arith, h); opened = refl }
 there : (ss : Steps) (k : Sums) (m : Found) → k.work ≤ 4194305 → taken (Going (found_from k)) ss ≡ Going m → Arrived (found_from k) k ss m
 there ss k m h e = went_there ss (found_from k) m k (itself k h) e
 
-pub refs_told : (ss : Steps) (k : Sums) (m : Found) → k.work ≤ 4194305 → taken (Going (found_from k)) ss ≡ Going m → in_order (λ r. r.at) m.refs ≡ (facts_of ss).refs
+pub refs_told : (ss : Steps) (k : Sums) (m : Found) → k.work ≤ 4194305 → taken (Going (found_from k)) ss ≡ Going m
+    → in_order (λ r. r.at) m.refs ≡ (facts_of ss).refs
 refs_told ss k m h e = ap (in_order (λ r. r.at)) (there ss k m h e).refs
 
 pub groups_told : (ss : Steps) (k : Sums) (m : Found) → k.work ≤ 4194305 → taken (Going (found_from k)) ss ≡ Going m → m.groups ≡ (facts_of ss).groups
@@ -33,7 +34,8 @@ sums_told ss k m h e = (there ss k m h e).sums
 small : (k j : Sums) → Tracks k j → j.work ≤ 4194304 → k.work ≤ 4194304
 small k j t h = omega (arith, t.work, h)
 
-pub links_told : (ss : Steps) (k : Sums) (m : Found) → k.work ≤ 4194305 → taken (Going (found_from k)) ss ≡ Going m → m.sums.work ≤ 4194304 → m.links ≡ (facts_of ss).links
+pub links_told : (ss : Steps) (k : Sums) (m : Found) → k.work ≤ 4194305 → taken (Going (found_from k)) ss ≡ Going m → m.sums.work ≤ 4194304
+    → m.links ≡ (facts_of ss).links
 links_told ss k m h e l = (there ss k m h e).links (small (sums_after k ss) m.sums (there ss k m h e).sums l)
 
 pub light_told : (ss : Steps) (k : Sums) (m : Found) → k.work ≤ 4194305 → taken (Going (found_from k)) ss ≡ Going m → heavy_from k ss ≡ None
@@ -42,7 +44,8 @@ light_told ss k m h e = went_light ss (found_from k) m k (itself k h) e
 pub heavy_told : (ss : Steps) (k : Sums) (at : Place) → k.work ≤ 4194305 → taken (Going (found_from k)) ss ≡ HeavyAt at → heavy_from k ss ≡ Some at
 heavy_told ss k at h e = stopped_heavy ss (found_from k) k at (itself k h) e
 
-pub looks_told : (ss : Steps) (w : Watch) (m : Found) → taken (Going (nothing_found (Some (record { watch = w; looks = no_looks })))) ss ≡ Going m → m.sums.work ≤ 4194304
+pub looks_told : (ss : Steps) (w : Watch) (m : Found) → taken (Going (nothing_found (Some (record { watch = w; looks = no_looks })))) ss ≡ Going m
+    → m.sums.work ≤ 4194304
     → looks_kept m.recorder ≡ looks_in w ss
 looks_told ss w m e l =
     let r : Recorder = record { watch = w; looks = no_looks } in

@@ -1,5 +1,6 @@
 -- A stable sort by places puts things in order.
-use Rattle.std.proofs.Common.{◌≡◌, ℕ, suc, ◌+◌, ◌≤◌, ◌<◌, ◌==◌, ◌&&◌, ◌||◌, not, List, [], ◌∷◌, Bool, true, false, true≢false, cond, if◌then◌else◌, length, get_or, refl, sym, ap, subst, ◌∙◌, arith, nat_lt}
+use Rattle.std.proofs.Common.{◌≡◌, ℕ, suc, ◌+◌, ◌≤◌, ◌<◌, ◌==◌, ◌&&◌, ◌||◌, not, List, [], ◌∷◌, Bool, true, false, true≢false, cond, if◌then◌else◌}
+use Rattle.std.proofs.Common.{length, get_or, refl, sym, ap, subst, ◌∙◌, arith, nat_lt}
 use Rattle.std.specs.Cmp.{IsStrictWeakOrder}
 use Rattle.std.specs.List.{filter}
 use Rattle.std.specs.List.Sorted.{IsSortedByKey, IsStableByKey, ties}
@@ -27,7 +28,10 @@ module _ {A : Type 0} (lt : A → A → Bool) (o : IsStrictWeakOrder lt) where
 
   up_of : (xs : List A) → ((i j : ℕ) (d : A) → i ≤ j → j < length xs → lt (get_or xs j d) (get_or xs i d) ≡ false) → Up xs
   up_of [] h = tt {0}
-  up_of (x ∷ xs) h = (above_of x xs (λ k p. h 0 (suc k) x (omega arith) (omega arith)), up_of xs (λ i j d p q. h (suc i) (suc j) d (omega arith) (omega arith)))
+  up_of (x ∷ xs) h = (
+    above_of x xs (λ k p. h 0 (suc k) x (omega arith) (omega arith)),
+    up_of xs (λ i j d p q. h (suc i) (suc j) d (omega arith) (omega arith)),
+  )
 
   -- if y is not less than x, and no thing of a list is less than y, none is less than x
   above_chain : (x y : A) (xs : List A) → lt y x ≡ false → Above y xs → Above x xs
@@ -41,7 +45,8 @@ module _ {A : Type 0} (lt : A → A → Bool) (o : IsStrictWeakOrder lt) where
   -- nothing that is not less than z ties with a thing that is less than z
   none_ties : (y z : A) (l : List A) → lt y z ≡ true → Above z l → filter (ties lt y) l ≡ []
   none_ties y z [] h a = refl
-  none_ties y z (w ∷ l) h a = ap (λ b. cond b (w ∷ filter (ties lt y) l) (filter (ties lt y) l)) (not_both (lt y w) (lt w y) (less (lt y w) refl)) ∙ none_ties y z l h a.1
+  none_ties y z (w ∷ l) h a = ap (λ b. cond b (w ∷ filter (ties lt y) l) (filter (ties lt y) l)) (not_both (lt y w) (lt w y) (less (lt y w) refl))
+      ∙ none_ties y z l h a.1
     where
       less : (b : Bool) → lt y w ≡ b → b ≡ true
       less true e = refl
@@ -90,7 +95,8 @@ module _ {A : Type 0} (lt : A → A → Bool) (o : IsStrictWeakOrder lt) where
     where
       by : (b : Bool) → lt y z ≡ b → b ≡ false
       by false e = refl
-      by true e = absurd (no_cons y (filter (ties lt y) ys) (sym (kept (ties lt y) y ys (ties_itself y)) ∙ h ∙ none_ties y z (z ∷ zs) e (irreflexive z, a)))
+      by true e = absurd (no_cons y (filter (ties lt y) ys)
+          (sym (kept (ties lt y) y ys (ties_itself y)) ∙ h ∙ none_ties y z (z ∷ zs) e (irreflexive z, a)))
 
   pub one_order : (ys zs : List A) → Up ys → Up zs → ((x : A) → filter (ties lt x) ys ≡ filter (ties lt x) zs) → ys ≡ zs
   one_order [] [] u v h = refl
@@ -99,10 +105,12 @@ module _ {A : Type 0} (lt : A → A → Bool) (o : IsStrictWeakOrder lt) where
   one_order (y ∷ ys) (z ∷ zs) u v h =
       let a = not_less y z ys zs v.0 (h y) in
       let b = not_less z y zs ys u.0 (sym (h z)) in
-      let e : y ∷ filter (ties lt y) ys ≡ z ∷ filter (ties lt y) zs = sym (kept (ties lt y) y ys (ties_itself y)) ∙ h y ∙ kept (ties lt y) z zs (ties_with y z a b) in
+      let e : y ∷ filter (ties lt y) ys ≡ z ∷ filter (ties lt y) zs = sym (kept (ties lt y) y ys (ties_itself y)) ∙ h y
+      ∙ kept (ties lt y) z zs (ties_with y z a b) in
       let same = head_same y z (filter (ties lt y) ys) (filter (ties lt y) zs) e in
       let more : (x : A) → filter (ties lt x) ys ≡ filter (ties lt x) zs =
-      λ x. cancel (ties lt x y) y (filter (ties lt x) ys) (filter (ties lt x) zs) (h x ∙ ap (λ w. cond (ties lt x w) (w ∷ filter (ties lt x) zs) (filter (ties lt x) zs)) (sym same)) in
+      λ x. cancel (ties lt x y) y (filter (ties lt x) ys) (filter (ties lt x) zs)
+      (h x ∙ ap (λ w. cond (ties lt x w) (w ∷ filter (ties lt x) zs) (filter (ties lt x) zs)) (sym same)) in
       ap (λ w. w ∷ ys) same ∙ ap (λ l. z ∷ l) (one_order ys zs u.1 v.1 more)
 
 -- the order of places
@@ -159,7 +167,8 @@ module _ {A : Type 0} (at : A → Place) where
       second false true h = absurd cc
       second false false h = refl
 
-  swap_kept : (b c : Bool) (x y : A) (l : List A) → (b ≡ true → c ≡ true → ⊥) → cond c (y ∷ cond b (x ∷ l) l) (cond b (x ∷ l) l) ≡ cond b (x ∷ cond c (y ∷ l) l) (cond c (y ∷ l) l)
+  swap_kept : (b c : Bool) (x y : A) (l : List A) → (b ≡ true → c ≡ true → ⊥) → cond c (y ∷ cond b (x ∷ l) l) (cond b (x ∷ l) l) ≡ cond b
+      (x ∷ cond c (y ∷ l) l) (cond c (y ∷ l) l)
   swap_kept true true x y l f = absurd (f refl refl)
   swap_kept true false x y l f = refl
   swap_kept false true x y l f = refl
@@ -169,7 +178,8 @@ module _ {A : Type 0} (at : A → Place) where
       → filter (ties less w) (if b then y ∷ put at x l else x ∷ (y ∷ l)) ≡ filter (ties less w) (x ∷ (y ∷ l))
   kept_if true w x y l e h =
       ap (λ k. cond (ties less w y) (y ∷ k) k) h
-      ∙ swap_kept (ties less w x) (ties less w y) x y (filter (ties less w) l) (λ p q. true≢false (sym e ∙ before_so (at y) (at x) ∙ ties_both w x y p q))
+      ∙ swap_kept (ties less w x) (ties less w y) x y (filter (ties less w) l)
+      (λ p q. true≢false (sym e ∙ before_so (at y) (at x) ∙ ties_both w x y p q))
   kept_if false w x y l e h = refl
 
   kept_put : (w x : A) (l : List A) → filter (ties less w) (put at x l) ≡ filter (ties less w) (x ∷ l)
@@ -181,4 +191,5 @@ module _ {A : Type 0} (at : A → Place) where
   kept_order w (x ∷ xs) = kept_put w x (in_order at xs) ∙ ap (λ k. cond (ties less w x) (x ∷ k) k) (kept_order w xs)
 
   pub sorted_so : (xs ys : List A) → IsSortedByKey at place_cmp ys → IsStableByKey at place_cmp xs ys → ys ≡ in_order at xs
-  sorted_so xs ys s t = one_order less weak ys (in_order at xs) (up_of less weak ys (sorted_far less weak ys s)) (up_order xs) (λ w. t w ∙ sym (kept_order w xs))
+  sorted_so xs ys s t = one_order less weak ys (in_order at xs) (up_of less weak ys (sorted_far less weak ys s)) (up_order xs)
+      (λ w. t w ∙ sym (kept_order w xs))

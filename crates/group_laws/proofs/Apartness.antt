@@ -1,5 +1,6 @@
 -- The values of a group have names of their own if no place repeats one: its places are some of a file's, in order.
-use Rattle.std.proofs.Common.{◌≡◌, ◌≢◌, ℕ, zero, suc, ◌<◌, ◌⊎◌, inl, inr, Bool, true, false, refl, sym, ap, ◌∙◌, subst, arith, List, [], ◌∷◌, ◌++◌, length, map, get_or, Contains, Option, Some, None, bytes_eq}
+use Rattle.std.proofs.Common.{◌≡◌, ◌≢◌, ℕ, zero, suc, ◌<◌, ◌⊎◌, inl, inr, Bool, true, false, refl, sym, ap, ◌∙◌, subst, arith, List, [], ◌∷◌, ◌++◌}
+use Rattle.std.proofs.Common.{length, map, get_or, Contains, Option, Some, None, bytes_eq}
 use Rattle.std.proofs.lemmas.Slice.Eq.{bytes_eq-Decides}
 use Rattle.rotor_base.specs.declared.place.Place.{Place}
 use Rattle.rotor_base.specs.declared.place.Goal.{Goal}
@@ -14,7 +15,8 @@ use Rattle.ml_syntax.specs.Each.{Each}
 use Rattle.binding_model.specs.Scopes.{here, bound, after_unit}
 use Rattle.binding_model.specs.Steps.{Steps, groups_of}
 use Rattle.binding_model.specs.Walk.{file_steps, maybe_file_steps, unit_links, unit_steps, units_steps, steps}
-use Rattle.binding_model.specs.Facts.{facts, decls, is_before, unmatched, unmatched_items, item_without, decl_list, least, earlier, AreNamedApart, IsGood}
+use Rattle.binding_model.specs.Facts.{facts, decls, is_before, unmatched, unmatched_items, item_without, decl_list, least, earlier, AreNamedApart}
+use Rattle.binding_model.specs.Facts.{IsGood}
 use Rattle.binding_model.specs.Renaming.{placed_sites, file_places, places, at_place, site_name, name_of}
 use Rattle.binding_model.proofs.Sounds.{each_map, each_joined, found_all, same_self, Other, Apart}
 use Rattle.binding_model.proofs.Telltale.{apart_of, each_contained}
@@ -87,16 +89,21 @@ module _ (us : List UnitTree) where
     apart : Spread file list
     own : Each (OwnAt file) list
 
-  made : (f : ℕ) (added ys : List Site) (gs : List Entries) → ys ≡ added → Apart (placed_sites f ys) → Each Own (placed_sites f ys) → Each (Fits f added) gs → Each IsMade gs
+  made : (f : ℕ) (added ys : List Site) (gs : List Entries) → ys ≡ added → Apart (placed_sites f ys) → Each Own (placed_sites f ys)
+      → Each (Fits f added) gs → Each IsMade gs
   made f added ys gs e a k h = each_map (Fits f added) IsMade gs (λ es x.
       let part : Sub x.0 ys = subst (Sub x.0) (sym e) x.2 in
       record { file = f; list = x.0; is = x.1; apart = spread f x.0 ys part a; own = sub_each (OwnAt f) x.0 ys part (owned f ys k) }) h
 
-  file_made : (t : FileTree) (sc : Entries) → Apart (file_places (Some t)) → Each Own (file_places (Some t)) → Each IsMade (groups_of (file_steps sc t))
-  file_made (Body f is) sc a k = let h = items_uses f is sc [] in made f h.added (sites (Body f is)) (groups_of (file_steps sc (Body f is))) h.is a k h.groups
-  file_made (Face f is) sc a k = let h = sig_items_uses f is sc [] in made f h.added (sites (Face f is)) (groups_of (file_steps sc (Face f is))) h.is a k h.groups
+  file_made : (t : FileTree) (sc : Entries) → Apart (file_places (Some t)) → Each Own (file_places (Some t))
+      → Each IsMade (groups_of (file_steps sc t))
+  file_made (Body f is) sc a k = let h = items_uses f is sc [] in
+      made f h.added (sites (Body f is)) (groups_of (file_steps sc (Body f is))) h.is a k h.groups
+  file_made (Face f is) sc a k = let h = sig_items_uses f is sc [] in
+      made f h.added (sites (Face f is)) (groups_of (file_steps sc (Face f is))) h.is a k h.groups
 
-  part_made : (o : Option FileTree) (sc : Entries) → Apart (file_places o) → Each Own (file_places o) → Each IsMade (groups_of (maybe_file_steps sc o))
+  part_made : (o : Option FileTree) (sc : Entries) → Apart (file_places o) → Each Own (file_places o)
+      → Each IsMade (groups_of (maybe_file_steps sc o))
   part_made None sc a k = tt
   part_made (Some t) sc a k = file_made t sc a k
 
@@ -142,7 +149,8 @@ module _ (us : List UnitTree) where
     here_is true i j = (y, inl refl, (bytes_eq-Decides y.name n).0 i)
     here_is false i j = absurd cc
 
-    by : (o : Option Goal) → last_of (vals (bound f ys)) n ≡ o → ((k : Goal) → last_of (vals (bound f ys)) n ≡ Some k → (z : Site) × In z ys × (z.name ≡ n))
+    by : (o : Option Goal) → last_of (vals (bound f ys)) n ≡ o
+        → ((k : Goal) → last_of (vals (bound f ys)) n ≡ Some k → (z : Site) × In z ys × (z.name ≡ n))
         → or_else o (some_if (bytes_eq y.name n) (Decl (here f y.at))) ≡ Some g → (z : Site) × In z (y ∷ ys) × (z.name ≡ n)
     by (Some k) i rest j = let r = rest k i in (r.0, inr r.1, r.2)
     by None i rest j = here_is (bytes_eq y.name n) refl j
@@ -152,17 +160,34 @@ module _ (us : List UnitTree) where
   at_in P (y ∷ ys) x h (inl e) = subst P e h.0
   at_in P (y ∷ ys) x h (inr i) = at_in P ys x h.1 i
 
-  module _ (no : (first again : Place) → Repeats (name_of us) (facts us).groups first again → ⊥) (f : ℕ) (all : List Site) (among : Contains (facts us).groups (decls (bound f all))) where
+  module _ (no : (first again : Place) → Repeats (name_of us) (facts us).groups first again → ⊥) (f : ℕ) (all : List Site)
+      (among : Contains (facts us).groups (decls (bound f all))) where
     two : (x y : Site) → In x all → In y all → OwnAt f x → OwnAt f y → x.name ≡ y.name → same_place (here f x.at) (here f y.at) ≡ false → ⊥
     two x y i j a b e far =
         let names : name_of us (here f x.at) ≡ name_of us (here f y.at) = ap site_name a ∙ (e ∙ sym (ap site_name b)) in
         by (is_before (here f x.at) (here f y.at)) refl names where
           after : (here f y.at ≡ here f x.at) ⊎ IsBefore (here f y.at) (here f x.at) → name_of us (here f x.at) ≡ name_of us (here f y.at) → ⊥
           after (inl s) names = absurd (let z : true ≡ false = sym (same_self (here f x.at)) ∙ (ap (same_place (here f x.at)) (sym s) ∙ far) in cc)
-          after (inr s) names = no (here f y.at) (here f x.at) (record { group = decls (bound f all); among = among; here = in_decls f all y j; there = in_decls f all x i; order = s; same = sym names })
+          after (inr s) names = no (here f y.at) (here f x.at)
+              (record {
+                group = decls (bound f all);
+                among = among;
+                here = in_decls f all y j;
+                there = in_decls f all x i;
+                order = s;
+                same = sym names;
+              })
 
           by : (c : Bool) → is_before (here f x.at) (here f y.at) ≡ c → name_of us (here f x.at) ≡ name_of us (here f y.at) → ⊥
-          by true g names = no (here f x.at) (here f y.at) (record { group = decls (bound f all); among = among; here = in_decls f all x i; there = in_decls f all y j; order = tested (here f x.at) (here f y.at) g; same = names })
+          by true g names = no (here f x.at) (here f y.at)
+              (record {
+                group = decls (bound f all);
+                among = among;
+                here = in_decls f all x i;
+                there = in_decls f all y j;
+                order = tested (here f x.at) (here f y.at) g;
+                same = names;
+              })
           by false g names = after (untested (here f x.at) (here f y.at) g) names
 
     names_apart : (xs : List Site) → ((x : Site) → In x xs → In x all) → Spread f xs → Each (OwnAt f) xs → AreNamedApart (vals (bound f xs))
@@ -172,7 +197,8 @@ module _ (us : List UnitTree) where
       none_of None e = refl
       none_of (Some g) e =
           let y = last_in f xs x.name g e in
-          absurd (two x y.0 (up x (inl refl)) (up y.0 (inr y.1)) k.0 (at_in (OwnAt f) xs y.0 k.1 y.1) (sym y.2) (at_in (λ z. same_place (here f x.at) (here f z.at) ≡ false) xs y.0 s.0 y.1))
+          absurd (two x y.0 (up x (inl refl)) (up y.0 (inr y.1)) k.0 (at_in (OwnAt f) xs y.0 k.1 y.1) (sym y.2)
+          (at_in (λ z. same_place (here f x.at) (here f z.at) ≡ false) xs y.0 s.0 y.1))
 
 contains_map : (gs : List Entries) (es : Entries) → Contains gs es → Contains (map decls gs) (decls es)
 contains_map [] es c = absurd (omega (arith, c.1))
@@ -190,7 +216,8 @@ no_repeat_is_apart us s h =
     let all = units_made us us none (apart_of us s) (found_all (places us) (apart_of us s)) in
     each_contained (λ es. AreNamedApart (vals es)) (groups_of (steps us)) (λ es c.
     let m = each_in (IsMade us) (groups_of (steps us)) es all c in
-    let among : Contains (facts us).groups (decls (bound m.file m.list)) = subst (λ (x : Entries). Contains (facts us).groups (decls x)) m.is (contains_map (groups_of (steps us)) es c) in
+    let among : Contains (facts us).groups (decls (bound m.file m.list)) = subst (λ (x : Entries). Contains (facts us).groups (decls x)) m.is
+    (contains_map (groups_of (steps us)) es c) in
     subst (λ (x : Entries). AreNamedApart (vals x)) (sym m.is) (names_apart us no m.file m.list among m.list (λ x i. i) m.apart m.own))
 
 -- ---- no Unmatched, so no link lacks its source
@@ -204,7 +231,12 @@ least_none (p ∷ ps) e = by (least ps) e where
 
 matched : (ls : List Link) → Each (λ l. (a : Place) × (l.item ≡ Decl a)) ls → unmatched_items ls ≡ [] → Each (λ l. l.source ≢ Missing) ls
 matched [] d e = tt
-matched (l ∷ ls) d e = (λ m. absurd (let one : d.0.0 ∷ unmatched_items ls ≡ [] = sym (ap (λ (s : Goal). item_without s l.item ++ unmatched_items ls) m ∙ ap (λ (i : Goal). decl_list i ++ unmatched_items ls) d.0.1) ∙ e in cc), matched ls d.1 (rest (item_without l.source l.item) (unmatched_items ls) e)) where
+matched (l ∷ ls) d e = (
+  λ m. absurd
+      (let one : d.0.0 ∷ unmatched_items ls ≡ [] = sym
+      (ap (λ (s : Goal). item_without s l.item ++ unmatched_items ls) m ∙ ap (λ (i : Goal). decl_list i ++ unmatched_items ls) d.0.1) ∙ e in cc),
+  matched ls d.1 (rest (item_without l.source l.item) (unmatched_items ls) e),
+) where
   rest : (xs ys : List Place) → xs ++ ys ≡ [] → ys ≡ []
   rest [] ys h = h
   rest (x ∷ xs) ys h = absurd cc

@@ -1,5 +1,6 @@
 -- If no least place repeats a name of its group, none does: some groups have a first repeat, or none.
-use Rattle.std.proofs.Common.{◌≡◌, ℕ, zero, suc, ◌+◌, ◌<◌, ◌≤◌, bytes_eq, if◌then◌else◌, refl, subst, arith, List, [], ◌∷◌, length, get_or, Option, Some, None}
+use Rattle.std.proofs.Common.{◌≡◌, ℕ, zero, suc, ◌+◌, ◌<◌, ◌≤◌, bytes_eq, if◌then◌else◌, refl, subst, arith, List, [], ◌∷◌, length, get_or, Option}
+use Rattle.std.proofs.Common.{Some, None}
 use Rattle.std.proofs.lemmas.List.{get_or_default}
 use Rattle.rotor_base.specs.declared.place.Place.{Place}
 use Rattle.capture_check.specs.declared.fault.Repeat.{Repeat}
@@ -56,7 +57,8 @@ module _ (names : Names) where
       )
 
   first_or_none : (groups : List (List Place)) → (o : Option Repeat) × IsFirstRepeat names groups o
-  first_or_none groups = let s = groups_at groups (length groups) (omega arith) in (s.0, groups_end names groups (length groups) s.0 (omega arith) (omega arith) s.1)
+  first_or_none groups = let s = groups_at groups (length groups) (omega arith) in
+      (s.0, groups_end names groups (length groups) s.0 (omega arith) (omega arith) s.1)
 
 pub no_least_is_none : NoLeastIsNone
 no_least_is_none names groups h = by (first_or_none names groups).0 (first_or_none names groups).1 where

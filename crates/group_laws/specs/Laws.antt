@@ -21,7 +21,8 @@ NoLeastIsNone = (names : Names) (groups : List (List Place)) → HasNoRepeat nam
 
 -- Law: in a sound project whose groups repeat no name, the values of each group have names of their own
 abbrev pub NoRepeatIsApart : Type 0
-NoRepeatIsApart = (us : List UnitTree) → IsSound us → HasNoRepeat (name_of us) (facts us).groups → Each (λ es. AreNamedApart (vals es)) (groups_of (steps us))
+NoRepeatIsApart = (us : List UnitTree) → IsSound us → HasNoRepeat (name_of us) (facts us).groups
+    → Each (λ es. AreNamedApart (vals es)) (groups_of (steps us))
 
 -- Law: a sound project without Duplicate and Unmatched is Good
 abbrev pub UnrefusedIsGood : Type 0

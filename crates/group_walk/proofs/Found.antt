@@ -5,14 +5,38 @@ use Rattle.ml_syntax.specs.declared.expression.Branch.{Branch}
 use Rattle.ml_syntax.specs.declared.expression.Expr.{Expr as Expr_tree}
 use Rattle.ml_syntax.specs.Tok.{Name as Word}
 use Rattle.ml_syntax.specs.Places.{Site, punned, operated, operator_sites, name_sites, label_site}
-use Rattle.ml_syntax.specs.Tree.{ValueName, LocalModule, LocalPath, LocalArguments, no_local, more_local, no_module, Expr, Seq, Let, LetOpen, LetModule, Fun, Function, Match, Try, If, Chain, Minus, Apply, ConstrApply, TagApply, Assert, Lazy, Postfix, Prefixed, Literal, BoolExpr, Value, Constr, Tag, UnitExpr, Paren, Typed, Coerced, EmptyBegin, Begin, EmptyList, ListExpr, Record, Opened, While, For, Links, no_link, more_link, MaybeExpr, no_expr, some_expr, Tail, no_else, or_else, or_if, Binding, PlainBinding, AppliedBinding, Bindings, no_binding, more_binding, Case, CaseOf, Cases, no_case, more_case, Argument, Positional, LabelPun, Labelled, Arguments, no_argument, more_argument, Param, PatternParam, LabelParam, LabelPattern, DefaultParam, WrappedParam, WrappedDefault, TypesParam, Params, no_param, more_param, Part, LabelPart, IndexPart, CharPart, Parts, no_part, more_part, Field, FieldPun, AssignedField, Fields, no_field, more_field, ModExpr, ModPath, Struct, Functor, ModApply, ModParen, Sealed, ModArgument, ModuleArgument, SealedArgument, NoArgument, ModArguments, no_mod_argument, more_mod_argument, FunctorParam, NamedParam, NoParam, FunctorParams, no_functor_param, more_functor_param, ModType, TypePath, Sig, TypeOf, TypeParen, With, FunctorType, ParamArrow, Arrow, MaybeType, no_type, some_type, Item, ExprItem, SeparatorItem, ValueItem, ExternalItem, TypeItem, ExceptionItem, ModuleItem, ModuleTypeItem, OpenItem, IncludeItem, Items, no_item, more_item, SigItem, SeparatorSig, ValSig, ExternalSig, TypeSig, ExceptionSig, ModuleSig, AliasSig, ModuleTypeSig, OpenSig, IncludeSig, SigItems, no_sig_item, more_sig_item, FileTree, Body, Face, UnitTree}
+use Rattle.ml_syntax.specs.Tree.{ValueName, LocalModule, LocalPath, LocalArguments, no_local, more_local, no_module, Expr, Seq, Let, LetOpen}
+use Rattle.ml_syntax.specs.Tree.{LetModule, Fun, Function, Match, Try, If, Chain, Minus, Apply, ConstrApply, TagApply, Assert, Lazy, Postfix}
+use Rattle.ml_syntax.specs.Tree.{Prefixed, Literal, BoolExpr, Value, Constr, Tag, UnitExpr, Paren, Typed, Coerced, EmptyBegin, Begin, EmptyList}
+use Rattle.ml_syntax.specs.Tree.{ListExpr, Record, Opened, While, For, Links, no_link, more_link, MaybeExpr, no_expr, some_expr, Tail, no_else}
+use Rattle.ml_syntax.specs.Tree.{or_else, or_if, Binding, PlainBinding, AppliedBinding, Bindings, no_binding, more_binding, Case, CaseOf, Cases}
+use Rattle.ml_syntax.specs.Tree.{no_case, more_case, Argument, Positional, LabelPun, Labelled, Arguments, no_argument, more_argument, Param}
+use Rattle.ml_syntax.specs.Tree.{PatternParam, LabelParam, LabelPattern, DefaultParam, WrappedParam, WrappedDefault, TypesParam, Params, no_param}
+use Rattle.ml_syntax.specs.Tree.{more_param, Part, LabelPart, IndexPart, CharPart, Parts, no_part, more_part, Field, FieldPun, AssignedField, Fields}
+use Rattle.ml_syntax.specs.Tree.{no_field, more_field, ModExpr, ModPath, Struct, Functor, ModApply, ModParen, Sealed, ModArgument, ModuleArgument}
+use Rattle.ml_syntax.specs.Tree.{SealedArgument, NoArgument, ModArguments, no_mod_argument, more_mod_argument, FunctorParam, NamedParam, NoParam}
+use Rattle.ml_syntax.specs.Tree.{FunctorParams, no_functor_param, more_functor_param, ModType, TypePath, Sig, TypeOf, TypeParen, With, FunctorType}
+use Rattle.ml_syntax.specs.Tree.{ParamArrow, Arrow, MaybeType, no_type, some_type, Item, ExprItem, SeparatorItem, ValueItem, ExternalItem, TypeItem}
+use Rattle.ml_syntax.specs.Tree.{ExceptionItem, ModuleItem, ModuleTypeItem, OpenItem, IncludeItem, Items, no_item, more_item, SigItem, SeparatorSig}
+use Rattle.ml_syntax.specs.Tree.{ValSig, ExternalSig, TypeSig, ExceptionSig, ModuleSig, AliasSig, ModuleTypeSig, OpenSig, IncludeSig, SigItems}
+use Rattle.ml_syntax.specs.Tree.{no_sig_item, more_sig_item, FileTree, Body, Face, UnitTree}
 use Rattle.ml_syntax.specs.View.{view, maybe, otherwise, tail, links, commas}
 use Rattle.shape_core.specs.Shape.{Shape, Struct as Structure, Functor as FunctorShape, Unitary, Opaque, Entries, none, a_mod, ◌⊕◌, brought}
 use Rattle.binding_model.specs.Variables.{variables, param_variables, for_variables}
-use Rattle.binding_model.specs.Scopes.{path_shape, applied, local_shape, here, bound, let_bound, let_scope, params_bound, opens, sig_opens, mod_shape, params_in, param_in, adds, type_shape, sig_adds, after_unit}
+use Rattle.binding_model.specs.Scopes.{path_shape, applied, local_shape, here, bound, let_bound, let_scope, params_bound, opens, sig_opens, mod_shape}
+use Rattle.binding_model.specs.Scopes.{params_in, param_in, adds, type_shape, sig_adds, after_unit}
 use Rattle.binding_model.specs.Steps.{Steps, groups_of}
-use Rattle.binding_model.specs.Walk.{path_start, pat_steps, apply_steps, local_steps, locals_steps, uses, uses_under, value_steps, expr_steps, links_steps, maybe_steps, tail_steps, binding_steps, bindings_steps, case_steps, cases_steps, argument_steps, arguments_steps, param_steps, params_steps, part_steps, parts_steps, field_steps, fields_steps, mod_steps, mod_argument_steps, mod_arguments_steps, functor_param_steps, functor_steps, type_steps, sealing_steps, item_steps, items_steps, sig_item_steps, sig_items_steps, file_steps, maybe_file_steps, unit_links, unit_steps, units_steps}
-use Rattle.group_walk.specs.Groups.{expr_groups, links_groups, optional_groups, tail_groups, binding_groups, bindings_groups, case_groups, cases_groups, argument_groups, arguments_groups, param_groups, params_groups, part_groups, parts_groups, field_groups, fields_groups, mod_groups, mod_argument_groups, mod_arguments_groups, functor_param_groups, functor_groups, type_groups, item_groups, items_groups, sig_item_groups, sig_items_groups, maybe_type_groups, branches_groups, file_groups, maybe_groups, unit_groups, units_groups}
+use Rattle.binding_model.specs.Walk.{path_start, pat_steps, apply_steps, local_steps, locals_steps, uses, uses_under, value_steps, expr_steps}
+use Rattle.binding_model.specs.Walk.{links_steps, maybe_steps, tail_steps, binding_steps, bindings_steps, case_steps, cases_steps, argument_steps}
+use Rattle.binding_model.specs.Walk.{arguments_steps, param_steps, params_steps, part_steps, parts_steps, field_steps, fields_steps, mod_steps}
+use Rattle.binding_model.specs.Walk.{mod_argument_steps, mod_arguments_steps, functor_param_steps, functor_steps, type_steps, sealing_steps}
+use Rattle.binding_model.specs.Walk.{item_steps, items_steps, sig_item_steps, sig_items_steps, file_steps, maybe_file_steps, unit_links, unit_steps}
+use Rattle.binding_model.specs.Walk.{units_steps}
+use Rattle.group_walk.specs.Groups.{expr_groups, links_groups, optional_groups, tail_groups, binding_groups, bindings_groups, case_groups}
+use Rattle.group_walk.specs.Groups.{cases_groups, argument_groups, arguments_groups, param_groups, params_groups, part_groups, parts_groups}
+use Rattle.group_walk.specs.Groups.{field_groups, fields_groups, mod_groups, mod_argument_groups, mod_arguments_groups, functor_param_groups}
+use Rattle.group_walk.specs.Groups.{functor_groups, type_groups, item_groups, items_groups, sig_item_groups, sig_items_groups, maybe_type_groups}
+use Rattle.group_walk.specs.Groups.{branches_groups, file_groups, maybe_groups, unit_groups, units_groups}
 
 -- two parts of some steps
 both : {A : Type 0} {a a' b b' : List A} → a ≡ a' → b ≡ b' → a ++ b ≡ a' ++ b'
@@ -59,7 +83,10 @@ module _ (file : ℕ) where
   mutual
     pub expr_found : (x : Expr) (sc : Entries) → groups_of (expr_steps file sc x) ≡ expr_groups file x
     expr_found (Seq e es last) sc = both (expr_found e sc) (links_found es sc)
-    expr_found (Let at rec b bs e) sc = ap (λ l. let_bound file b bs ∷ l) (both (binding_found b (let_scope file rec sc b bs)) (both (bindings_found bs (let_scope file rec sc b bs)) (expr_found e (sc ⊕ let_bound file b bs))))
+    expr_found (Let at rec b bs e) sc =
+        ap (λ l. let_bound file b bs ∷ l)
+        (both (binding_found b (let_scope file rec sc b bs))
+        (both (bindings_found bs (let_scope file rec sc b bs)) (expr_found e (sc ⊕ let_bound file b bs))))
     expr_found (LetOpen at at' bang path e) sc = expr_found e (sc ⊕ brought (path_shape sc path) (here file at'))
     expr_found (LetModule at at' x eq m e) sc = none_then (no_local_groups m sc) (expr_found e (sc ⊕ a_mod x.text (local_shape sc m) none))
     expr_found (Fun at ps e) sc = both (params_found ps sc) (expr_found e (sc ⊕ params_bound file ps))
@@ -92,7 +119,9 @@ module _ (file : ℕ) where
     expr_found (Record at base f fs last) sc = both (optional_found base sc) (both (field_found f sc) (fields_found fs sc))
     expr_found (Opened path e) sc = expr_found e (sc ⊕ brought (path_shape sc path) (here file (path_start path)))
     expr_found (While at c e) sc = both (expr_found c sc) (expr_found e sc)
-    expr_found (For at x eq a down b e) sc = both (expr_found a sc) (both (expr_found b sc) (ap (λ l. bound file (for_variables x) ∷ l) (expr_found e (sc ⊕ bound file (for_variables x)))))
+    expr_found (For at x eq a down b e) sc =
+        both (expr_found a sc) (both (expr_found b sc)
+        (ap (λ l. bound file (for_variables x) ∷ l) (expr_found e (sc ⊕ bound file (for_variables x)))))
 
     pub links_found : (x : Links) (sc : Entries) → groups_of (links_steps file sc x) ≡ links_groups file x
     links_found no_link sc = refl
@@ -116,7 +145,10 @@ module _ (file : ℕ) where
     bindings_found (more_binding b bs) sc = both (binding_found b sc) (bindings_found bs sc)
 
     pub case_found : (x : Case) (sc : Entries) → groups_of (case_steps file sc x) ≡ case_groups file x
-    case_found (CaseOf p guard e) sc = ap (λ l. groups_of (pat_steps file p) ++ l) (ap (λ l. bound file (variables p) ∷ l) (both (optional_found guard (sc ⊕ bound file (variables p))) (expr_found e (sc ⊕ bound file (variables p)))))
+    case_found (CaseOf p guard e) sc =
+        ap (λ l. groups_of (pat_steps file p) ++ l)
+        (ap (λ l. bound file (variables p) ∷ l)
+        (both (optional_found guard (sc ⊕ bound file (variables p))) (expr_found e (sc ⊕ bound file (variables p)))))
 
     pub cases_found : (x : Cases) (sc : Entries) → groups_of (cases_steps file sc x) ≡ cases_groups file x
     cases_found no_case sc = refl
@@ -135,7 +167,8 @@ module _ (file : ℕ) where
     param_found (PatternParam p) sc = refl
     param_found (LabelParam x) sc = refl
     param_found (LabelPattern x p) sc = refl
-    param_found (DefaultParam x at p run eq e) sc = ap (λ l. groups_of (pat_steps file p) ++ l) (ap (λ l. l ++ (bound file (variables p) ∷ [])) (expr_found e sc))
+    param_found (DefaultParam x at p run eq e) sc =
+        ap (λ l. groups_of (pat_steps file p) ++ l) (ap (λ l. l ++ (bound file (variables p) ∷ [])) (expr_found e sc))
     param_found (WrappedParam at optional at' x run) sc = refl
     param_found (WrappedDefault at at' x run eq e) sc = ap (λ l. l ++ (bound file (punned true x.at x.text ∷ []) ∷ [])) (expr_found e sc)
     param_found (TypesParam at xs) sc = refl
@@ -175,7 +208,8 @@ module _ (file : ℕ) where
     mod_argument_found (SealedArgument at m s) sc f = both (mod_found m sc) (ends (type_found s sc) (no_apply f (type_shape file sc s)))
     mod_argument_found (NoArgument at) sc f = no_apply f (Structure none)
 
-    pub mod_arguments_found : (x : ModArguments) (sc : Entries) (f : Shape) → groups_of (mod_arguments_steps file sc f x) ≡ mod_arguments_groups file x
+    pub mod_arguments_found : (x : ModArguments) (sc : Entries) (f : Shape)
+        → groups_of (mod_arguments_steps file sc f x) ≡ mod_arguments_groups file x
     mod_arguments_found no_mod_argument sc f = refl
     mod_arguments_found (more_mod_argument m ms) sc f = both (mod_argument_found m sc f) (mod_arguments_found ms sc (applied f))
 
@@ -200,11 +234,15 @@ module _ (file : ℕ) where
     pub item_found : (x : Item) (sc : Entries) → groups_of (item_steps file sc x) ≡ item_groups file x
     item_found (ExprItem e) sc = expr_found e sc
     item_found SeparatorItem sc = refl
-    item_found (ValueItem at rec b bs) sc = ap (λ l. let_bound file b bs ∷ l) (both (binding_found b (let_scope file rec sc b bs)) (bindings_found bs (let_scope file rec sc b bs)))
+    item_found (ValueItem at rec b bs) sc =
+        ap (λ l. let_bound file b bs ∷ l) (both (binding_found b (let_scope file rec sc b bs)) (bindings_found bs (let_scope file rec sc b bs)))
     item_found (ExternalItem x run at ts) sc = refl
     item_found (TypeItem run) sc = refl
     item_found (ExceptionItem at run) sc = refl
-    item_found (ModuleItem at x ps s eq m) sc = both (functor_found ps sc) (last (sealed_found s (sc ⊕ params_in file sc ps) (mod_steps file (sc ⊕ params_in file sc ps) m) (mod_shape file (sc ⊕ params_in file sc ps) m) _ (mod_found m (sc ⊕ params_in file sc ps))))
+    item_found (ModuleItem at x ps s eq m) sc =
+        both (functor_found ps sc)
+        (last (sealed_found s (sc ⊕ params_in file sc ps) (mod_steps file (sc ⊕ params_in file sc ps) m)
+        (mod_shape file (sc ⊕ params_in file sc ps) m) _ (mod_found m (sc ⊕ params_in file sc ps))))
     item_found (ModuleTypeItem at x eq s) sc = last (type_found s sc)
     item_found (OpenItem at bang path) sc = refl
     item_found (IncludeItem at m) sc = last (mod_found m sc)
@@ -229,7 +267,8 @@ module _ (file : ℕ) where
     sig_items_found no_sig_item sc = refl
     sig_items_found (more_sig_item i is) sc = both (sig_item_found i sc) (sig_items_found is (sc ⊕ sig_adds file sc i ⊕ sig_opens file sc i))
 
-    sealed_found : (x : MaybeType) (sc : Entries) (b : Steps) (s : Shape) (gs : List Entries) → groups_of b ≡ gs → groups_of (sealing_steps file sc x b s) ≡ maybe_type_groups file x ++ gs
+    sealed_found : (x : MaybeType) (sc : Entries) (b : Steps) (s : Shape) (gs : List Entries) → groups_of b ≡ gs
+        → groups_of (sealing_steps file sc x b s) ≡ maybe_type_groups file x ++ gs
     sealed_found no_type sc b s gs h = h
     sealed_found (some_type t) sc b s gs h = both (type_found t sc) (last h)
 
@@ -242,7 +281,8 @@ other_same : (file : ℕ) (o : Option (Box Expr_tree)) → tail_groups file (oth
 other_same file None = refl
 other_same file (Some e) = refl
 
-pub tail_same : (file : ℕ) (bs : List Branch) (o : Option (Box Expr_tree)) → tail_groups file (tail bs o) ≡ branches_groups file bs ++ optional_groups file (maybe o)
+pub tail_same : (file : ℕ) (bs : List Branch) (o : Option (Box Expr_tree))
+    → tail_groups file (tail bs o) ≡ branches_groups file bs ++ optional_groups file (maybe o)
 tail_same file [] o = other_same file o
 tail_same file (b ∷ bs) o =
     let t = expr_groups file (view b.test) in

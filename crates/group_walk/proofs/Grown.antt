@@ -1,5 +1,6 @@
 -- The groups that are found after some steps.
-use Rattle.std.proofs.Common.{◌≡◌, ℕ, List, [], ◌∷◌, ◌++◌, Bool, true, false, if◌then◌else◌, map, refl, sym, ap, ◌∙◌, append-nil, append_assoc, nat_le, nat_lt, ◌+◌, Result, Ok, Err}
+use Rattle.std.proofs.Common.{◌≡◌, ℕ, List, [], ◌∷◌, ◌++◌, Bool, true, false, if◌then◌else◌, map, refl, sym, ap, ◌∙◌, append-nil, append_assoc}
+use Rattle.std.proofs.Common.{nat_le, nat_lt, ◌+◌, Result, Ok, Err}
 use Rattle.std.specs.Prelude.{OnOk}
 use Rattle.rotor_base.specs.declared.place.Place.{Place}
 use Rattle.shape_core.specs.Shape.{Entries, weight}
@@ -7,7 +8,8 @@ use Rattle.shape_core.specs.Links.{link}
 use Rattle.binding_model.specs.declared.found.Sums.{Sums}
 use Rattle.binding_model.specs.declared.found.Found.{Found}
 use Rattle.binding_model.specs.Facts.{decls}
-use Rattle.binding_model.specs.Steps.{Steps, quiet, ◌⨾◌, UseAlone, UseUnder, MatchOf, PinOf, TieOf, GroupOf, WeighedSite, OpenedSite, UnitStart, groups_of, trace}
+use Rattle.binding_model.specs.Steps.{Steps, quiet, ◌⨾◌, UseAlone, UseUnder, MatchOf, PinOf, TieOf, GroupOf, WeighedSite, OpenedSite, UnitStart}
+use Rattle.binding_model.specs.Steps.{groups_of, trace}
 use Rattle.binding_model.specs.Sums.{sums_after, is_over}
 use Rattle.binding_model.specs.Taken.{Taken, Going, HeavyAt, taken, with_links, with_sums, unless_over, recorded}
 use Rattle.ml_syntax.proofs.KeptSites.{map-both}
@@ -22,7 +24,11 @@ stays : (n : Found) → n.groups ≡ n.groups ++ map decls []
 stays n = sym (append-nil n.groups)
 
 links_grew : (n : Found) (ss : Steps) (b : Bool) → Grew n [] (Going (if b
-    then record n { links = n.links ++ (trace link ss).told; sums = record n.sums { work = n.sums.work + (trace link ss).work }; recorder = recorded n.recorder ss }
+    then record n {
+      links = n.links ++ (trace link ss).told;
+      sums = record n.sums { work = n.sums.work + (trace link ss).work };
+      recorder = recorded n.recorder ss;
+    }
     else record n { sums = record n.sums { work = 4194305 } }))
 links_grew n ss true = stays n
 links_grew n ss false = stays n
@@ -40,7 +46,8 @@ heavy_grew : (n : Found) (gs : List Entries) (at : Place) (t : Taken) → t ≡ 
 heavy_grew n gs at (Going m) e = absurd cc
 heavy_grew n gs at (HeavyAt p) e = tt {0}
 
-then_grew : (a b : Steps) (n : Found) (t : Taken) → Grew n (groups_of a) t → ((m : Found) → Grew m (groups_of b) (taken (Going m) b)) → Grew n (groups_of a ++ groups_of b) (taken t b)
+then_grew : (a b : Steps) (n : Found) (t : Taken) → Grew n (groups_of a) t → ((m : Found) → Grew m (groups_of b) (taken (Going m) b))
+    → Grew n (groups_of a ++ groups_of b) (taken t b)
 then_grew a b n (Going m) h k = more_grew n m (groups_of a) (groups_of b) (taken (Going m) b) h (k m)
 then_grew a b n (HeavyAt at) h k = heavy_grew n (groups_of a ++ groups_of b) at (taken (HeavyAt at) b) (heavy_stays b at)
 
@@ -89,7 +96,8 @@ pub three_grown : (g0 g1 g2 g3 : List (List Place)) (a b c : List Entries) → g
 three_grown g0 g1 g2 g3 a b c h i j =
     j ∙ ap (λ g. g ++ map decls c) i ∙ joined_groups b c g1 ∙ ap (λ g. g ++ map decls (b ++ c)) h ∙ joined_groups a (b ++ c) g0
 
-pub four_grown : (g0 g1 g2 g3 g4 : List (List Place)) (a b c d : List Entries) → g1 ≡ g0 ++ map decls a → g2 ≡ g1 ++ map decls b → g3 ≡ g2 ++ map decls c → g4 ≡ g3 ++ map decls d
+pub four_grown : (g0 g1 g2 g3 g4 : List (List Place)) (a b c d : List Entries) → g1 ≡ g0 ++ map decls a → g2 ≡ g1 ++ map decls b
+    → g3 ≡ g2 ++ map decls c → g4 ≡ g3 ++ map decls d
     → g4 ≡ g0 ++ map decls (a ++ (b ++ (c ++ d)))
 four_grown g0 g1 g2 g3 g4 a b c d h i j k =
     three_grown g1 g2 g3 g4 b c d i j k ∙ ap (λ g. g ++ map decls (b ++ (c ++ d))) h ∙ joined_groups a (b ++ (c ++ d)) g0

@@ -1,5 +1,6 @@
 -- What the lexemes are not.
-use Rattle.std.proofs.Common.{◌≡◌, ℕ, ◌+◌, List, Bool, true, false, cond, inl, inr, take, drop, get_or, nat_lt, Option, Some, None, refl, ap, sym, ◌∙◌}
+use Rattle.std.proofs.Common.{◌≡◌, ℕ, ◌+◌, List, Bool, true, false, cond, inl, inr, take, drop, get_or, nat_lt, Option, Some, None, refl, ap, sym}
+use Rattle.std.proofs.Common.{◌∙◌}
 use Rattle.std.specs.Char.{is_ascii_digit}
 use Rattle.rotor_base.specs.Name.{is_identifier_byte}
 use Rattle.rotor_base.specs.declared.token.Class.{Class}
@@ -9,7 +10,8 @@ use Rattle.ml_lexer.specs.declared.piece.Piece.TheVariants as piece
 use Rattle.ml_lexer.specs.Bytes.{among, is_at, is_word_start, word_length, operator_length}
 use Rattle.ml_lexer.specs.Numbers.{base_of, head_length, digits_length, float_part_length, suffix_length, unless_identifier_follows, number_at}
 use Rattle.ml_lexer.specs.Quotes.{char_length, text_length, opens_quoted, quoted_length}
-use Rattle.ml_lexer.specs.Pieces.{is_keyword_class, ended, is_long, word_class, word_at, marked_word_at, label_at, is_text, is_mark_operator, operator_of, operator_at, mark_length, mark_of, char_or_variable, begins_label, begins_operator, sign_at, lexeme_at}
+use Rattle.ml_lexer.specs.Pieces.{is_keyword_class, ended, is_long, word_class, word_at, marked_word_at, label_at, is_text, is_mark_operator}
+use Rattle.ml_lexer.specs.Pieces.{operator_of, operator_at, mark_length, mark_of, char_or_variable, begins_label, begins_operator, sign_at, lexeme_at}
 use Rattle.ml_lexer.proofs.Local.{which}
 use Rattle.ml_lexer.proofs.Words.{word_at_length}
 use Rattle.ml_lexer.proofs.Signs.{marked_at_length, label_at_parts, operator_at_length}
@@ -40,7 +42,9 @@ number_other b =
     let n = head_length base + digits_length base (drop (head_length base) b) in
     let more = float_part_length base (drop n b) in
     ap other (number_parts b base n more refl refl refl)
-    ∙ cond_other (nat_lt 0 more) (unless_identifier_follows class.Float (n + more) b) (unless_identifier_follows class.Int (n + suffix_length (drop n b)) b) (follows_float (n + more) b) (follows_int (n + suffix_length (drop n b)) b)
+    ∙ cond_other (nat_lt 0 more) (unless_identifier_follows class.Float (n + more) b)
+    (unless_identifier_follows class.Int (n + suffix_length (drop n b)) b) (follows_float (n + more) b)
+    (follows_int (n + suffix_length (drop n b)) b)
 
 text_other : (o : Option ℕ) → other (ended class.Text o) ≡ true
 text_other None = refl
@@ -51,17 +55,27 @@ quoted_other None = refl
 quoted_other (Some n) = refl
 
 tag_other : (b : List ℕ) → other (marked_word_at class.Tag b) ≡ true
-tag_other b = ap other (marked_at_length class.Tag b _ refl) ∙ cond_other (is_word_start (get_or b 1 0)) (cond (is_long (word_length (drop 1 b))) piece.LongName (piece.Lexeme class.Tag (1 + word_length (drop 1 b)))) piece.Bad (cond_other (is_long (word_length (drop 1 b))) piece.LongName (piece.Lexeme class.Tag (1 + word_length (drop 1 b))) refl refl) refl
+tag_other b = ap other (marked_at_length class.Tag b _ refl)
+    ∙ cond_other (is_word_start (get_or b 1 0))
+    (cond (is_long (word_length (drop 1 b))) piece.LongName (piece.Lexeme class.Tag (1 + word_length (drop 1 b)))) piece.Bad
+    (cond_other (is_long (word_length (drop 1 b))) piece.LongName (piece.Lexeme class.Tag (1 + word_length (drop 1 b))) refl refl) refl
 
 variable_other : (b : List ℕ) → other (marked_word_at class.TypeVar b) ≡ true
-variable_other b = ap other (marked_at_length class.TypeVar b _ refl) ∙ cond_other (is_word_start (get_or b 1 0)) (cond (is_long (word_length (drop 1 b))) piece.LongName (piece.Lexeme class.TypeVar (1 + word_length (drop 1 b)))) piece.Bad (cond_other (is_long (word_length (drop 1 b))) piece.LongName (piece.Lexeme class.TypeVar (1 + word_length (drop 1 b))) refl refl) refl
+variable_other b = ap other (marked_at_length class.TypeVar b _ refl)
+    ∙ cond_other (is_word_start (get_or b 1 0))
+    (cond (is_long (word_length (drop 1 b))) piece.LongName (piece.Lexeme class.TypeVar (1 + word_length (drop 1 b)))) piece.Bad
+    (cond_other (is_long (word_length (drop 1 b))) piece.LongName (piece.Lexeme class.TypeVar (1 + word_length (drop 1 b))) refl refl) refl
 
 quote_other : (o : Option ℕ) (b : List ℕ) → other (char_or_variable o b) ≡ true
 quote_other None b = variable_other b
 quote_other (Some n) b = refl
 
 label_other : (b : List ℕ) → other (label_at b) ≡ true
-label_other b = ap other (label_at_parts b _ _ _ refl refl refl) ∙ cond_other (is_long (word_length (drop 1 b))) piece.LongName (cond (is_keyword_class (word_class (take (word_length (drop 1 b)) (drop 1 b)))) piece.Bad (piece.Lexeme class.Label (1 + word_length (drop 1 b) + cond (is_at ":" (1 + word_length (drop 1 b)) b) 1 0))) refl (cond_other (is_keyword_class (word_class (take (word_length (drop 1 b)) (drop 1 b)))) piece.Bad (piece.Lexeme class.Label (1 + word_length (drop 1 b) + cond (is_at ":" (1 + word_length (drop 1 b)) b) 1 0)) refl refl)
+label_other b = ap other (label_at_parts b _ _ _ refl refl refl) ∙ cond_other (is_long (word_length (drop 1 b))) piece.LongName
+    (cond (is_keyword_class (word_class (take (word_length (drop 1 b)) (drop 1 b)))) piece.Bad
+    (piece.Lexeme class.Label (1 + word_length (drop 1 b) + cond (is_at ":" (1 + word_length (drop 1 b)) b) 1 0))) refl
+    (cond_other (is_keyword_class (word_class (take (word_length (drop 1 b)) (drop 1 b)))) piece.Bad
+    (piece.Lexeme class.Label (1 + word_length (drop 1 b) + cond (is_at ":" (1 + word_length (drop 1 b)) b) 1 0)) refl refl)
 
 classes_other : (a b c : Bool) (n : ℕ) → other (piece.Lexeme (cond a class.Mark (cond b class.Infix (cond c class.Prefix class.Infix))) n) ≡ true
 classes_other true b c n = refl
@@ -69,12 +83,15 @@ classes_other false true c n = refl
 classes_other false false true n = refl
 classes_other false false false n = refl
 
-operator_tests : (w : List ℕ) → operator_of w ≡ cond (is_mark_operator w) class.Mark (cond (is_text "!=" w) class.Infix (cond (among "!~?" (get_or w 0 0)) class.Prefix class.Infix))
+operator_tests : (w : List ℕ)
+    → operator_of w ≡ cond (is_mark_operator w) class.Mark
+    (cond (is_text "!=" w) class.Infix (cond (among "!~?" (get_or w 0 0)) class.Prefix class.Infix))
 unfolding operator_of
 operator_tests w = refl
 
 class_other : (w : List ℕ) (n : ℕ) → other (piece.Lexeme (operator_of w) n) ≡ true
-class_other w n = ap (λ k. other (piece.Lexeme k n)) (operator_tests w) ∙ classes_other (is_mark_operator w) (is_text "!=" w) (among "!~?" (get_or w 0 0)) n
+class_other w n = ap (λ k. other (piece.Lexeme k n)) (operator_tests w)
+    ∙ classes_other (is_mark_operator w) (is_text "!=" w) (among "!~?" (get_or w 0 0)) n
 
 operator_other : (b : List ℕ) → other (operator_at b) ≡ true
 operator_other b = ap other (operator_at_length b _ refl) ∙ class_other (take (1 + operator_length (drop 1 b)) b) (1 + operator_length (drop 1 b))
@@ -83,16 +100,27 @@ mark_other : (m : ℕ) → other (mark_of m) ≡ true
 mark_other m = cond_other (nat_lt 0 m) (piece.Lexeme class.Mark m) piece.Bad refl refl
 
 sign_other : (b : List ℕ) → other (sign_at b) ≡ true
-sign_other b = ap other (sign_tests b _ _ refl refl) ∙ cond_other (nat_lt 1 (mark_length b)) (piece.Lexeme class.Mark (mark_length b)) (cond (begins_operator b) (operator_at b) (mark_of (mark_length b))) refl (cond_other (begins_operator b) (operator_at b) (mark_of (mark_length b)) (operator_other b) (mark_other (mark_length b)))
+sign_other b = ap other (sign_tests b _ _ refl refl) ∙ cond_other (nat_lt 1 (mark_length b)) (piece.Lexeme class.Mark (mark_length b))
+    (cond (begins_operator b) (operator_at b) (mark_of (mark_length b))) refl
+    (cond_other (begins_operator b) (operator_at b) (mark_of (mark_length b)) (operator_other b) (mark_other (mark_length b)))
 
-pub lexeme_tests : (b : List ℕ) (o t : Bool) → opens_quoted b ≡ o → begins_label b ≡ t → lexeme_at b ≡ cond (is_word_start (get_or b 0 0)) (word_at b) (cond (is_ascii_digit (get_or b 0 0)) (number_at b) (cond (is_at "\"" 0 b) (ended class.Text (text_length b)) (cond o (ended class.Quoted (quoted_length b)) (cond (is_at "'" 0 b) (char_or_variable (char_length b) b) (cond (is_at "`" 0 b) (marked_word_at class.Tag b) (cond t (label_at b) (sign_at b)))))))
+pub lexeme_tests : (b : List ℕ) (o t : Bool) → opens_quoted b ≡ o → begins_label b ≡ t → lexeme_at b ≡ cond (is_word_start (get_or b 0 0)) (word_at b)
+    (cond (is_ascii_digit (get_or b 0 0)) (number_at b)
+    (cond (is_at "\"" 0 b) (ended class.Text (text_length b))
+    (cond o (ended class.Quoted (quoted_length b))
+    (cond (is_at "'" 0 b) (char_or_variable (char_length b) b)
+    (cond (is_at "`" 0 b) (marked_word_at class.Tag b) (cond t (label_at b) (sign_at b)))))))
 unfolding lexeme_at
 lexeme_tests b o t e f = rw (e, f) refl
 
 -- where no word begins
 -- what begins where no word does
 abbrev no_word : List ℕ → Piece
-no_word b = cond (is_ascii_digit (get_or b 0 0)) (number_at b) (cond (is_at "\"" 0 b) (ended class.Text (text_length b)) (cond (opens_quoted b) (ended class.Quoted (quoted_length b)) (cond (is_at "'" 0 b) (char_or_variable (char_length b) b) (cond (is_at "`" 0 b) (marked_word_at class.Tag b) (cond (begins_label b) (label_at b) (sign_at b))))))
+no_word b = cond (is_ascii_digit (get_or b 0 0)) (number_at b)
+    (cond (is_at "\"" 0 b) (ended class.Text (text_length b))
+    (cond (opens_quoted b) (ended class.Quoted (quoted_length b))
+    (cond (is_at "'" 0 b) (char_or_variable (char_length b) b)
+    (cond (is_at "`" 0 b) (marked_word_at class.Tag b) (cond (begins_label b) (label_at b) (sign_at b))))))
 
 no_word_other : (b : List ℕ) → is_word_start (get_or b 0 0) ≡ false → other (lexeme_at b) ≡ true
 no_word_other b nay =

@@ -1,5 +1,6 @@
 -- Respelling back with the old words gives the old bytes.
-use Rattle.std.proofs.Common.{◌≡◌, ℕ, ◌+◌, ◌-◌, ◌<◌, ◌≤◌, List, [], ◌∷◌, ◌++◌, length, map, take, drop, refl, ap, sym, ◌∙◌, arith, append_assoc, drop-drop, length-append, length-drop}
+use Rattle.std.proofs.Common.{◌≡◌, ℕ, ◌+◌, ◌-◌, ◌<◌, ◌≤◌, List, [], ◌∷◌, ◌++◌, length, map, take, drop, refl, ap, sym, ◌∙◌, arith, append_assoc}
+use Rattle.std.proofs.Common.{drop-drop, length-append, length-drop}
 use Rattle.std.proofs.lemmas.List.{length-take, take_at, drop_at}
 use Rattle.std.proofs.lemmas.List.Folds.{drop_split}
 use Rattle.ml_lexer.specs.Lexed.{Lexeme}
@@ -25,11 +26,14 @@ back bytes (x ∷ xs) (w ∷ words) at now h size =
     let end = start + length w in
     let lexemes = respelled_lexemes_from x.end end xs words in
     let size_kept : length kept ≡ start - now = omega (arith, from, span, within, length-take (x.start - at) (drop at bytes), length-drop at bytes) in
-    let taken : take (start - now) whole ≡ kept = ap (take (start - now)) (append_assoc kept w rest) ∙ take_at kept (w ++ rest) (start - now) size_kept in
+    let taken : take (start - now) whole ≡ kept = ap (take (start - now)) (append_assoc kept w rest)
+    ∙ take_at kept (w ++ rest) (start - now) size_kept in
     let size_two : length (kept ++ w) ≡ end - now = omega (arith, size_kept, length-append kept w) in
     let dropped : drop (end - now) whole ≡ rest = drop_at (kept ++ w) rest (end - now) size_two in
-    let again : rest ≡ respelled_from x.end (drop x.end bytes) xs words = ap (λ b. respelled_from x.end b xs words) (later bytes at x.end (omega (arith, from, span))) in
-    let tail = ap (λ b. respelled_from end b lexemes (map (λ y. y.bytes) xs)) (dropped ∙ again) ∙ back bytes xs words x.end end h.4 (omega (arith, size)) in
+    let again : rest ≡ respelled_from x.end (drop x.end bytes) xs words =
+    ap (λ b. respelled_from x.end b xs words) (later bytes at x.end (omega (arith, from, span))) in
+    let tail = ap (λ b. respelled_from end b lexemes (map (λ y. y.bytes) xs)) (dropped ∙ again)
+    ∙ back bytes xs words x.end end h.4 (omega (arith, size)) in
     ap (λ b. (b ++ x.bytes) ++ respelled_from end (drop (end - now) whole) lexemes (map (λ y. y.bytes) xs)) taken
     ∙ ap (λ b. (kept ++ x.bytes) ++ b) tail
     ∙ append_assoc kept x.bytes (drop x.end bytes)

@@ -1,5 +1,6 @@
 -- What begins at the front of some bytes depends on the front, and on the first byte behind it.
-use Rattle.std.proofs.Common.{◌≡◌, ◌≢◌, ℕ, suc, ◌+◌, ◌-◌, ◌<◌, ◌≤◌, ◌⊎◌, inl, inr, List, [], ◌∷◌, ◌++◌, Bool, true, false, not, ◌==◌, ◌&&◌, length, take, drop, get_or, nat_le, Some, refl, ap, sym, ◌∙◌, arith, length-drop}
+use Rattle.std.proofs.Common.{◌≡◌, ◌≢◌, ℕ, suc, ◌+◌, ◌-◌, ◌<◌, ◌≤◌, ◌⊎◌, inl, inr, List, [], ◌∷◌, ◌++◌, Bool, true, false, not, ◌==◌, ◌&&◌, length}
+use Rattle.std.proofs.Common.{take, drop, get_or, nat_le, Some, refl, ap, sym, ◌∙◌, arith, length-drop}
 use Rattle.std.specs.List.{prefix_len, list_all}
 use Rattle.std.specs.Str.{byte}
 use Rattle.std.proofs.lemmas.Grind.{common_steps}
@@ -8,7 +9,8 @@ use Rattle.std.proofs.lemmas.List.Folds.{prefix_len-append}
 use Rattle.std.proofs.lemmas.List.Sums.{prefix_len_passes}
 use Rattle.std.proofs.lemmas.Bool.Decides.{nat_tests}
 use Rattle.ml_lexer.specs.Bytes.{is_at, is_quoted_word_byte}
-use Rattle.ml_lexer.specs.Quotes.{fit, plain_char, short_escape, decimal_escape, hexadecimal_escape, octal_escape, char_length, text_end, opens_quoted, closes_quoted, quoted_end, quoted_length, quoted_word_length}
+use Rattle.ml_lexer.specs.Quotes.{fit, plain_char, short_escape, decimal_escape, hexadecimal_escape, octal_escape, char_length, text_end}
+use Rattle.ml_lexer.specs.Quotes.{opens_quoted, closes_quoted, quoted_end, quoted_length, quoted_word_length}
 
 -- the bytes behind a front, before and after: both end, begin with one byte, or begin words
 pub data Alike : List ℕ → List ℕ → Type 0 where
@@ -20,7 +22,8 @@ pub which : (b : Bool) → (b ≡ true) ⊎ (b ≡ false)
 which true = inl refl
 which false = inr refl
 
-pub alike_test : (q : ℕ → Bool) (v : Bool) → ((c : ℕ) → is_quoted_word_byte c ≡ true → q c ≡ v) → {r r' : List ℕ} → Alike r r' → q (get_or r 0 0) ≡ q (get_or r' 0 0)
+pub alike_test : (q : ℕ → Bool) (v : Bool) → ((c : ℕ) → is_quoted_word_byte c ≡ true → q c ≡ v) → {r r' : List ℕ} → Alike r r'
+    → q (get_or r 0 0) ≡ q (get_or r' 0 0)
 alike_test q v f both_end = refl
 alike_test q v f same_byte = refl
 alike_test q v f (both_words {c = c} {c' = c'} h h') = f c h ∙ sym (f c' h')
@@ -53,7 +56,8 @@ text_far n false (c ∷ b) m e = elim (which (c == byte "\"")) [
   | inr y ↦ let far = text_far (n + 1) (c == byte "\\") b m (rw y at e) in omega arith
 ]
 
-pub text_same : (n : ℕ) (taken : Bool) (q r r' : List ℕ) (m : ℕ) → text_end n taken (q ++ r) ≡ Some m → m ≤ n + length q → text_end n taken (q ++ r') ≡ Some m
+pub text_same : (n : ℕ) (taken : Bool) (q r r' : List ℕ) (m : ℕ) → text_end n taken (q ++ r) ≡ Some m → m ≤ n + length q
+    → text_end n taken (q ++ r') ≡ Some m
 unfolding text_end
 text_same n taken [] r r' m e h = let far = text_far n taken r m e in absurd (omega arith)
 text_same n true (c ∷ q) r r' m e h = text_same (n + 1) false q r r' m e (omega arith)
@@ -88,14 +92,16 @@ le_or_lt m n = elim (which (nat_le m n)) [
   | inr e ↦ inr (grind (arith, nat_tests, e))
 ]
 
-pub fit_blocked : (tests : List (ℕ → Bool)) (i j : ℕ) (b : List ℕ) → list_all (λ test. not (test (get_or b j 0))) tests ≡ true → i ≤ j → j < i + length tests → fit tests i b ≡ false
+pub fit_blocked : (tests : List (ℕ → Bool)) (i j : ℕ) (b : List ℕ) → list_all (λ test. not (test (get_or b j 0))) tests ≡ true → i ≤ j
+    → j < i + length tests → fit tests i b ≡ false
 fit_blocked [] i j b f h l = absurd (omega arith)
 fit_blocked (test ∷ tests) i j b f h l =
     let fails = not_true (test (get_or b j 0)) (and_left _ _ f) in
     elim (le_or_lt (i + 1) j) [
       | inl more ↦
           let tail : list_all (λ t. not (t (get_or b j 0))) tests ≡ true = and_right _ _ f in
-          let here : j < (i + 1) + length tests = omega (arith, l) in ap (λ v. test (get_or b i 0) && v) (fit_blocked tests (i + 1) j b tail more here) ∙ and_false (test (get_or b i 0))
+          let here : j < (i + 1) + length tests = omega (arith, l) in
+          ap (λ v. test (get_or b i 0) && v) (fit_blocked tests (i + 1) j b tail more here) ∙ and_false (test (get_or b i 0))
       | inr less ↦ let here : j ≡ i = omega arith in let fails_here : test (get_or b i 0) ≡ false = rw here at fails in rw fails_here refl
     ]
 
@@ -123,7 +129,8 @@ closing_bracket = record { short = refl; decimal = refl; hexadecimal = refl; oct
 last_of : (q r : List ℕ) (c : ℕ) → EndsWith q c → get_or (q ++ r) (length q - 1) 0 ≡ c
 last_of q r c ends = let some : 0 < length q = ends.some in let last = ends.last in grind (arith, common_steps)
 
-escape_same : (tests : List (ℕ → Bool)) (c : ℕ) (q r r' : List ℕ) → EndsWith q c → list_all (λ test. not (test c)) tests ≡ true → fit tests 0 (q ++ r) ≡ fit tests 0 (q ++ r')
+escape_same : (tests : List (ℕ → Bool)) (c : ℕ) (q r r' : List ℕ) → EndsWith q c → list_all (λ test. not (test c)) tests ≡ true
+    → fit tests 0 (q ++ r) ≡ fit tests 0 (q ++ r')
 escape_same tests c q r r' ends fails = elim (le_or_lt (length tests) (length q)) [
   | inl long ↦ fit_same tests 0 q r r' (omega arith)
   | inr short ↦
@@ -154,7 +161,13 @@ plain_same c (x ∷ y ∷ z ∷ q) r r' closer ends alike = fit_same plain_char 
 pub char_same : (c : ℕ) (q r r' : List ℕ) → Closer c → EndsWith q c → Alike r r' → char_length (q ++ r) ≡ char_length (q ++ r')
 unfolding char_length
 char_same c q r r' closer ends alike =
-    rw (plain_same c q r r' closer ends alike, escape_same short_escape c q r r' ends closer.short, escape_same decimal_escape c q r r' ends closer.decimal, escape_same hexadecimal_escape c q r r' ends closer.hexadecimal, escape_same octal_escape c q r r' ends closer.octal) refl
+    rw (
+      plain_same c q r r' closer ends alike,
+      escape_same short_escape c q r r' ends closer.short,
+      escape_same decimal_escape c q r r' ends closer.decimal,
+      escape_same hexadecimal_escape c q r r' ends closer.hexadecimal,
+      escape_same octal_escape c q r r' ends closer.octal,
+    ) refl
 
 pub opens_at : (b : List ℕ) (n : ℕ) → quoted_word_length b ≡ n → opens_quoted b ≡ (is_at "{" 0 b && is_at "|" (1 + n) b)
 unfolding opens_quoted
@@ -194,9 +207,15 @@ inside_take n (x ∷ q) r h = let fits : n ≤ length q = omega arith in take-ap
 closes_same : (word q r r' : List ℕ) → length word + 2 ≤ length q → closes_quoted word (q ++ r) ≡ closes_quoted word (q ++ r')
 unfolding closes_quoted
 closes_same word q r r' h =
-    rw (byte_inside q r r' 0 (omega arith), inside_take (length word) q r (omega arith), inside_take (length word) q r' (omega arith), byte_inside q r r' (1 + length word) (omega arith)) refl
+    rw (
+      byte_inside q r r' 0 (omega arith),
+      inside_take (length word) q r (omega arith),
+      inside_take (length word) q r' (omega arith),
+      byte_inside q r r' (1 + length word) (omega arith),
+    ) refl
 
-quoted_end_same : (word : List ℕ) (n : ℕ) (q r r' : List ℕ) (m : ℕ) → quoted_end word n (q ++ r) ≡ Some m → m ≤ n + length q → quoted_end word n (q ++ r') ≡ Some m
+quoted_end_same : (word : List ℕ) (n : ℕ) (q r r' : List ℕ) (m : ℕ) → quoted_end word n (q ++ r) ≡ Some m → m ≤ n + length q
+    → quoted_end word n (q ++ r') ≡ Some m
 unfolding quoted_end
 quoted_end_same word n [] r r' m e h = let far = quoted_far word n r m e in absurd (omega arith)
 quoted_end_same word n (c ∷ q) r r' m e h =
@@ -215,7 +234,8 @@ quoted_same q r r' m e h =
     let d : drop 1 (q ++ r) ≡ drop 1 q ++ r = drop-append-le 1 q r (omega (arith, far)) in
     let d' : drop 1 (q ++ r') ≡ drop 1 q ++ r' = drop-append-le 1 q r' (omega (arith, far)) in
     let same_run : prefix_len is_quoted_word_byte (drop 1 (q ++ r')) ≡ n =
-    ap (prefix_len is_quoted_word_byte) d' ∙ run_inside is_quoted_word_byte (drop 1 q) r r' (rw (sym d, length-drop) (omega (arith, far))) ∙ ap (prefix_len is_quoted_word_byte) (sym d) in
+    ap (prefix_len is_quoted_word_byte) d' ∙ run_inside is_quoted_word_byte (drop 1 q) r r' (rw (sym d, length-drop) (omega (arith, far)))
+    ∙ ap (prefix_len is_quoted_word_byte) (sym d) in
     let t = inside_take n q r (omega (arith, far)) in
     let t' = inside_take n q r' (omega (arith, far)) in
     let far_drop = drop-append-le (n + 2) q r (omega (arith, far)) in

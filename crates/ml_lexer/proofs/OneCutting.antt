@@ -25,10 +25,12 @@ front_of : (front rest : List ℕ) {bytes : List ℕ} → bytes ≡ front ++ res
 front_of front rest e = rw e (sym (take_front front rest))
 
 -- two cuts of one length are one
-same_rest : (front rest front' rest' : List ℕ) {bytes : List ℕ} → bytes ≡ front ++ rest → bytes ≡ front' ++ rest' → length front' ≡ length front → rest' ≡ rest
+same_rest : (front rest front' rest' : List ℕ) {bytes : List ℕ} → bytes ≡ front ++ rest → bytes ≡ front' ++ rest' → length front' ≡ length front
+    → rest' ≡ rest
 same_rest front rest front' rest' {bytes = bytes} e e' same = rest_of front' rest' e' ∙ ap (λ n. drop n bytes) same ∙ sym (rest_of front rest e)
 
-same_front : (front rest front' rest' : List ℕ) {bytes : List ℕ} → bytes ≡ front ++ rest → bytes ≡ front' ++ rest' → length front' ≡ length front → front' ≡ front
+same_front : (front rest front' rest' : List ℕ) {bytes : List ℕ} → bytes ≡ front ++ rest → bytes ≡ front' ++ rest' → length front' ≡ length front
+    → front' ≡ front
 same_front front rest front' rest' {bytes = bytes} e e' same = front_of front' rest' e' ∙ ap (λ n. take n bytes) same ∙ sym (front_of front rest e)
 
 trivia_length : {a b : ℕ} {p : Piece} → p ≡ piece.Trivia a → p ≡ piece.Trivia b → b ≡ a
@@ -37,7 +39,9 @@ trivia_length e f = cc
 lexeme_length : {kind kind' : Class} {a b : ℕ} {p : Piece} → p ≡ piece.Lexeme kind a → p ≡ piece.Lexeme kind' b → (kind' ≡ kind) × (b ≡ a)
 lexeme_length e f = (cc, cc)
 
-same_lexeme : {at n n' : ℕ} {kind kind' : Class} {front front' : List ℕ} {ones others : List Lexeme} → kind' ≡ kind → n' ≡ n → front' ≡ front → ones ≡ others → ◌≡◌ {A = List Lexeme} (record { class = kind; start = at; end = at + n; bytes = front } ∷ ones) (record { class = kind'; start = at; end = at + n'; bytes = front' } ∷ others)
+same_lexeme : {at n n' : ℕ} {kind kind' : Class} {front front' : List ℕ} {ones others : List Lexeme} → kind' ≡ kind → n' ≡ n → front' ≡ front
+    → ones ≡ others → ◌≡◌ {A = List Lexeme} (record { class = kind; start = at; end = at + n; bytes = front } ∷ ones)
+    (record { class = kind'; start = at; end = at + n'; bytes = front' } ∷ others)
 same_lexeme k n f o = rw (k, n, f, o) refl
 
 pub one_lexed : {at : ℕ} {bytes : List ℕ} {one other : List Lexeme} → LexedFrom at bytes one → LexedFrom at bytes other → one ≡ other
@@ -53,7 +57,8 @@ one_lexed (lexed.trivia front rest e p cut) (lexed.lexeme kind' front' rest' e' 
 one_lexed (lexed.lexeme kind front rest e p cut) (lexed.trivia front' rest' e' p' cut') = cc
 one_lexed (lexed.lexeme kind front rest e p cut) (lexed.lexeme kind' front' rest' e' p' cut') =
     let same = lexeme_length p p' in
-    same_lexeme same.0 same.1 (same_front front rest front' rest' e e' same.1) (one_lexed cut (rw (same.1, same_rest front rest front' rest' e e' same.1) at cut'))
+    same_lexeme same.0 same.1 (same_front front rest front' rest' e e' same.1)
+    (one_lexed cut (rw (same.1, same_rest front rest front' rest' e e' same.1) at cut'))
 
 pub one_fault : {at : ℕ} {bytes : List ℕ} {one other : Fault} → FaultFrom at bytes one → FaultFrom at bytes other → one ≡ other
 one_fault (lexed.bad some p) (lexed.bad some' p') = refl

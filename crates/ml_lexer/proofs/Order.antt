@@ -1,5 +1,6 @@
 -- The lexemes of a file are whole, are in order, and are no more than its bytes.
-use Rattle.std.proofs.Common.{◌≡◌, ℕ, zero, suc, ◌+◌, ◌-◌, ◌≤◌, List, [], ◌∷◌, ◌++◌, All, length, take, drop, refl, ap, sym, subst, ◌∙◌, arith, append_assoc, length-append, length-take}
+use Rattle.std.proofs.Common.{◌≡◌, ℕ, zero, suc, ◌+◌, ◌-◌, ◌≤◌, List, [], ◌∷◌, ◌++◌, All, length, take, drop, refl, ap, sym, subst, ◌∙◌, arith}
+use Rattle.std.proofs.Common.{append_assoc, length-append, length-take}
 use Rattle.std.proofs.lemmas.List.{take-append-drop}
 use Rattle.rotor_base.specs.declared.token.Token.{Token}
 use Rattle.ml_lexer.specs.declared.piece.Piece.TheVariants as piece
@@ -14,7 +15,8 @@ pub lexemes_end_alone : LexemesEndAlone
 lexemes_end_alone bytes kind n fits e =
     let front = take n bytes in
     let size : length front ≡ n = rw length-take (omega (arith, fits)) in
-    whole_alone kind front (drop n bytes) (ap piece_at (take-append-drop n bytes) ∙ e ∙ ap (piece.Lexeme kind) (sym size)) ∙ ap (piece.Lexeme kind) size
+    whole_alone kind front (drop n bytes) (ap piece_at (take-append-drop n bytes) ∙ e ∙ ap (piece.Lexeme kind) (sym size))
+    ∙ ap (piece.Lexeme kind) size
 
 abbrev pub EachWhole : List Lexeme → Type 0
 EachWhole [] = Unit {0}
@@ -46,7 +48,8 @@ in_order past {at = at} size lexed.nothing = rw length-append (omega (arith, siz
 in_order past {at = at} {bytes = bytes} {xs = xs} size (lexed.trivia front rest e p h) =
     let longer : length (past ++ front) ≡ at + length front = rw length-append (omega (arith, size)) in
     let whole : (past ++ front) ++ rest ≡ past ++ bytes = append_assoc past front rest ∙ ap (λ v. past ++ v) (sym e) in
-    lower (past ++ bytes) at (at + length front) xs (omega arith) (subst (λ b. AreInOrder b (at + length front) xs) whole (in_order (past ++ front) longer h))
+    lower (past ++ bytes) at (at + length front) xs (omega arith)
+    (subst (λ b. AreInOrder b (at + length front) xs) whole (in_order (past ++ front) longer h))
 in_order past {at = at} {bytes = bytes} size (lexed.lexeme {lexemes = xs} kind front rest e p h) =
     let longer : length (past ++ front) ≡ at + length front = rw length-append (omega (arith, size)) in
     let whole : (past ++ front) ++ rest ≡ past ++ bytes = append_assoc past front rest ∙ ap (λ v. past ++ v) (sym e) in

@@ -1,5 +1,6 @@
 -- A value name in place of a Lower is a Lower, and it opens nothing.
-use Rattle.std.proofs.Common.{◌≡◌, ℕ, zero, suc, ◌+◌, ◌<◌, ◌≤◌, inl, inr, List, [], ◌∷◌, ◌++◌, Bool, true, false, not, cond, ◌==◌, ◌&&◌, length, take, get_or, nat_le, refl, ap, sym, ◌∙◌, arith}
+use Rattle.std.proofs.Common.{◌≡◌, ℕ, zero, suc, ◌+◌, ◌<◌, ◌≤◌, inl, inr, List, [], ◌∷◌, ◌++◌, Bool, true, false, not, cond, ◌==◌, ◌&&◌, length, take}
+use Rattle.std.proofs.Common.{get_or, nat_le, refl, ap, sym, ◌∙◌, arith}
 use Rattle.std.specs.Char.{is_ascii_uppercase}
 use Rattle.std.specs.List.{prefix_len, list_all}
 use Rattle.std.specs.Prelude.{codes}
@@ -76,7 +77,11 @@ named w e =
     let free = not (is_reserved_word w) in
     let three = and_left (starts && short && free) (list_all is_identifier_byte w) e in
     let two = and_left (starts && short) free three in
-    record { starts = and_left starts short two; short = not_long (length w) (and_right starts short two); bytes = and_right (starts && short && free) (list_all is_identifier_byte w) e }
+    record {
+      starts = and_left starts short two;
+      short = not_long (length w) (and_right starts short two);
+      bytes = and_right (starts && short && free) (list_all is_identifier_byte w) e;
+    }
 
 first_is_word : (x : ℕ) (w : List ℕ) → Named (x ∷ w) → is_quoted_word_byte x ≡ true
 first_is_word x w n = n.starts
@@ -104,12 +109,14 @@ pub record LowerFront (front rest : List ℕ) : Type 0 where
   pub stops : prefix_len is_identifier_byte rest ≡ 0
 
 -- a name in place of a Lower
-pub name_piece : (w rest : List ℕ) → is_value_name w ≡ true → prefix_len is_identifier_byte rest ≡ 0 → piece_at (w ++ rest) ≡ piece.Lexeme class.Lower (length w)
+pub name_piece : (w rest : List ℕ) → is_value_name w ≡ true → prefix_len is_identifier_byte rest ≡ 0
+    → piece_at (w ++ rest) ≡ piece.Lexeme class.Lower (length w)
 name_piece [] rest e stops = cc
 name_piece (x ∷ w) rest e stops =
     let n = named (x ∷ w) e in
     let word = first_is_word x w n in
-    let run : prefix_len is_identifier_byte (w ++ rest) ≡ length w = run_all is_identifier_byte w rest (and_right (is_identifier_byte x) (list_all is_identifier_byte w) n.bytes) stops in
+    let run : prefix_len is_identifier_byte (w ++ rest) ≡ length w =
+    run_all is_identifier_byte w rest (and_right (is_identifier_byte x) (list_all is_identifier_byte w) n.bytes) stops in
     let size : word_length ((x ∷ w) ++ rest) ≡ suc (length w) = omega (arith, run) in
     word_piece x (w ++ rest) word
     ∙ word_at_length ((x ∷ w) ++ rest) (suc (length w)) size
@@ -122,7 +129,8 @@ name_starts [] e = cc
 name_starts (x ∷ w) e = (omega arith, first_is_word x w (named (x ∷ w) e))
 
 -- what follows a word that ends with the front
-pub word_stops : (k : Class) (x : ℕ) (f rest : List ℕ) → word_at ((x ∷ f) ++ rest) ≡ piece.Lexeme k (suc (length f)) → prefix_len is_identifier_byte rest ≡ 0
+pub word_stops : (k : Class) (x : ℕ) (f rest : List ℕ) → word_at ((x ∷ f) ++ rest) ≡ piece.Lexeme k (suc (length f))
+    → prefix_len is_identifier_byte rest ≡ 0
 word_stops k x f rest e =
     let n : word_length ((x ∷ f) ++ rest) ≡ suc (length f) = lexeme_of_cond _ _ _ _ _ (sym (word_at_length ((x ∷ f) ++ rest) _ refl) ∙ e) in
     let run : prefix_len is_identifier_byte (f ++ rest) ≡ length f = omega (arith, n) in
@@ -138,7 +146,8 @@ lower_of_cond false true e = refl
 lower_of_cond false false e = cc
 
 first_of_lower : (x : ℕ) (w : List ℕ) → word_class (x ∷ w) ≡ class.Lower → is_quoted_word_byte x ≡ true
-first_of_lower x w e = first_is_word x w (named (x ∷ w) (lower_of_cond (is_ascii_uppercase x) (is_value_name (x ∷ w)) (sym (class_tests (x ∷ w)) ∙ e)))
+first_of_lower x w e = first_is_word x w
+    (named (x ∷ w) (lower_of_cond (is_ascii_uppercase x) (is_value_name (x ∷ w)) (sym (class_tests (x ∷ w)) ∙ e)))
 
 pub lower_front : (x : ℕ) (f rest : List ℕ) → piece_at ((x ∷ f) ++ rest) ≡ piece.Lexeme class.Lower (suc (length f)) → LowerFront (x ∷ f) rest
 lower_front x f rest e =
@@ -165,7 +174,8 @@ run_bound : (q r : List ℕ) → prefix_len is_quoted_word_byte r ≡ 0 → pref
 run_bound q r e = run_within is_quoted_word_byte q r e
 
 -- the run of quoted word bytes from the front of a piece ends with it at the latest
-pub run_of_piece : (k : Class) (x : ℕ) (f rest : List ℕ) → piece_at ((x ∷ f) ++ rest) ≡ piece.Lexeme k (suc (length f)) → prefix_len is_quoted_word_byte ((x ∷ f) ++ rest) ≤ suc (length f)
+pub run_of_piece : (k : Class) (x : ℕ) (f rest : List ℕ) → piece_at ((x ∷ f) ++ rest) ≡ piece.Lexeme k (suc (length f))
+    → prefix_len is_quoted_word_byte ((x ∷ f) ++ rest) ≤ suc (length f)
 run_of_piece k x f rest e = elim (which (is_quoted_word_byte x)) [
   | inl y ↦ run_bound (x ∷ f) rest (no_word_run rest (word_stops k x f rest (sym (word_piece x (f ++ rest) y) ∙ e)))
   | inr y ↦ let none = run_none is_quoted_word_byte x (f ++ rest) y in omega (arith, none)
@@ -175,14 +185,16 @@ long_or_word : (t : Bool) (kind : Class) (n m : ℕ) → cond t piece.LongName (
 long_or_word true kind n m e = cc
 long_or_word false kind n m e = cc
 
-pub run_of_trivia : (x : ℕ) (f rest : List ℕ) → piece_at ((x ∷ f) ++ rest) ≡ piece.Trivia (suc (length f)) → prefix_len is_quoted_word_byte ((x ∷ f) ++ rest) ≤ suc (length f)
+pub run_of_trivia : (x : ℕ) (f rest : List ℕ) → piece_at ((x ∷ f) ++ rest) ≡ piece.Trivia (suc (length f))
+    → prefix_len is_quoted_word_byte ((x ∷ f) ++ rest) ≤ suc (length f)
 run_of_trivia x f rest e = elim (which (is_quoted_word_byte x)) [
   | inl y ↦ absurd (long_or_word _ _ _ _ (sym (word_at_length ((x ∷ f) ++ rest) _ refl) ∙ sym (word_piece x (f ++ rest) y) ∙ e))
   | inr y ↦ let none = run_none is_quoted_word_byte x (f ++ rest) y in omega (arith, none)
 ]
 
 -- if a name opens a Quoted, a `|` follows it
-pub name_opens : (w rest : List ℕ) → is_value_name w ≡ true → prefix_len is_identifier_byte rest ≡ 0 → (get_or rest 0 0 == byte "|") ≡ false → opens_quoted (123 ∷ (w ++ rest)) ≡ false
+pub name_opens : (w rest : List ℕ) → is_value_name w ≡ true → prefix_len is_identifier_byte rest ≡ 0 → (get_or rest 0 0 == byte "|") ≡ false
+    → opens_quoted (123 ∷ (w ++ rest)) ≡ false
 name_opens w rest e stops bar =
     let n = named w e in
     let run = prefix_len is_quoted_word_byte (w ++ rest) in

@@ -1,6 +1,7 @@
 -- A marked word, a label, an operator or a mark that ends with the front is the same whatever follows, if the first
 -- byte behind is alike.
-use Rattle.std.proofs.Common.{◌≡◌, ℕ, suc, ◌+◌, ◌<◌, ◌≤◌, inl, inr, List, [], ◌∷◌, ◌++◌, Bool, true, false, not, cond, ◌==◌, length, take, drop, get_or, refl, ap, sym, ◌∙◌, arith}
+use Rattle.std.proofs.Common.{◌≡◌, ℕ, suc, ◌+◌, ◌<◌, ◌≤◌, inl, inr, List, [], ◌∷◌, ◌++◌, Bool, true, false, not, cond, ◌==◌, length, take, drop}
+use Rattle.std.proofs.Common.{get_or, refl, ap, sym, ◌∙◌, arith}
 use Rattle.std.specs.List.{prefix_len, list_all, list_any}
 use Rattle.std.specs.Prelude.{codes}
 use Rattle.std.specs.Str.{byte}
@@ -30,14 +31,16 @@ among_none p (x ∷ l) c f e = elim (which (x == c)) [
 ]
 
 -- the run of a word that ends with the front
-pub word_run : (x : ℕ) (f rest rest' : List ℕ) → Alike rest rest' → word_length ((x ∷ f) ++ rest) ≡ suc (length f) → word_length ((x ∷ f) ++ rest') ≡ suc (length f)
+pub word_run : (x : ℕ) (f rest rest' : List ℕ) → Alike rest rest' → word_length ((x ∷ f) ++ rest) ≡ suc (length f)
+    → word_length ((x ∷ f) ++ rest') ≡ suc (length f)
 word_run x f rest rest' alike n =
     let run : prefix_len is_identifier_byte (f ++ rest) ≡ length f = omega (arith, n) in
     let stops = alike_stops is_identifier_byte true word_byte_is_identifier alike (run_stops is_identifier_byte f rest run) in
     let run' = run_exact is_identifier_byte f rest rest' run stops in
     omega (arith, run')
 
-pub marked_at_length : (kind : Class) (b : List ℕ) (n : ℕ) → word_length (drop 1 b) ≡ n → marked_word_at kind b ≡ cond (is_word_start (get_or b 1 0)) (cond (is_long n) piece.LongName (piece.Lexeme kind (1 + n))) piece.Bad
+pub marked_at_length : (kind : Class) (b : List ℕ) (n : ℕ) → word_length (drop 1 b) ≡ n → marked_word_at kind b ≡ cond (is_word_start (get_or b 1 0))
+    (cond (is_long n) piece.LongName (piece.Lexeme kind (1 + n))) piece.Bad
 unfolding marked_word_at
 marked_at_length kind b n e = rw e refl
 
@@ -46,9 +49,12 @@ marked_of_cond true true kind k n m e = cc
 marked_of_cond true false kind k n m e = cc
 marked_of_cond false t kind k n m e = cc
 
-pub marked_same : (kind k : Class) (front rest rest' : List ℕ) → Alike rest rest' → marked_word_at kind (front ++ rest) ≡ piece.Lexeme k (length front) → marked_word_at kind (front ++ rest') ≡ piece.Lexeme k (length front)
-marked_same kind k [] rest rest' alike e = let n = marked_of_cond _ _ _ _ _ _ (sym (marked_at_length kind rest _ refl) ∙ e) in absurd (omega (arith, n))
-marked_same kind k (x ∷ []) rest rest' alike e = let n = marked_of_cond _ _ _ _ _ _ (sym (marked_at_length kind (x ∷ rest) _ refl) ∙ e) in absurd (omega (arith, n))
+pub marked_same : (kind k : Class) (front rest rest' : List ℕ) → Alike rest rest'
+    → marked_word_at kind (front ++ rest) ≡ piece.Lexeme k (length front) → marked_word_at kind (front ++ rest') ≡ piece.Lexeme k (length front)
+marked_same kind k [] rest rest' alike e = let n = marked_of_cond _ _ _ _ _ _ (sym (marked_at_length kind rest _ refl) ∙ e) in
+    absurd (omega (arith, n))
+marked_same kind k (x ∷ []) rest rest' alike e = let n = marked_of_cond _ _ _ _ _ _ (sym (marked_at_length kind (x ∷ rest) _ refl) ∙ e) in
+    absurd (omega (arith, n))
 marked_same kind k (x ∷ y ∷ f) rest rest' alike e =
     let n = marked_of_cond _ _ _ _ _ _ (sym (marked_at_length kind (x ∷ y ∷ (f ++ rest)) _ refl) ∙ e) in
     let now : word_length ((y ∷ f) ++ rest) ≡ suc (length f) = omega (arith, n) in
@@ -68,7 +74,10 @@ marked_starts kind k b m e = elim (which (is_word_start (get_or b 1 0))) [
 pub marked_long : (kind k : Class) (b : List ℕ) (m : ℕ) → marked_word_at kind b ≡ piece.Lexeme k m → 2 ≤ m
 marked_long kind k b m e = let n = marked_of_cond _ _ _ _ _ _ (sym (marked_at_length kind b _ refl) ∙ e) in omega (arith, n)
 
-pub label_at_parts : (b : List ℕ) (n : ℕ) (w : List ℕ) (colon : Bool) → word_length (drop 1 b) ≡ n → take n (drop 1 b) ≡ w → is_at ":" (1 + n) b ≡ colon → label_at b ≡ cond (is_long n) piece.LongName (cond (is_keyword_class (word_class w)) piece.Bad (piece.Lexeme class.Label (1 + n + cond colon 1 0)))
+pub label_at_parts : (b : List ℕ) (n : ℕ) (w : List ℕ) (colon : Bool) → word_length (drop 1 b) ≡ n → take n (drop 1 b) ≡ w
+    → is_at ":" (1 + n) b ≡ colon
+    → label_at b ≡ cond (is_long n) piece.LongName
+    (cond (is_keyword_class (word_class w)) piece.Bad (piece.Lexeme class.Label (1 + n + cond colon 1 0)))
 unfolding label_at
 label_at_parts b n w colon e f g = rw (e, f, g) refl
 
@@ -84,9 +93,12 @@ byte_behind (x ∷ q) r = byte_behind q r
 no_colon : (c : ℕ) → is_quoted_word_byte c ≡ true → (c == byte ":") ≡ false
 no_colon c e = let r = word_range c e in grind (arith, nat_tests, r)
 
-pub label_same : (k : Class) (front rest rest' : List ℕ) → Alike rest rest' → label_at (front ++ rest) ≡ piece.Lexeme k (length front) → label_at (front ++ rest') ≡ piece.Lexeme k (length front)
-label_same k [] rest rest' alike e = let n = label_of_cond _ _ _ _ _ _ (sym (label_at_parts rest _ _ _ refl refl refl) ∙ e) in absurd (omega (arith, n))
-label_same k (x ∷ []) rest rest' alike e = let n = label_of_cond _ _ _ _ _ _ (sym (label_at_parts (x ∷ rest) _ _ _ refl refl refl) ∙ e) in absurd (omega (arith, n))
+pub label_same : (k : Class) (front rest rest' : List ℕ) → Alike rest rest' → label_at (front ++ rest) ≡ piece.Lexeme k (length front)
+    → label_at (front ++ rest') ≡ piece.Lexeme k (length front)
+label_same k [] rest rest' alike e = let n = label_of_cond _ _ _ _ _ _ (sym (label_at_parts rest _ _ _ refl refl refl) ∙ e) in
+    absurd (omega (arith, n))
+label_same k (x ∷ []) rest rest' alike e = let n = label_of_cond _ _ _ _ _ _ (sym (label_at_parts (x ∷ rest) _ _ _ refl refl refl) ∙ e) in
+    absurd (omega (arith, n))
 label_same k (x ∷ y ∷ f) rest rest' alike e =
     let b = (x ∷ y ∷ f) ++ rest in
     let n = word_length ((y ∷ f) ++ rest) in
@@ -108,7 +120,8 @@ label_same k (x ∷ y ∷ f) rest rest' alike e =
           let same = byte_behind (x ∷ y ∷ f) rest in
           let same' = byte_behind (x ∷ y ∷ f) rest' in
           let index : 1 + n ≡ suc (suc (length f)) = omega (arith, exact) in
-          let here : (get_or rest 0 0 == byte ":") ≡ false = ap (λ v. v == byte ":") (sym same) ∙ ap (λ i. get_or b i 0 == byte ":") (sym index) ∙ colon in
+          let here : (get_or rest 0 0 == byte ":") ≡ false = ap (λ v. v == byte ":") (sym same) ∙ ap (λ i. get_or b i 0 == byte ":") (sym index)
+          ∙ colon in
           let there : is_at ":" (suc (suc (length f))) ((x ∷ y ∷ f) ++ rest') ≡ false =
           ap (λ v. v == byte ":") same' ∙ sym (alike_test (λ v. v == byte ":") false no_colon alike) ∙ here in
           let now : is_at ":" (suc (suc (length f))) b ≡ false = ap (λ v. v == byte ":") same ∙ here in
@@ -130,7 +143,8 @@ no_operator c e = among_none is_quoted_word_byte (codes "!$%&*+-./:<=>?@^|~") c 
 lexeme_lengths : (k kind : Class) (n m : ℕ) → ◌≡◌ {A = Piece} (piece.Lexeme kind n) (piece.Lexeme k m) → n ≡ m
 lexeme_lengths k kind n m e = cc
 
-pub operator_same : (k : Class) (front rest rest' : List ℕ) → Alike rest rest' → operator_at (front ++ rest) ≡ piece.Lexeme k (length front) → operator_at (front ++ rest') ≡ piece.Lexeme k (length front)
+pub operator_same : (k : Class) (front rest rest' : List ℕ) → Alike rest rest' → operator_at (front ++ rest) ≡ piece.Lexeme k (length front)
+    → operator_at (front ++ rest') ≡ piece.Lexeme k (length front)
 operator_same k [] rest rest' alike e = let n = lexeme_lengths _ _ _ _ (sym (operator_at_length rest _ refl) ∙ e) in absurd (omega (arith, n))
 operator_same k (x ∷ f) rest rest' alike e =
     let n = lexeme_lengths _ _ _ _ (sym (operator_at_length (x ∷ (f ++ rest)) _ refl) ∙ e) in
@@ -151,9 +165,11 @@ run_alone x f rest n =
     let run' = run_exact is_identifier_byte f rest [] run refl in
     omega (arith, run')
 
-pub marked_alone : (kind k : Class) (front rest : List ℕ) → marked_word_at kind (front ++ rest) ≡ piece.Lexeme k (length front) → marked_word_at kind (front ++ []) ≡ piece.Lexeme k (length front)
+pub marked_alone : (kind k : Class) (front rest : List ℕ) → marked_word_at kind (front ++ rest) ≡ piece.Lexeme k (length front)
+    → marked_word_at kind (front ++ []) ≡ piece.Lexeme k (length front)
 marked_alone kind k [] rest e = let n = marked_of_cond _ _ _ _ _ _ (sym (marked_at_length kind rest _ refl) ∙ e) in absurd (omega (arith, n))
-marked_alone kind k (x ∷ []) rest e = let n = marked_of_cond _ _ _ _ _ _ (sym (marked_at_length kind (x ∷ rest) _ refl) ∙ e) in absurd (omega (arith, n))
+marked_alone kind k (x ∷ []) rest e = let n = marked_of_cond _ _ _ _ _ _ (sym (marked_at_length kind (x ∷ rest) _ refl) ∙ e) in
+    absurd (omega (arith, n))
 marked_alone kind k (x ∷ y ∷ f) rest e =
     let n = marked_of_cond _ _ _ _ _ _ (sym (marked_at_length kind (x ∷ y ∷ (f ++ rest)) _ refl) ∙ e) in
     let now : word_length ((y ∷ f) ++ rest) ≡ suc (length f) = omega (arith, n) in
@@ -166,7 +182,8 @@ marked_alone kind k (x ∷ y ∷ f) rest e =
 pub label_long : (k : Class) (b : List ℕ) (m : ℕ) → label_at b ≡ piece.Lexeme k m → 2 ≤ m
 label_long k b m e = let n = label_of_cond _ _ _ _ _ _ (sym (label_at_parts b _ _ _ refl refl refl) ∙ e) in omega (arith, n)
 
-pub label_alone : (k : Class) (front rest : List ℕ) → label_at (front ++ rest) ≡ piece.Lexeme k (length front) → label_at (front ++ []) ≡ piece.Lexeme k (length front)
+pub label_alone : (k : Class) (front rest : List ℕ) → label_at (front ++ rest) ≡ piece.Lexeme k (length front)
+    → label_at (front ++ []) ≡ piece.Lexeme k (length front)
 label_alone k [] rest e = let n = label_long k rest 0 e in absurd (omega (arith, n))
 label_alone k (x ∷ []) rest e = let n = label_long k (x ∷ rest) 1 e in absurd (omega (arith, n))
 label_alone k (x ∷ y ∷ f) rest e =
@@ -188,14 +205,16 @@ label_alone k (x ∷ y ∷ f) rest e =
           let later = run_alone y f rest exact in
           let word' = take_front (y ∷ f) [] in
           let far : suc (suc (length f)) ≡ 1 + suc (length f) = omega arith in
-          let there_far : is_at ":" (1 + suc (length f)) ((x ∷ y ∷ f) ++ []) ≡ false = ap (λ i. is_at ":" i ((x ∷ y ∷ f) ++ [])) (sym far) ∙ ap (λ v. v == byte ":") (byte_behind (x ∷ y ∷ f) []) in
+          let there_far : is_at ":" (1 + suc (length f)) ((x ∷ y ∷ f) ++ []) ≡ false = ap (λ i. is_at ":" i ((x ∷ y ∷ f) ++ [])) (sym far)
+          ∙ ap (λ v. v == byte ":") (byte_behind (x ∷ y ∷ f) []) in
           let now_far : is_at ":" (1 + suc (length f)) b ≡ false = ap (λ v. is_at ":" (1 + v) b) (sym exact) ∙ colon in
           label_at_parts ((x ∷ y ∷ f) ++ []) (suc (length f)) (y ∷ f) false later word' there_far
           ∙ sym (label_at_parts b (suc (length f)) (y ∷ f) false exact (take_front (y ∷ f) rest) now_far)
           ∙ e
     ]
 
-pub operator_alone : (k : Class) (front rest : List ℕ) → operator_at (front ++ rest) ≡ piece.Lexeme k (length front) → operator_at (front ++ []) ≡ piece.Lexeme k (length front)
+pub operator_alone : (k : Class) (front rest : List ℕ) → operator_at (front ++ rest) ≡ piece.Lexeme k (length front)
+    → operator_at (front ++ []) ≡ piece.Lexeme k (length front)
 operator_alone k [] rest e = let n = lexeme_lengths _ _ _ _ (sym (operator_at_length rest _ refl) ∙ e) in absurd (omega (arith, n))
 operator_alone k (x ∷ f) rest e =
     let n = lexeme_lengths _ _ _ _ (sym (operator_at_length (x ∷ (f ++ rest)) _ refl) ∙ e) in

@@ -1,5 +1,6 @@
 -- The steps of the definitions by recursion, as the loops take them.
-use Rattle.std.proofs.Common.{◌≡◌, ◌≢◌, ℕ, zero, suc, ◌+◌, ◌-◌, ◌<◌, ◌≤◌, List, [], ◌∷◌, Bool, true, false, length, drop, length-drop, Some, None, ◌==◌, refl, ◌∙◌, arith, get_or}
+use Rattle.std.proofs.Common.{◌≡◌, ◌≢◌, ℕ, zero, suc, ◌+◌, ◌-◌, ◌<◌, ◌≤◌, List, [], ◌∷◌, Bool, true, false, length, drop, length-drop, Some, None}
+use Rattle.std.proofs.Common.{◌==◌, refl, ◌∙◌, arith, get_or}
 use Rattle.std.proofs.Math.Seq.{drop-cons}
 use Rattle.std.proofs.lemmas.Bool.Decides.{nat_tests}
 use Rattle.ml_lexer.specs.declared.trivia.Part.{Part}
@@ -18,7 +19,8 @@ pub text_closed : (n i : ℕ) (b : List ℕ) → i < length b → (get_or b i 0 
 unfolding text_end
 text_closed n i b h e = rw (drop-cons b i 0, e) refl
 
-pub text_more : (n i : ℕ) (b : List ℕ) → i < length b → (get_or b i 0 == 34) ≡ false → text_end n false (drop i b) ≡ text_end (n + 1) (get_or b i 0 == 92) (drop (i + 1) b)
+pub text_more : (n i : ℕ) (b : List ℕ) → i < length b → (get_or b i 0 == 34) ≡ false
+    → text_end n false (drop i b) ≡ text_end (n + 1) (get_or b i 0 == 92) (drop (i + 1) b)
 unfolding text_end
 text_more n i b h e = let next : i + 1 ≡ suc i = omega arith in rw (drop-cons b i 0, next, e) refl
 
@@ -36,12 +38,14 @@ unfolding quoted_end
 quoted_none word n [] h = refl
 quoted_none word n (c ∷ b) h = absurd (omega arith)
 
-pub quoted_closed : (word : List ℕ) (n : ℕ) (b : List ℕ) → 0 < length b → closes_quoted word b ≡ true → quoted_end word n b ≡ Some (n + length word + 2)
+pub quoted_closed : (word : List ℕ) (n : ℕ) (b : List ℕ) → 0 < length b → closes_quoted word b ≡ true
+    → quoted_end word n b ≡ Some (n + length word + 2)
 unfolding quoted_end
 quoted_closed word n [] h e = absurd (omega arith)
 quoted_closed word n (c ∷ b) h e = rw e refl
 
-pub quoted_more : (word : List ℕ) (n : ℕ) (b : List ℕ) → 0 < length b → closes_quoted word b ≡ false → quoted_end word n b ≡ quoted_end word (n + 1) (drop 1 b)
+pub quoted_more : (word : List ℕ) (n : ℕ) (b : List ℕ) → 0 < length b → closes_quoted word b ≡ false
+    → quoted_end word n b ≡ quoted_end word (n + 1) (drop 1 b)
 unfolding quoted_end
 quoted_more word n [] h e = absurd (omega arith)
 quoted_more word n (c ∷ b) h e = rw e refl
@@ -64,7 +68,8 @@ module _ (p : List ℕ → Part) where
       let one : (n + 1) + k ≡ n + suc k = omega arith in
       rw (e, up, less, level_skip (d + 1) k (n + 1) b, one) refl
 
-  pub level_closes : (d n k : ℕ) (b : List ℕ) → 0 < length b → p b ≡ Closes k → 0 < k → 1 < d → level_end p d 0 n b ≡ level_end p (d - 1) 0 (n + k) (drop k b)
+  pub level_closes : (d n k : ℕ) (b : List ℕ) → 0 < length b → p b ≡ Closes k → 0 < k → 1 < d
+      → level_end p d 0 n b ≡ level_end p (d - 1) 0 (n + k) (drop k b)
   unfolding level_end
   level_closes d n k [] h e l m = absurd (omega arith)
   level_closes d n zero (c ∷ b) h e l m = absurd (omega arith)

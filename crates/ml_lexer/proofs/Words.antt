@@ -10,7 +10,8 @@ use Rattle.ml_lexer.specs.Pieces.{is_long, word_class, word_at}
 use Rattle.ml_lexer.proofs.Local.{Alike, both_end, same_byte, both_words, which, word_range, run_stops, run_exact}
 
 -- a run that stops before what follows stops before what is alike
-pub alike_stops : (p : ℕ → Bool) (v : Bool) → ((c : ℕ) → is_quoted_word_byte c ≡ true → p c ≡ v) → {r r' : List ℕ} → Alike r r' → prefix_len p r ≡ 0 → prefix_len p r' ≡ 0
+pub alike_stops : (p : ℕ → Bool) (v : Bool) → ((c : ℕ) → is_quoted_word_byte c ≡ true → p c ≡ v) → {r r' : List ℕ} → Alike r r' → prefix_len p r ≡ 0
+    → prefix_len p r' ≡ 0
 alike_stops p v f both_end e = refl
 alike_stops p v f (same_byte {c = c} {r = r} {r' = r'}) e = elim (which (p c)) [
   | inl y ↦ let more : 1 + prefix_len p r ≡ 0 = rw y at e in absurd (omega arith)
@@ -39,7 +40,8 @@ pub lexeme_of_cond : (t : Bool) (kind k : Class) (n m : ℕ) → cond t piece.Lo
 lexeme_of_cond true kind k n m e = cc
 lexeme_of_cond false kind k n m e = cc
 
-pub word_same : (kind : Class) (front rest rest' : List ℕ) → Alike rest rest' → word_at (front ++ rest) ≡ piece.Lexeme kind (length front) → word_at (front ++ rest') ≡ piece.Lexeme kind (length front)
+pub word_same : (kind : Class) (front rest rest' : List ℕ) → Alike rest rest' → word_at (front ++ rest) ≡ piece.Lexeme kind (length front)
+    → word_at (front ++ rest') ≡ piece.Lexeme kind (length front)
 word_same kind [] rest rest' alike e = let n = lexeme_of_cond _ _ _ _ _ (sym (word_at_length rest _ refl) ∙ e) in absurd (omega (arith, n))
 word_same kind (x ∷ f) rest rest' alike e =
     let n : word_length ((x ∷ f) ++ rest) ≡ suc (length f) = lexeme_of_cond _ _ _ _ _ (sym (word_at_length ((x ∷ f) ++ rest) _ refl) ∙ e) in
@@ -48,12 +50,14 @@ word_same kind (x ∷ f) rest rest' alike e =
     let run' = run_exact is_identifier_byte f rest rest' run stops in
     let n' : word_length ((x ∷ f) ++ rest') ≡ suc (length f) = omega (arith, run') in
     word_at_length ((x ∷ f) ++ rest') (suc (length f)) n'
-    ∙ ap (λ w. cond (is_long (suc (length f))) piece.LongName (piece.Lexeme (word_class w) (suc (length f)))) (take_front (x ∷ f) rest' ∙ sym (take_front (x ∷ f) rest))
+    ∙ ap (λ w. cond (is_long (suc (length f))) piece.LongName (piece.Lexeme (word_class w) (suc (length f))))
+    (take_front (x ∷ f) rest' ∙ sym (take_front (x ∷ f) rest))
     ∙ sym (word_at_length ((x ∷ f) ++ rest) (suc (length f)) n)
     ∙ e
 
 -- a word that ends with the front is one also if nothing follows
-pub word_alone : (kind : Class) (front rest : List ℕ) → word_at (front ++ rest) ≡ piece.Lexeme kind (length front) → word_at (front ++ []) ≡ piece.Lexeme kind (length front)
+pub word_alone : (kind : Class) (front rest : List ℕ) → word_at (front ++ rest) ≡ piece.Lexeme kind (length front)
+    → word_at (front ++ []) ≡ piece.Lexeme kind (length front)
 word_alone kind [] rest e = let n = lexeme_of_cond _ _ _ _ _ (sym (word_at_length rest _ refl) ∙ e) in absurd (omega (arith, n))
 word_alone kind (x ∷ f) rest e =
     let n : word_length ((x ∷ f) ++ rest) ≡ suc (length f) = lexeme_of_cond _ _ _ _ _ (sym (word_at_length ((x ∷ f) ++ rest) _ refl) ∙ e) in
@@ -61,7 +65,8 @@ word_alone kind (x ∷ f) rest e =
     let run' = run_exact is_identifier_byte f rest [] run refl in
     let n' : word_length ((x ∷ f) ++ []) ≡ suc (length f) = omega (arith, run') in
     word_at_length ((x ∷ f) ++ []) (suc (length f)) n'
-    ∙ ap (λ w. cond (is_long (suc (length f))) piece.LongName (piece.Lexeme (word_class w) (suc (length f)))) (take_front (x ∷ f) [] ∙ sym (take_front (x ∷ f) rest))
+    ∙ ap (λ w. cond (is_long (suc (length f))) piece.LongName (piece.Lexeme (word_class w) (suc (length f))))
+    (take_front (x ∷ f) [] ∙ sym (take_front (x ∷ f) rest))
     ∙ sym (word_at_length ((x ∷ f) ++ rest) (suc (length f)) n)
     ∙ e
 

@@ -19,7 +19,8 @@ LexedOrFault = (bytes : List ℕ) (lexemes : List Lexeme) (fault : Fault) → Le
 
 -- a lexeme is one also if nothing follows
 abbrev pub LexemesEndAlone : Type 0
-LexemesEndAlone = (bytes : List ℕ) (kind : Class) (n : ℕ) → n ≤ length bytes → piece_at bytes ≡ piece.Lexeme kind n → piece_at (take n bytes) ≡ piece.Lexeme kind n
+LexemesEndAlone = (bytes : List ℕ) (kind : Class) (n : ℕ) → n ≤ length bytes → piece_at bytes ≡ piece.Lexeme kind n
+    → piece_at (take n bytes) ≡ piece.Lexeme kind n
 
 -- its bytes are, alone, a whole lexeme of its class
 abbrev pub IsWhole : Lexeme → Type 0
@@ -33,7 +34,8 @@ LexemesAreWhole = (bytes : List ℕ) (lexemes : List Lexeme) → Lexed bytes lex
 -- next begins at its end or behind it
 abbrev pub AreInOrder : List ℕ → ℕ → List Lexeme → Type 0
 AreInOrder bytes low [] = low ≤ length bytes
-AreInOrder bytes low (x ∷ xs) = (low ≤ x.start) × (x.start < x.end) × (x.end ≤ length bytes) × (x.bytes ≡ take (x.end - x.start) (drop x.start bytes)) × AreInOrder bytes x.end xs
+AreInOrder bytes low (x ∷ xs) = (low ≤ x.start) × (x.start < x.end) × (x.end ≤ length bytes) × (x.bytes ≡ take (x.end - x.start) (drop x.start bytes))
+    × AreInOrder bytes x.end xs
 
 -- the lexemes of a file are in order
 abbrev pub LexemesAreInOrder : Type 0

@@ -22,8 +22,11 @@ view_tokens = map view_token
 -- the lexemes among them.
 pub data LexedFrom : ℕ → List ℕ → List Lexeme → Type 0 where
   nothing : {at : ℕ} → LexedFrom at [] []
-  trivia : {at : ℕ} {bytes : List ℕ} {lexemes : List Lexeme} (front rest : List ℕ) → bytes ≡ front ++ rest → piece_at bytes ≡ piece.Trivia (length front) → LexedFrom (at + length front) rest lexemes → LexedFrom at bytes lexemes
-  lexeme : {at : ℕ} {bytes : List ℕ} {lexemes : List Lexeme} (kind : Class) (front rest : List ℕ) → bytes ≡ front ++ rest → piece_at bytes ≡ piece.Lexeme kind (length front) → LexedFrom (at + length front) rest lexemes → LexedFrom at bytes (record { class = kind; start = at; end = at + length front; bytes = front } ∷ lexemes)
+  trivia : {at : ℕ} {bytes : List ℕ} {lexemes : List Lexeme} (front rest : List ℕ) → bytes ≡ front ++ rest
+      → piece_at bytes ≡ piece.Trivia (length front) → LexedFrom (at + length front) rest lexemes → LexedFrom at bytes lexemes
+  lexeme : {at : ℕ} {bytes : List ℕ} {lexemes : List Lexeme} (kind : Class) (front rest : List ℕ) → bytes ≡ front ++ rest
+      → piece_at bytes ≡ piece.Lexeme kind (length front) → LexedFrom (at + length front) rest lexemes
+      → LexedFrom at bytes (record { class = kind; start = at; end = at + length front; bytes = front } ∷ lexemes)
 
 -- the whole file is cut so
 abbrev pub Lexed : List ℕ → List Lexeme → Type 0
@@ -39,8 +42,10 @@ pub data Fault : Type 0 where
 pub data FaultFrom : ℕ → List ℕ → Fault → Type 0 where
   bad : {at : ℕ} {bytes : List ℕ} → bytes ≢ [] → piece_at bytes ≡ piece.Bad → FaultFrom at bytes (Bad at)
   long_name : {at : ℕ} {bytes : List ℕ} → piece_at bytes ≡ piece.LongName → FaultFrom at bytes (LongName at)
-  trivia : {at : ℕ} {bytes : List ℕ} {fault : Fault} (front rest : List ℕ) → bytes ≡ front ++ rest → piece_at bytes ≡ piece.Trivia (length front) → FaultFrom (at + length front) rest fault → FaultFrom at bytes fault
-  lexeme : {at : ℕ} {bytes : List ℕ} {fault : Fault} (kind : Class) (front rest : List ℕ) → bytes ≡ front ++ rest → piece_at bytes ≡ piece.Lexeme kind (length front) → FaultFrom (at + length front) rest fault → FaultFrom at bytes fault
+  trivia : {at : ℕ} {bytes : List ℕ} {fault : Fault} (front rest : List ℕ) → bytes ≡ front ++ rest → piece_at bytes ≡ piece.Trivia (length front)
+      → FaultFrom (at + length front) rest fault → FaultFrom at bytes fault
+  lexeme : {at : ℕ} {bytes : List ℕ} {fault : Fault} (kind : Class) (front rest : List ℕ) → bytes ≡ front ++ rest
+      → piece_at bytes ≡ piece.Lexeme kind (length front) → FaultFrom (at + length front) rest fault → FaultFrom at bytes fault
 
 abbrev pub LexFault : List ℕ → Fault → Type 0
 LexFault bytes fault = FaultFrom 0 bytes fault

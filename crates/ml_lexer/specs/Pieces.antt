@@ -1,6 +1,7 @@
 -- The pieces of a file: which lexeme or trivia begins here, the longest, with the rules on ties (the OCaml manual,
 -- "Lexical conventions").
-use Rattle.std.specs.Prelude.{ℕ, ◌+◌, List, Bool, true, false, ◌||◌, ◌&&◌, nat_lt, ◌<◌, ◌≤◌, length, codes, take, drop, slice_index, Option, Some, None, if◌then◌else◌}
+use Rattle.std.specs.Prelude.{ℕ, ◌+◌, List, Bool, true, false, ◌||◌, ◌&&◌, nat_lt, ◌<◌, ◌≤◌, length, codes, take, drop, slice_index, Option, Some}
+use Rattle.std.specs.Prelude.{None, if◌then◌else◌}
 use Rattle.std.specs.Char.{is_ascii_digit, is_ascii_uppercase}
 use Rattle.std.specs.Str.{bytes_eq}
 use Rattle.rotor_base.specs.Limits.{max_name_bytes}

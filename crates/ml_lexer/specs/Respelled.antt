@@ -1,5 +1,6 @@
 -- Lexemes that are respelled: the bytes and the lexemes after it.
-use Rattle.std.specs.Prelude.{◌≡◌, ℕ, suc, ◌+◌, ◌-◌, List, [], ◌∷◌, ◌++◌, ◌⊎◌, IsTrue, Option, Some, None, codes, length, map, take, drop, slice_index}
+use Rattle.std.specs.Prelude.{◌≡◌, ℕ, suc, ◌+◌, ◌-◌, List, [], ◌∷◌, ◌++◌, ◌⊎◌, IsTrue, Option, Some, None, codes, length, map, take, drop}
+use Rattle.std.specs.Prelude.{slice_index}
 use Rattle.std.specs.Str.{byte}
 use Rattle.rotor_base.specs.Name.{is_value_name}
 use Rattle.rotor_base.specs.declared.token.Class.TheVariants as class
@@ -24,7 +25,8 @@ AllMayBecome bytes (old ∷ olds) (word ∷ words) = MayBecome bytes old word ×
 abbrev pub respelled_from : ℕ → List ℕ → List Lexeme → List (List ℕ) → List ℕ
 respelled_from at bytes [] words = bytes
 respelled_from at bytes (old ∷ olds) [] = bytes
-respelled_from at bytes (old ∷ olds) (word ∷ words) = take (old.start - at) bytes ++ word ++ respelled_from old.end (drop (old.end - at) bytes) olds words
+respelled_from at bytes (old ∷ olds) (word ∷ words) = take (old.start - at) bytes ++ word ++ respelled_from old.end
+    (drop (old.end - at) bytes) olds words
 
 -- the lexemes after it: the same number and classes, the words, and the spans shifted, from the offset `at` to `now`
 abbrev pub respelled_lexemes_from : ℕ → ℕ → List Lexeme → List (List ℕ) → List Lexeme
@@ -32,7 +34,8 @@ respelled_lexemes_from at now [] words = []
 respelled_lexemes_from at now (old ∷ olds) [] = []
 respelled_lexemes_from at now (old ∷ olds) (word ∷ words) =
     let start = now + (old.start - at) in
-    record { class = old.class; start = start; end = start + length word; bytes = word } ∷ respelled_lexemes_from old.end (start + length word) olds words
+    record { class = old.class; start = start; end = start + length word; bytes = word } ∷ respelled_lexemes_from old.end
+    (start + length word) olds words
 
 abbrev pub respelled : List ℕ → List Lexeme → List (List ℕ) → List ℕ
 respelled bytes olds words = respelled_from 0 bytes olds words
@@ -42,7 +45,8 @@ respelled_lexemes olds words = respelled_lexemes_from 0 0 olds words
 
 -- replaced names keep the tokens
 abbrev pub RespelledKeepLexemes : Type 0
-RespelledKeepLexemes = (bytes : List ℕ) (lexemes : List Lexeme) (words : List (List ℕ)) → Lexed bytes lexemes → AllMayBecome bytes lexemes words → Lexed (respelled bytes lexemes words) (respelled_lexemes lexemes words)
+RespelledKeepLexemes = (bytes : List ℕ) (lexemes : List Lexeme) (words : List (List ℕ)) → Lexed bytes lexemes → AllMayBecome bytes lexemes words
+    → Lexed (respelled bytes lexemes words) (respelled_lexemes lexemes words)
 
 -- respelled back with the old words, the respelled bytes are the old ones
 abbrev pub RespelledBack : Type 0
@@ -65,7 +69,8 @@ BarFollows end (next ∷ rest) = (next.start ≡ end) × (slice_index next.bytes
 -- a lexeme keeps its bytes, or it is a Lower, its word becomes a value name, and it is not directly between a lexeme
 -- `{` and one that begins with `|`
 abbrev pub MayBecomeBetween : Option Lexeme → Lexeme → List Lexeme → List ℕ → Type 0
-MayBecomeBetween before old behind word = (word ≡ old.bytes) ⊎ ((old.class ≡ class.Lower) × IsTrue (is_value_name word) × (IsBehindBrace before old.start → BarFollows old.end behind → ⊥))
+MayBecomeBetween before old behind word =
+    (word ≡ old.bytes) ⊎ ((old.class ≡ class.Lower) × IsTrue (is_value_name word) × (IsBehindBrace before old.start → BarFollows old.end behind → ⊥))
 
 abbrev pub AllMayBecomeBehind : Option Lexeme → List Lexeme → List (List ℕ) → Type 0
 AllMayBecomeBehind before [] [] = Unit {0}
@@ -75,4 +80,5 @@ AllMayBecomeBehind before (old ∷ olds) (word ∷ words) = MayBecomeBetween bef
 
 -- names replaced so keep the tokens
 abbrev pub NamesKeepLexemes : Type 0
-NamesKeepLexemes = (bytes : List ℕ) (lexemes : List Lexeme) (words : List (List ℕ)) → Lexed bytes lexemes → AllMayBecomeBehind None lexemes words → Lexed (respelled bytes lexemes words) (respelled_lexemes lexemes words)
+NamesKeepLexemes = (bytes : List ℕ) (lexemes : List Lexeme) (words : List (List ℕ)) → Lexed bytes lexemes → AllMayBecomeBehind None lexemes words
+    → Lexed (respelled bytes lexemes words) (respelled_lexemes lexemes words)

@@ -1,5 +1,6 @@
 -- Comments and attributes (the OCaml manual, "Comments" and "Attributes").
-use Rattle.std.specs.Prelude.{ℕ, zero, suc, ◌+◌, ◌-◌, List, [], ◌∷◌, Bool, true, false, ◌==◌, ◌&&◌, ◌<◌, ◌≤◌, length, drop, Option, Some, None, if◌then◌else◌}
+use Rattle.std.specs.Prelude.{ℕ, zero, suc, ◌+◌, ◌-◌, List, [], ◌∷◌, Bool, true, false, ◌==◌, ◌&&◌, ◌<◌, ◌≤◌, length, drop, Option, Some, None}
+use Rattle.std.specs.Prelude.{if◌then◌else◌}
 use Rattle.ml_lexer.specs.Bytes.{is_at}
 use Rattle.ml_lexer.specs.Quotes.{char_length, text_length, opens_quoted, quoted_length}
 use Rattle.ml_lexer.specs.declared.trivia.Part.{Part}

@@ -7,5 +7,6 @@ use Rattle.ml_syntax.specs.declared.expression.Expr.{Expr}
 use Rattle.ml_syntax.specs.View.{tail, otherwise}
 use Rattle.ml_syntax.specs.Places.{Site, tail_sites}
 
-pub branches_done : (s start : List Site) (l : List Branch) (i : ℕ) (o : Option (Box Expr)) → length l ≤ i → tail_sites s (tail (drop i l) o) ≡ tail_sites start (tail l o) → tail_sites s (otherwise o) ≡ tail_sites start (tail l o)
+pub branches_done : (s start : List Site) (l : List Branch) (i : ℕ) (o : Option (Box Expr)) → length l ≤ i
+    → tail_sites s (tail (drop i l) o) ≡ tail_sites start (tail l o) → tail_sites s (otherwise o) ≡ tail_sites start (tail l o)
 branches_done s start l i o le h = sym (ap (λ k. tail_sites s (tail k o)) (drop_all i l le)) ∙ h

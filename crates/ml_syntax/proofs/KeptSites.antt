@@ -20,11 +20,13 @@ module _ (v : Spelling) where
   spelled_kept c x k = refl
 
   -- a word that is kept
-  pub one_kept : (x : Site) (found : List Site) → Each (IsKept v) (found ++ x ∷ []) → IsTrue (x.pun || x.operator) → map (spell_site v) (x ∷ []) ≡ x ∷ []
+  pub one_kept : (x : Site) (found : List Site) → Each (IsKept v) (found ++ x ∷ []) → IsTrue (x.pun || x.operator)
+      → map (spell_site v) (x ∷ []) ≡ x ∷ []
   one_kept x found h k =
       ap (λ t. record { binds = x.binds; at = x.at; name = t; pun = x.pun; operator = x.operator } ∷ []) ((back (IsKept v) found (x ∷ []) h).0 k)
 
-  pub operator-spell : (b : Bool) (t : Tok) (found : List Site) → Each (IsKept v) (operator_sites found b t) → operator_sites [] b (spell_tok v t) ≡ map (spell_site v) (operator_sites [] b t)
+  pub operator-spell : (b : Bool) (t : Tok) (found : List Site) → Each (IsKept v) (operator_sites found b t)
+      → operator_sites [] b (spell_tok v t) ≡ map (spell_site v) (operator_sites [] b t)
   operator-spell b (placed key.Equals at) found h = sym (one_kept (operated b at (codes "=")) found h refl)
   operator-spell b (word c x) found h =
       ap (λ y. operated b y.at y.text ∷ []) (spelled_kept c x ((back (IsKept v) found (operated b x.at x.text ∷ []) h).0 refl))

@@ -1,5 +1,6 @@
 -- The numbers of the places are those of their words, and rise.
-use Rattle.std.proofs.Common.{◌≡◌, ℕ, suc, ◌+◌, ◌≤◌, List, [], ◌∷◌, ◌++◌, Bool, true, false, length, Option, Some, None, ap, sym, subst, ◌∙◌, arith, if◌then◌else◌}
+use Rattle.std.proofs.Common.{◌≡◌, ℕ, suc, ◌+◌, ◌≤◌, List, [], ◌∷◌, ◌++◌, Bool, true, false, length, Option, Some, None, ap, sym, subst, ◌∙◌, arith}
+use Rattle.std.proofs.Common.{if◌then◌else◌}
 use Rattle.rotor_base.specs.declared.token.Class.{Class}
 use Rattle.rotor_base.specs.declared.token.Class.TheVariants as class
 use Rattle.ml_syntax.specs.declared.fixed.Fixed.{Fixed}
@@ -7,7 +8,8 @@ use Rattle.ml_syntax.specs.Tok.{Tok, fixed, placed, word, is_placed, fixed_of, t
 use Rattle.ml_syntax.specs.Words.{words}
 use Rattle.ml_syntax.specs.Sound.{AreNumbered}
 use Rattle.ml_syntax.specs.Places.{Site, sites}
-use Rattle.ml_syntax.specs.Standing.{IsWordOf, a_name, a_label, an_equals, a_sign, a_minus, StandsAt, StandFrom, AreNumberedBy, SitesAreNumbered, RiseFrom, SitesAreOrdered}
+use Rattle.ml_syntax.specs.Standing.{IsWordOf, a_name, a_label, an_equals, a_sign, a_minus, StandsAt, StandFrom, AreNumberedBy, SitesAreNumbered}
+use Rattle.ml_syntax.specs.Standing.{RiseFrom, SitesAreOrdered}
 use Rattle.ml_syntax.proofs.Standing.{sites_stand}
 
 abbrev number : Tok → Option ℕ
@@ -29,7 +31,8 @@ choice_number : (p : Bool) (x : Fixed) (at n : ℕ) → number (if p then placed
 choice_number true x at n e = some_same at n e
 choice_number false x at n e = cc
 
-or_number : (c : Class) (at : ℕ) (text : List ℕ) (o : Option Fixed) (n : ℕ) → number (tok_or (word c (record { at = at; text = text })) at o) ≡ Some n → at ≡ n
+or_number : (c : Class) (at : ℕ) (text : List ℕ) (o : Option Fixed) (n : ℕ) → number (tok_or (word c (record { at = at; text = text })) at o) ≡ Some n
+    → at ≡ n
 or_number c at text None n e = some_same at n e
 or_number c at text (Some x) n e = choice_number (is_placed x) x at n e
 
@@ -44,7 +47,8 @@ head_same a b u v e = cc
 tail_same : (a b : Tok) (u v : List Tok) → a ∷ u ≡ b ∷ v → u ≡ v
 tail_same a b u v e = cc
 
-split_number : (at : ℕ) (xs : List (Class × List ℕ)) (before : List Tok) (t : Tok) (behind : List Tok) (n : ℕ) → toks_from at xs ≡ before ++ t ∷ behind → number t ≡ Some n → n ≡ at + length before
+split_number : (at : ℕ) (xs : List (Class × List ℕ)) (before : List Tok) (t : Tok) (behind : List Tok) (n : ℕ)
+    → toks_from at xs ≡ before ++ t ∷ behind → number t ≡ Some n → n ≡ at + length before
 split_number at [] [] t behind n e f = cc
 split_number at [] (b ∷ before) t behind n e f = cc
 split_number at (x ∷ xs) [] t behind n e f =

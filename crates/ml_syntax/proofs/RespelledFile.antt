@@ -1,5 +1,6 @@
 -- The tokens of respelled lexemes are those of the respelled tree.
-use Rattle.std.proofs.Common.{◌≡◌, ℕ, suc, ◌+◌, ◌-◌, List, [], ◌∷◌, map, Bool, true, false, Option, Some, None, if◌then◌else◌, length, refl, ap, sym, ◌∙◌}
+use Rattle.std.proofs.Common.{◌≡◌, ℕ, suc, ◌+◌, ◌-◌, List, [], ◌∷◌, map, Bool, true, false, Option, Some, None, if◌then◌else◌, length, refl, ap, sym}
+use Rattle.std.proofs.Common.{◌∙◌}
 use Rattle.rotor_base.specs.declared.token.Class.{Class}
 use Rattle.rotor_base.specs.declared.token.Class.TheVariants as class
 use Rattle.ml_lexer.specs.Lexed.{Lexeme}
@@ -25,13 +26,15 @@ module _ (w : Spelling) where
   one_tok class.Mark at text = or_kept (word class.Mark (record { at = at; text = text })) at (fixed_of text) refl
   one_tok _ at text = refl
 
-  all_toks : (at from now : ℕ) (xs : List Lexeme) → lexeme_toks at (respelled_lexemes_from from now xs (new_words w at xs)) ≡ map (spell_tok w) (lexeme_toks at xs)
+  all_toks : (at from now : ℕ) (xs : List Lexeme) → lexeme_toks at (respelled_lexemes_from from now xs (new_words w at xs)) ≡ map (spell_tok w)
+      (lexeme_toks at xs)
   all_toks at from now [] = refl
   all_toks at from now (x ∷ xs) =
       let text = (spelled w x.class (record { at = at; text = x.bytes })).text in
       let start = now + (x.start - from) in
       let rest = all_toks (suc at) x.end (start + length text) xs in
-      ap (λ t. t ∷ lexeme_toks (suc at) (respelled_lexemes_from x.end (start + length text) xs (new_words w (suc at) xs))) (one_tok x.class at x.bytes)
+      ap (λ t. t ∷ lexeme_toks (suc at) (respelled_lexemes_from x.end (start + length text) xs (new_words w (suc at) xs)))
+      (one_tok x.class at x.bytes)
       ∙ ap (λ (ts : List Tok). spell_tok w (tok x.class at x.bytes) ∷ ts) rest
 
 pub respelled_tokens : RespelledTokens

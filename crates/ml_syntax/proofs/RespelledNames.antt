@@ -1,5 +1,6 @@
 -- A name of a place may become any value name.
-use Rattle.std.proofs.Common.{◌≡◌, ℕ, zero, suc, ◌<◌, inl, inr, List, [], ◌∷◌, ◌++◌, map, Bool, true, false, not, ◌==◌, ◌&&◌, ◌||◌, Option, Some, None, All, length, slice_index_or, codes, refl, ap, sym, subst, ◌∙◌, arith, append_assoc, length-append}
+use Rattle.std.proofs.Common.{◌≡◌, ℕ, zero, suc, ◌<◌, inl, inr, List, [], ◌∷◌, ◌++◌, map, Bool, true, false, not, ◌==◌, ◌&&◌, ◌||◌, Option, Some}
+use Rattle.std.proofs.Common.{None, All, length, slice_index_or, codes, refl, ap, sym, subst, ◌∙◌, arith, append_assoc, length-append}
 use Rattle.std.specs.Prelude.{slice_index}
 use Rattle.std.specs.List.{list_all}
 use Rattle.std.specs.Str.{byte, bytes_eq}
@@ -62,7 +63,8 @@ and_both : (a b : Bool) → (a && b) ≡ true → (a ≡ true) × (b ≡ true)
 and_both true b e = (refl, e)
 and_both false b e = cc
 
-among_bar : (xs : List Entry) (bytes : List ℕ) (m : Fixed) → list_all is_right xs ≡ true → slice_index bytes 0 ≡ 124 → fixed_among (λ x. x.0) (λ x. x.1) bytes xs ≡ Some m → is_bar_key m ≡ true
+among_bar : (xs : List Entry) (bytes : List ℕ) (m : Fixed) → list_all is_right xs ≡ true → slice_index bytes 0 ≡ 124
+    → fixed_among (λ x. x.0) (λ x. x.1) bytes xs ≡ Some m → is_bar_key m ≡ true
 among_bar [] bytes m all bar e = cc
 among_bar (x ∷ xs) bytes m all bar e = by_first (bytes_eq x.0 bytes) refl (λ k. among_bar xs bytes m parts.1 bar k) where
   parts : (is_right x ≡ true) × (list_all is_right xs ≡ true)
@@ -85,7 +87,8 @@ fixed_bar bytes m bar e = among_bar spellings bytes m refl bar e
 word_bar : (c : Class) (at : ℕ) (text : List ℕ) → slice_index text 0 ≡ 124 → begins_bar (word c (record { at = at; text = text })) ≡ true
 word_bar c at text bar = ap (λ n. n == byte "|") bar
 
-or_bar : (c : Class) (at : ℕ) (text : List ℕ) (o : Option Fixed) → fixed_of text ≡ o → slice_index text 0 ≡ 124 → begins_bar (tok_or (word c (record { at = at; text = text })) at o) ≡ true
+or_bar : (c : Class) (at : ℕ) (text : List ℕ) (o : Option Fixed) → fixed_of text ≡ o → slice_index text 0 ≡ 124
+    → begins_bar (tok_or (word c (record { at = at; text = text })) at o) ≡ true
 or_bar c at text None e bar = word_bar c at text bar
 or_bar c at text (Some m) e bar = key_begins m at (fixed_bar text m bar e)
 
@@ -130,7 +133,8 @@ front_same [] [] x y u v size e = refl
 front_same [] (p ∷ b) x y u v size e = absurd (omega (arith, size))
 front_same (p ∷ a) [] x y u v size e = absurd (omega (arith, size))
 front_same (p ∷ a) (q ∷ b) x y u v size e =
-    ap (λ (l : List Tok). p ∷ l) (front_same a b x y u v (omega (arith, size)) (tail_same p q (a ++ x ∷ u) (b ++ y ∷ v) e)) ∙ ap (λ t. t ∷ b) (head_same p q (a ++ x ∷ u) (b ++ y ∷ v) e)
+    ap (λ (l : List Tok). p ∷ l) (front_same a b x y u v (omega (arith, size)) (tail_same p q (a ++ x ∷ u) (b ++ y ∷ v) e))
+    ∙ ap (λ t. t ∷ b) (head_same p q (a ++ x ∷ u) (b ++ y ∷ v) e)
 
 pub back_same : (a b : List Tok) (x y : Tok) (u v : List Tok) → length a ≡ length b → a ++ x ∷ u ≡ b ++ y ∷ v → u ≡ v
 back_same [] [] x y u v size e = tail_same x y u v e
@@ -144,7 +148,8 @@ pub record Found (ts : List Tok) (s : Site) : Type 0 where
   pub numbered : s.at ≡ suc count
   pub stands : StandsAt ts count s
 
-pub find : (ts : List Tok) (low : ℕ) (ss : List Site) (s : Site) → AreNumberedBy ts low ss → (k : ℕ) → k < length ss → slice_index_or ss k s ≡ s → Found ts s
+pub find : (ts : List Tok) (low : ℕ) (ss : List Site) (s : Site) → AreNumberedBy ts low ss → (k : ℕ) → k < length ss → slice_index_or ss k s ≡ s
+    → Found ts s
 find ts low [] s h k less e = absurd (omega (arith, less))
 find ts low (x ∷ ss) s h zero less e = subst (Found ts) e (record { count = h.0; numbered = h.2; stands = h.3 })
 find ts low (x ∷ ss) s h (suc k) less e = find ts (suc h.0) ss s h.4 k (omega (arith, less)) e
@@ -158,7 +163,9 @@ module _ (w : Spelling) (ts : List Tok) (ss : List Site) (numbers : AreNumberedB
   bar_unsafe [] at end b = absurd b
   bar_unsafe (z ∷ zs) at end b = ap not (tok_bar z.class at z.bytes b.1)
 
-  apart : (before : Option Lexeme) (past : List Tok) (here : Tok) (xs : List Lexeme) (at start end : ℕ) (s : Site) → ts ≡ past ++ here ∷ lexeme_toks (suc at) xs → suc (length past) ≡ at → Ends past before → Found ts s → s.at ≡ at → s.operator ≡ false → IsBehindBrace before start → BarFollows end xs → ⊥
+  apart : (before : Option Lexeme) (past : List Tok) (here : Tok) (xs : List Lexeme) (at start end : ℕ) (s : Site)
+      → ts ≡ past ++ here ∷ lexeme_toks (suc at) xs → suc (length past) ≡ at → Ends past before → Found ts s → s.at ≡ at → s.operator ≡ false
+      → IsBehindBrace before start → BarFollows end xs → ⊥
   apart before past here xs at start end s whole size ends f is_at plain b bar =
       let st : StandsAt ts f.count s = f.stands in
       let number : s.at ≡ suc f.count = f.numbered in
@@ -167,26 +174,37 @@ module _ (w : Spelling) (ts : List Tok) (ss : List Site) (numbers : AreNumberedB
       let long : length past ≡ length st.before = omega (arith, size, is_at, number, place) in
       let front = front_same past st.before here st.here (lexeme_toks (suc at) xs) st.behind long split in
       let back = back_same past st.before here st.here (lexeme_toks (suc at) xs) st.behind long split in
-      let safe : is_safe (lexeme_toks (suc at) xs) ≡ true = ap is_safe back ∙ st.apart plain (subst EndsInBrace front (brace_ends before past start ends b)) in
+      let safe : is_safe (lexeme_toks (suc at) xs) ≡ true = ap is_safe back
+      ∙ st.apart plain (subst EndsInBrace front (brace_ends before past start ends b)) in
       let wrong : true ≡ false = sym safe ∙ bar_unsafe xs (suc at) end bar in
       cc
 
-  one_word : (before : Option Lexeme) (past : List Tok) (c : Class) (start end : ℕ) (text : List ℕ) (xs : List Lexeme) (at : ℕ) → ts ≡ past ++ tok c at text ∷ lexeme_toks (suc at) xs → suc (length past) ≡ at → Ends past before
+  one_word : (before : Option Lexeme) (past : List Tok) (c : Class) (start end : ℕ) (text : List ℕ) (xs : List Lexeme) (at : ℕ)
+      → ts ≡ past ++ tok c at text ∷ lexeme_toks (suc at) xs → suc (length past) ≡ at → Ends past before
       → MayBecomeBetween before (record { class = c; start = start; end = end; bytes = text }) xs (spelled w c (record { at = at; text = text })).text
   one_word before past class.Lower start end text xs at whole size ends = elim (changes at text) [
     | inl same ↦ inl same
-    | inr new ↦ inr (refl, new.0, λ b bar. apart before past (tok class.Lower at text) xs at start end new.1 whole size ends (find ts 0 ss new.1 numbers new.2.0 new.2.1 new.2.2) new.3 new.4 b bar)
+    | inr new ↦ inr (
+      refl,
+      new.0,
+      λ b bar. apart before past (tok class.Lower at text) xs at start end new.1 whole size ends
+          (find ts 0 ss new.1 numbers new.2.0 new.2.1 new.2.2) new.3 new.4 b bar,
+    )
   ]
   one_word before past _ start end text xs at whole size ends = inl refl
 
-  all_words : (before : Option Lexeme) (past : List Tok) (xs : List Lexeme) (at : ℕ) → EachWhole xs → ts ≡ past ++ lexeme_toks at xs → suc (length past) ≡ at → Ends past before → AllMayBecomeBehind before xs (new_words w at xs)
+  all_words : (before : Option Lexeme) (past : List Tok) (xs : List Lexeme) (at : ℕ) → EachWhole xs → ts ≡ past ++ lexeme_toks at xs
+      → suc (length past) ≡ at → Ends past before → AllMayBecomeBehind before xs (new_words w at xs)
   all_words before past [] at each whole size ends = tt
   all_words before past (x ∷ xs) at each whole size ends =
       let t = tok x.class at x.bytes in
       let longer : suc (length (past ++ t ∷ [])) ≡ suc at = rw length-append (omega (arith, size)) in
       let more : ts ≡ (past ++ t ∷ []) ++ lexeme_toks (suc at) xs = whole ∙ sym (append_assoc past (t ∷ []) (lexeme_toks (suc at) xs)) in
-      let last : Ends (past ++ t ∷ []) (Some x) = λ e. (past, at, ap (λ v. past ++ v ∷ []) (brace_tok x at each.0 e)) in
-      (one_word before past x.class x.start x.end x.bytes xs at whole size ends, all_words (Some x) (past ++ t ∷ []) xs (suc at) each.1 more longer last)
+      let last : Ends (past ++ t ∷ []) (Some x) = λ e. (past, at, ap (λ v. past ++ v ∷ []) (brace_tok x at each.0 e)) in (
+        one_word before past x.class x.start x.end x.bytes xs at whole size ends,
+        all_words (Some x) (past ++ t ∷ []) xs
+            (suc at) each.1 more longer last,
+      )
 
 pub sites_may_become : SitesMayBecome
 sites_may_become w t bytes xs wf cut same changes =
@@ -195,5 +213,9 @@ sites_may_become w t bytes xs wf cut same changes =
 
 pub respelled_names_are_read : RespelledNamesAreRead
 respelled_names_are_read w t bytes xs wf cut same changes =
-    let tree = respelling_keeps_the_tree w t wf in
-    (names_keep_lexemes bytes xs (new_words w 1 xs) cut (sites_may_become w t bytes xs wf cut same changes), tree.0, respelled_tokens w xs ∙ ap (map (spell_tok w)) same ∙ sym tree.1)
+    let tree = respelling_keeps_the_tree w t wf in (
+      names_keep_lexemes bytes xs (new_words w 1 xs) cut (sites_may_become w t bytes xs wf cut same changes),
+      tree.0,
+      respelled_tokens w xs
+          ∙ ap (map (spell_tok w)) same ∙ sym tree.1,
+    )

@@ -3,8 +3,28 @@ use Rattle.std.proofs.Common.{List, [], ◌∷◌, ◌++◌, Bool, true, false, 
 use Rattle.ml_syntax.specs.declared.fixed.Fixed.TheVariants as key
 use Rattle.ml_syntax.specs.Each.{Each}
 use Rattle.ml_syntax.specs.Tok.{Tok, placed, word}
-use Rattle.ml_syntax.specs.Places.{Site, plain, punned, operated, operator_sites, name_sites, label_site, names_sites, pat_sites, pats_sites, pat_field_sites, pat_fields_sites, variable_sites, expr_sites, links_sites, maybe_sites, tail_sites, binding_sites, bindings_sites, case_sites, cases_sites, argument_sites, arguments_sites, param_sites, params_sites, part_sites, parts_sites, field_sites, fields_sites, mod_sites, mod_argument_sites, mod_arguments_sites, functor_param_sites, functor_params_sites, mod_type_sites, signature_sites, item_sites, items_sites, sig_item_sites, sig_items_sites}
-use Rattle.ml_syntax.specs.Tree.{ValueName, PlainName, OperatorName, Pat, AsPat, OrPat, TuplePat, ConsPat, ConstrApplyPat, TagApplyPat, LazyPat, ExceptionPat, AnyPat, ValuePat, LiteralPat, NegativePat, RangePat, ConstrPat, TagPat, BoolPat, UnitPat, ParenPat, TypedPat, EmptyPat, ListPat, RecordPat, OpenedPat, Pats, no_pat, more_pat, PatField, PunnedField, MatchedField, PatFields, no_pat_field, more_pat_field, Variable, PlainVariable, AnyVariable, Expr, Seq, Let, LetOpen, LetModule, Fun, Function, Match, Try, If, Chain, Minus, Apply, ConstrApply, TagApply, Assert, Lazy, Postfix, Prefixed, Literal, BoolExpr, Value, Constr, Tag, UnitExpr, Paren, Typed, Coerced, EmptyBegin, Begin, EmptyList, ListExpr, Record, Opened, While, For, Links, no_link, more_link, MaybeExpr, no_expr, some_expr, Tail, no_else, or_else, or_if, Binding, PlainBinding, AppliedBinding, Bindings, no_binding, more_binding, Case, CaseOf, Cases, no_case, more_case, Argument, Positional, LabelPun, Labelled, Arguments, no_argument, more_argument, Param, PatternParam, LabelParam, LabelPattern, DefaultParam, WrappedParam, WrappedDefault, TypesParam, Params, no_param, more_param, Part, LabelPart, IndexPart, CharPart, Parts, no_part, more_part, Field, FieldPun, AssignedField, Fields, no_field, more_field, ModExpr, ModPath, Struct, Functor, ModApply, ModParen, Sealed, ModArgument, ModuleArgument, SealedArgument, NoArgument, ModArguments, no_mod_argument, more_mod_argument, FunctorParam, NamedParam, NoParam, FunctorParams, no_functor_param, more_functor_param, ModType, TypePath, Sig, TypeOf, TypeParen, With, FunctorType, ParamArrow, Arrow, MaybeType, no_type, some_type, Item, ExprItem, SeparatorItem, ValueItem, ExternalItem, TypeItem, ExceptionItem, ModuleItem, ModuleTypeItem, OpenItem, IncludeItem, Items, no_item, more_item, SigItem, SeparatorSig, ValSig, ExternalSig, TypeSig, ExceptionSig, ModuleSig, AliasSig, ModuleTypeSig, OpenSig, IncludeSig, SigItems, no_sig_item, more_sig_item}
+use Rattle.ml_syntax.specs.Places.{Site, plain, punned, operated, operator_sites, name_sites, label_site, names_sites, pat_sites, pats_sites}
+use Rattle.ml_syntax.specs.Places.{pat_field_sites, pat_fields_sites, variable_sites, expr_sites, links_sites, maybe_sites, tail_sites, binding_sites}
+use Rattle.ml_syntax.specs.Places.{bindings_sites, case_sites, cases_sites, argument_sites, arguments_sites, param_sites, params_sites, part_sites}
+use Rattle.ml_syntax.specs.Places.{parts_sites, field_sites, fields_sites, mod_sites, mod_argument_sites, mod_arguments_sites, functor_param_sites}
+use Rattle.ml_syntax.specs.Places.{functor_params_sites, mod_type_sites, signature_sites, item_sites, items_sites, sig_item_sites, sig_items_sites}
+use Rattle.ml_syntax.specs.Tree.{ValueName, PlainName, OperatorName, Pat, AsPat, OrPat, TuplePat, ConsPat, ConstrApplyPat, TagApplyPat, LazyPat}
+use Rattle.ml_syntax.specs.Tree.{ExceptionPat, AnyPat, ValuePat, LiteralPat, NegativePat, RangePat, ConstrPat, TagPat, BoolPat, UnitPat, ParenPat}
+use Rattle.ml_syntax.specs.Tree.{TypedPat, EmptyPat, ListPat, RecordPat, OpenedPat, Pats, no_pat, more_pat, PatField, PunnedField, MatchedField}
+use Rattle.ml_syntax.specs.Tree.{PatFields, no_pat_field, more_pat_field, Variable, PlainVariable, AnyVariable, Expr, Seq, Let, LetOpen, LetModule}
+use Rattle.ml_syntax.specs.Tree.{Fun, Function, Match, Try, If, Chain, Minus, Apply, ConstrApply, TagApply, Assert, Lazy, Postfix, Prefixed, Literal}
+use Rattle.ml_syntax.specs.Tree.{BoolExpr, Value, Constr, Tag, UnitExpr, Paren, Typed, Coerced, EmptyBegin, Begin, EmptyList, ListExpr, Record}
+use Rattle.ml_syntax.specs.Tree.{Opened, While, For, Links, no_link, more_link, MaybeExpr, no_expr, some_expr, Tail, no_else, or_else, or_if, Binding}
+use Rattle.ml_syntax.specs.Tree.{PlainBinding, AppliedBinding, Bindings, no_binding, more_binding, Case, CaseOf, Cases, no_case, more_case, Argument}
+use Rattle.ml_syntax.specs.Tree.{Positional, LabelPun, Labelled, Arguments, no_argument, more_argument, Param, PatternParam, LabelParam, LabelPattern}
+use Rattle.ml_syntax.specs.Tree.{DefaultParam, WrappedParam, WrappedDefault, TypesParam, Params, no_param, more_param, Part, LabelPart, IndexPart}
+use Rattle.ml_syntax.specs.Tree.{CharPart, Parts, no_part, more_part, Field, FieldPun, AssignedField, Fields, no_field, more_field, ModExpr, ModPath}
+use Rattle.ml_syntax.specs.Tree.{Struct, Functor, ModApply, ModParen, Sealed, ModArgument, ModuleArgument, SealedArgument, NoArgument, ModArguments}
+use Rattle.ml_syntax.specs.Tree.{no_mod_argument, more_mod_argument, FunctorParam, NamedParam, NoParam, FunctorParams, no_functor_param}
+use Rattle.ml_syntax.specs.Tree.{more_functor_param, ModType, TypePath, Sig, TypeOf, TypeParen, With, FunctorType, ParamArrow, Arrow, MaybeType}
+use Rattle.ml_syntax.specs.Tree.{no_type, some_type, Item, ExprItem, SeparatorItem, ValueItem, ExternalItem, TypeItem, ExceptionItem, ModuleItem}
+use Rattle.ml_syntax.specs.Tree.{ModuleTypeItem, OpenItem, IncludeItem, Items, no_item, more_item, SigItem, SeparatorSig, ValSig, ExternalSig}
+use Rattle.ml_syntax.specs.Tree.{TypeSig, ExceptionSig, ModuleSig, AliasSig, ModuleTypeSig, OpenSig, IncludeSig, SigItems, no_sig_item, more_sig_item}
 
 module _ (P : Site → Type 0) where
   pub front : (xs ys : List Site) → Each P (xs ++ ys) → Each P xs
@@ -73,16 +93,19 @@ module _ (P : Site → Type 0) where
   mutual
     pub expr_stay : (x0 : Expr) (found : List Site) → Each P (expr_sites found x0) → Each P found
     expr_stay (Seq e es last) found h = expr_stay e found (links_stay es (expr_sites found e) h)
-    expr_stay (Let at rec b bs e) found h = binding_stay b found (bindings_stay bs (binding_sites found b) (expr_stay e (bindings_sites (binding_sites found b) bs) h))
+    expr_stay (Let at rec b bs e) found h =
+        binding_stay b found (bindings_stay bs (binding_sites found b) (expr_stay e (bindings_sites (binding_sites found b) bs) h))
     expr_stay (LetOpen at at' bang path e) found h = expr_stay e found h
     expr_stay (LetModule at at' x eq m e) found h = expr_stay e found h
     expr_stay (Fun at ps e) found h = params_stay ps found (expr_stay e (params_sites found ps) h)
     expr_stay (Function at bar c cs) found h = case_stay c found (cases_stay cs (case_sites found c) h)
-    expr_stay (Match at e bar c cs) found h = expr_stay e found (case_stay c (expr_sites found e) (cases_stay cs (case_sites (expr_sites found e) c) h))
+    expr_stay (Match at e bar c cs) found h =
+        expr_stay e found (case_stay c (expr_sites found e) (cases_stay cs (case_sites (expr_sites found e) c) h))
     expr_stay (Try at e bar c cs) found h = expr_stay e found (case_stay c (expr_sites found e) (cases_stay cs (case_sites (expr_sites found e) c) h))
     expr_stay (If at c a tail) found h = expr_stay c found (expr_stay a (expr_sites found c) (tail_stay tail (expr_sites (expr_sites found c) a) h))
     expr_stay (Chain n e es) found h = expr_stay e found (links_stay es (expr_sites found e) h)
-    expr_stay (Minus x e) found h = front found (operated false x.at (126 ∷ x.text) ∷ []) (expr_stay e (found ++ operated false x.at (126 ∷ x.text) ∷ []) h)
+    expr_stay (Minus x e) found h =
+        front found (operated false x.at (126 ∷ x.text) ∷ []) (expr_stay e (found ++ operated false x.at (126 ∷ x.text) ∷ []) h)
     expr_stay (Apply f es) found h = expr_stay f found (arguments_stay es (expr_sites found f) h)
     expr_stay (ConstrApply path e) found h = expr_stay e found h
     expr_stay (TagApply x e) found h = expr_stay e found h
@@ -103,14 +126,18 @@ module _ (P : Site → Type 0) where
     expr_stay (Begin at e) found h = expr_stay e found h
     expr_stay (EmptyList at b) found h = h
     expr_stay (ListExpr at b e es last) found h = expr_stay e found (links_stay es (expr_sites found e) h)
-    expr_stay (Record at base f fs last) found h = maybe_stay base found (field_stay f (maybe_sites found base) (fields_stay fs (field_sites (maybe_sites found base) f) h))
+    expr_stay (Record at base f fs last) found h =
+        maybe_stay base found (field_stay f (maybe_sites found base) (fields_stay fs (field_sites (maybe_sites found base) f) h))
     expr_stay (Opened path e) found h = expr_stay e found h
     expr_stay (While at c e) found h = expr_stay c found (expr_stay e (expr_sites found c) h)
-    expr_stay (For at x eq a down b e) found h = variable_stay x found (expr_stay a (variable_sites found x) (expr_stay b (expr_sites (variable_sites found x) a) (expr_stay e (expr_sites (expr_sites (variable_sites found x) a) b) h)))
+    expr_stay (For at x eq a down b e) found h =
+        variable_stay x found (expr_stay a (variable_sites found x)
+        (expr_stay b (expr_sites (variable_sites found x) a) (expr_stay e (expr_sites (expr_sites (variable_sites found x) a) b) h)))
 
     pub links_stay : (x0 : Links) (found : List Site) → Each P (links_sites found x0) → Each P found
     links_stay no_link found h = h
-    links_stay (more_link t e es) found h = operator_stay false t found (expr_stay e (operator_sites found false t) (links_stay es (expr_sites (operator_sites found false t) e) h))
+    links_stay (more_link t e es) found h =
+        operator_stay false t found (expr_stay e (operator_sites found false t) (links_stay es (expr_sites (operator_sites found false t) e) h))
 
     pub maybe_stay : (x0 : MaybeExpr) (found : List Site) → Each P (maybe_sites found x0) → Each P found
     maybe_stay no_expr found h = h
@@ -119,18 +146,21 @@ module _ (P : Site → Type 0) where
     pub tail_stay : (x0 : Tail) (found : List Site) → Each P (tail_sites found x0) → Each P found
     tail_stay no_else found h = h
     tail_stay (or_else e) found h = expr_stay e found h
-    tail_stay (or_if at c a tail) found h = expr_stay c found (expr_stay a (expr_sites found c) (tail_stay tail (expr_sites (expr_sites found c) a) h))
+    tail_stay (or_if at c a tail) found h =
+        expr_stay c found (expr_stay a (expr_sites found c) (tail_stay tail (expr_sites (expr_sites found c) a) h))
 
     pub binding_stay : (x0 : Binding) (found : List Site) → Each P (binding_sites found x0) → Each P found
     binding_stay (PlainBinding p run at e) found h = pat_stay p found (expr_stay e (pat_sites found p) h)
-    binding_stay (AppliedBinding x ps run at e) found h = name_stay true x found (params_stay ps (name_sites found true x) (expr_stay e (params_sites (name_sites found true x) ps) h))
+    binding_stay (AppliedBinding x ps run at e) found h =
+        name_stay true x found (params_stay ps (name_sites found true x) (expr_stay e (params_sites (name_sites found true x) ps) h))
 
     pub bindings_stay : (x0 : Bindings) (found : List Site) → Each P (bindings_sites found x0) → Each P found
     bindings_stay no_binding found h = h
     bindings_stay (more_binding b bs) found h = binding_stay b found (bindings_stay bs (binding_sites found b) h)
 
     pub case_stay : (x0 : Case) (found : List Site) → Each P (case_sites found x0) → Each P found
-    case_stay (CaseOf p guard e) found h = pat_stay p found (maybe_stay guard (pat_sites found p) (expr_stay e (maybe_sites (pat_sites found p) guard) h))
+    case_stay (CaseOf p guard e) found h =
+        pat_stay p found (maybe_stay guard (pat_sites found p) (expr_stay e (maybe_sites (pat_sites found p) guard) h))
 
     pub cases_stay : (x0 : Cases) (found : List Site) → Each P (cases_sites found x0) → Each P found
     cases_stay no_case found h = h
@@ -151,7 +181,8 @@ module _ (P : Site → Type 0) where
     param_stay (LabelPattern x p) found h = pat_stay p found h
     param_stay (DefaultParam x at p run eq e) found h = pat_stay p found (expr_stay e (pat_sites found p) h)
     param_stay (WrappedParam at optional at' x run) found h = front found (punned true x.at x.text ∷ []) h
-    param_stay (WrappedDefault at at' x run eq e) found h = front found (punned true x.at x.text ∷ []) (expr_stay e (found ++ punned true x.at x.text ∷ []) h)
+    param_stay (WrappedDefault at at' x run eq e) found h =
+        front found (punned true x.at x.text ∷ []) (expr_stay e (found ++ punned true x.at x.text ∷ []) h)
     param_stay (TypesParam at xs) found h = h
 
     pub params_stay : (x0 : Params) (found : List Site) → Each P (params_sites found x0) → Each P found
@@ -222,7 +253,9 @@ module _ (P : Site → Type 0) where
     item_stay (ExternalItem x run at texts) found h = name_stay true x found h
     item_stay (TypeItem run) found h = h
     item_stay (ExceptionItem at run) found h = h
-    item_stay (ModuleItem at x ps s eq m) found h = functor_params_stay ps found (signature_stay s (functor_params_sites found ps) (mod_stay m (signature_sites (functor_params_sites found ps) s) h))
+    item_stay (ModuleItem at x ps s eq m) found h =
+        functor_params_stay ps found
+        (signature_stay s (functor_params_sites found ps) (mod_stay m (signature_sites (functor_params_sites found ps) s) h))
     item_stay (ModuleTypeItem at x eq s) found h = mod_type_stay s found h
     item_stay (OpenItem at bang path) found h = h
     item_stay (IncludeItem at m) found h = mod_stay m found h

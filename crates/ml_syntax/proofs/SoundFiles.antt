@@ -40,7 +40,8 @@ record Parts (at : ℕ) (ts us : List Tok) : Type 0 where
   right : AreNumbered (at + length ts) us
 
 split : (at : ℕ) (ts us : List Tok) (xs : List (Class × List ℕ)) → ts ++ us ≡ toks_from at xs → All IsLexeme xs → Parts at ts us
-split at [] us xs e all = let same : at + 0 ≡ at = omega arith in record { left = ([], refl, none); right = subst (λ n. AreNumbered n us) (sym same) (xs, e, all) }
+split at [] us xs e all = let same : at + 0 ≡ at = omega arith in
+    record { left = ([], refl, none); right = subst (λ n. AreNumbered n us) (sym same) (xs, e, all) }
 split at (t ∷ ts) us [] e all = cc
 split at (t ∷ ts) us (x ∷ xs) e all =
     let r = split (suc at) ts us xs (tail_same t (tok x.0 at x.1) (ts ++ us) (toks_from (suc at) xs) e) (later x xs all) in

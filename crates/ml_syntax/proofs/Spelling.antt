@@ -1,14 +1,52 @@
 -- A respelled tree has the respelled words, and is well formed.
-use Rattle.std.proofs.Common.{◌≡◌, ◌≢◌, ℕ, ◌⊎◌, inl, inr, List, [], ◌∷◌, ◌++◌, map, Bool, true, false, ◌||◌, Option, Some, None, refl, sym, ap, subst, ◌∙◌, arith}
+use Rattle.std.proofs.Common.{◌≡◌, ◌≢◌, ℕ, ◌⊎◌, inl, inr, List, [], ◌∷◌, ◌++◌, map, Bool, true, false, ◌||◌, Option, Some, None, refl, sym, ap, subst}
+use Rattle.std.proofs.Common.{◌∙◌, arith}
 use Rattle.rotor_base.specs.declared.token.Class.TheVariants as class
 use Rattle.ml_syntax.specs.declared.fixed.Fixed.{Fixed}
 use Rattle.ml_syntax.specs.declared.fixed.Fixed.TheVariants as key
 use Rattle.ml_syntax.specs.Tok.{Name, Tok, fixed, placed, word}
-use Rattle.ml_syntax.specs.Runs.{Bracketing, bracketing, after_bracket, is_matched, in_type, beside_type, begins_type, is_type_run, in_declaration, is_declaration_run, opens, closes, neither}
-use Rattle.ml_syntax.specs.Tree.{ValueName, Pat, Pats, PatField, PatFields, Variable, LocalModule, LocalArguments, Expr, Links, MaybeExpr, Tail, Binding, Bindings, Case, Cases, Argument, Arguments, Param, Params, Part, Parts, Field, Fields, ModuleName, Constraint, WithClause, ModExpr, ModArgument, ModArguments, FunctorParam, FunctorParams, ModType, MaybeType, Item, Items, SigItem, SigItems, PlainName, OperatorName, AsPat, OrPat, TuplePat, ConsPat, ConstrApplyPat, TagApplyPat, LazyPat, ExceptionPat, AnyPat, ValuePat, LiteralPat, NegativePat, RangePat, ConstrPat, TagPat, BoolPat, UnitPat, ParenPat, TypedPat, EmptyPat, ListPat, RecordPat, OpenedPat, no_pat, more_pat, PunnedField, MatchedField, no_pat_field, more_pat_field, PlainVariable, AnyVariable, LocalPath, no_local, more_local, no_module, Seq, Let, LetOpen, LetModule, Fun, Function, Match, Try, If, Chain, Minus, Apply, ConstrApply, TagApply, Assert, Lazy, Postfix, Prefixed, Literal, BoolExpr, Value, Constr, Tag, UnitExpr, Paren, Typed, Coerced, EmptyBegin, Begin, EmptyList, ListExpr, Record, Opened, While, For, no_link, more_link, no_expr, some_expr, no_else, or_else, or_if, PlainBinding, AppliedBinding, no_binding, more_binding, CaseOf, no_case, more_case, Positional, LabelPun, Labelled, no_argument, more_argument, PatternParam, LabelParam, LabelPattern, DefaultParam, WrappedParam, WrappedDefault, TypesParam, no_param, more_param, LabelPart, IndexPart, CharPart, no_part, more_part, FieldPun, AssignedField, no_field, more_field, UpperName, AnyName, ConstraintOf, WithOf, ModPath, Struct, Functor, ModApply, ModParen, Sealed, ModuleArgument, SealedArgument, NoArgument, no_mod_argument, more_mod_argument, NamedParam, NoParam, no_functor_param, more_functor_param, TypePath, Sig, TypeOf, TypeParen, With, FunctorType, ParamArrow, Arrow, no_type, some_type, ExprItem, SeparatorItem, ValueItem, ExternalItem, TypeItem, ExceptionItem, ModuleItem, ModuleTypeItem, OpenItem, IncludeItem, no_item, more_item, SeparatorSig, ValSig, ExternalSig, TypeSig, ExceptionSig, ModuleSig, AliasSig, ModuleTypeSig, OpenSig, IncludeSig, no_sig_item, more_sig_item, Body, Face}
-use Rattle.ml_syntax.specs.Words.{dotted_then, path_then, qualified_then, name_then, names_then, type_then, optional_then, bang_then, truth, opening, closing, open_then, pat_then, pats_then, pat_field_then, pat_fields_then, variable_then, local_then, locals_then, lowers_then, wrap, direction, expr_then, links_then, base_then, guard_then, tail_then, binding_then, bindings_then, case_then, cases_then, argument_then, arguments_then, param_then, params_then, part_then, parts_then, field_then, fields_then, module_name_then, constraint_then, constraints_then, withs_then, texts_then, external_then, open_item_then, mod_then, mod_argument_then, mod_arguments_then, functor_param_then, functor_params_then, mod_type_then, signature_then, item_then, items_then, sig_item_then, sig_items_then}
-use Rattle.ml_syntax.specs.WellFormed.{is_operator, WfName, WfNames, WfType, pat_level, is_exception, WfPat, WfPats, WfPatField, WfPatFields, level, op_level, is_form, is_if, has_else, is_open_if, has_cases, on_edge, on_links, on_body, on_cases, on_tail, NoForm, Calm, NoOpenIf, NoCases, IsOperand, is_postfix, CanBeAssigned, is_bare, is_constr, is_bracketed, EndsField, Wf, WfSeq, WfChain, WfBase, WfGuard, WfTail, WfBinding, WfBindings, WfCase, WfCases, WfArgument, WfArguments, WfParam, WfParams, WfPart, WfParts, WfField, WfFields, is_constraint_sign, WfConstraint, WfConstraints, WfWiths, is_functor, is_simple_mod, is_simple_type, is_separator, WfExternal, WfMod, WfModArgument, WfModArguments, WfFunctorParam, WfFunctorParams, WfModType, WfSignature, WfItem, WfItems, WfSigItem, WfSigItems}
-use Rattle.ml_syntax.specs.Respelled.{Spelling, spell, spell_tok, spell_run, spell_type, spell_value_name, spell_pat, spell_pats, spell_pat_field, spell_pat_fields, spell_variable, spell_expr, spell_links, spell_maybe_expr, spell_tail, spell_binding, spell_bindings, spell_case, spell_cases, spell_argument, spell_arguments, spell_param, spell_params, spell_part, spell_parts, spell_field, spell_fields, spell_constraint, spell_with_clause, spell_mod_expr, spell_mod_argument, spell_mod_arguments, spell_functor_param, spell_functor_params, spell_mod_type, spell_maybe_type, spell_item, spell_items, spell_sig_item, spell_sig_items, RespellingKeepsTheTree}
+use Rattle.ml_syntax.specs.Runs.{Bracketing, bracketing, after_bracket, is_matched, in_type, beside_type, begins_type, is_type_run, in_declaration}
+use Rattle.ml_syntax.specs.Runs.{is_declaration_run, opens, closes, neither}
+use Rattle.ml_syntax.specs.Tree.{ValueName, Pat, Pats, PatField, PatFields, Variable, LocalModule, LocalArguments, Expr, Links, MaybeExpr, Tail}
+use Rattle.ml_syntax.specs.Tree.{Binding, Bindings, Case, Cases, Argument, Arguments, Param, Params, Part, Parts, Field, Fields, ModuleName}
+use Rattle.ml_syntax.specs.Tree.{Constraint, WithClause, ModExpr, ModArgument, ModArguments, FunctorParam, FunctorParams, ModType, MaybeType, Item}
+use Rattle.ml_syntax.specs.Tree.{Items, SigItem, SigItems, PlainName, OperatorName, AsPat, OrPat, TuplePat, ConsPat, ConstrApplyPat, TagApplyPat}
+use Rattle.ml_syntax.specs.Tree.{LazyPat, ExceptionPat, AnyPat, ValuePat, LiteralPat, NegativePat, RangePat, ConstrPat, TagPat, BoolPat, UnitPat}
+use Rattle.ml_syntax.specs.Tree.{ParenPat, TypedPat, EmptyPat, ListPat, RecordPat, OpenedPat, no_pat, more_pat, PunnedField, MatchedField}
+use Rattle.ml_syntax.specs.Tree.{no_pat_field, more_pat_field, PlainVariable, AnyVariable, LocalPath, no_local, more_local, no_module, Seq, Let}
+use Rattle.ml_syntax.specs.Tree.{LetOpen, LetModule, Fun, Function, Match, Try, If, Chain, Minus, Apply, ConstrApply, TagApply, Assert, Lazy, Postfix}
+use Rattle.ml_syntax.specs.Tree.{Prefixed, Literal, BoolExpr, Value, Constr, Tag, UnitExpr, Paren, Typed, Coerced, EmptyBegin, Begin, EmptyList}
+use Rattle.ml_syntax.specs.Tree.{ListExpr, Record, Opened, While, For, no_link, more_link, no_expr, some_expr, no_else, or_else, or_if, PlainBinding}
+use Rattle.ml_syntax.specs.Tree.{AppliedBinding, no_binding, more_binding, CaseOf, no_case, more_case, Positional, LabelPun, Labelled, no_argument}
+use Rattle.ml_syntax.specs.Tree.{more_argument, PatternParam, LabelParam, LabelPattern, DefaultParam, WrappedParam, WrappedDefault, TypesParam}
+use Rattle.ml_syntax.specs.Tree.{no_param, more_param, LabelPart, IndexPart, CharPart, no_part, more_part, FieldPun, AssignedField, no_field}
+use Rattle.ml_syntax.specs.Tree.{more_field, UpperName, AnyName, ConstraintOf, WithOf, ModPath, Struct, Functor, ModApply, ModParen, Sealed}
+use Rattle.ml_syntax.specs.Tree.{ModuleArgument, SealedArgument, NoArgument, no_mod_argument, more_mod_argument, NamedParam, NoParam}
+use Rattle.ml_syntax.specs.Tree.{no_functor_param, more_functor_param, TypePath, Sig, TypeOf, TypeParen, With, FunctorType, ParamArrow, Arrow}
+use Rattle.ml_syntax.specs.Tree.{no_type, some_type, ExprItem, SeparatorItem, ValueItem, ExternalItem, TypeItem, ExceptionItem, ModuleItem}
+use Rattle.ml_syntax.specs.Tree.{ModuleTypeItem, OpenItem, IncludeItem, no_item, more_item, SeparatorSig, ValSig, ExternalSig, TypeSig, ExceptionSig}
+use Rattle.ml_syntax.specs.Tree.{ModuleSig, AliasSig, ModuleTypeSig, OpenSig, IncludeSig, no_sig_item, more_sig_item, Body, Face}
+use Rattle.ml_syntax.specs.Words.{dotted_then, path_then, qualified_then, name_then, names_then, type_then, optional_then, bang_then, truth, opening}
+use Rattle.ml_syntax.specs.Words.{closing, open_then, pat_then, pats_then, pat_field_then, pat_fields_then, variable_then, local_then, locals_then}
+use Rattle.ml_syntax.specs.Words.{lowers_then, wrap, direction, expr_then, links_then, base_then, guard_then, tail_then, binding_then, bindings_then}
+use Rattle.ml_syntax.specs.Words.{case_then, cases_then, argument_then, arguments_then, param_then, params_then, part_then, parts_then, field_then}
+use Rattle.ml_syntax.specs.Words.{fields_then, module_name_then, constraint_then, constraints_then, withs_then, texts_then, external_then}
+use Rattle.ml_syntax.specs.Words.{open_item_then, mod_then, mod_argument_then, mod_arguments_then, functor_param_then, functor_params_then}
+use Rattle.ml_syntax.specs.Words.{mod_type_then, signature_then, item_then, items_then, sig_item_then, sig_items_then}
+use Rattle.ml_syntax.specs.WellFormed.{is_operator, WfName, WfNames, WfType, pat_level, is_exception, WfPat, WfPats, WfPatField, WfPatFields, level}
+use Rattle.ml_syntax.specs.WellFormed.{op_level, is_form, is_if, has_else, is_open_if, has_cases, on_edge, on_links, on_body, on_cases, on_tail}
+use Rattle.ml_syntax.specs.WellFormed.{NoForm, Calm, NoOpenIf, NoCases, IsOperand, is_postfix, CanBeAssigned, is_bare, is_constr, is_bracketed}
+use Rattle.ml_syntax.specs.WellFormed.{EndsField, Wf, WfSeq, WfChain, WfBase, WfGuard, WfTail, WfBinding, WfBindings, WfCase, WfCases, WfArgument}
+use Rattle.ml_syntax.specs.WellFormed.{WfArguments, WfParam, WfParams, WfPart, WfParts, WfField, WfFields, is_constraint_sign, WfConstraint}
+use Rattle.ml_syntax.specs.WellFormed.{WfConstraints, WfWiths, is_functor, is_simple_mod, is_simple_type, is_separator, WfExternal, WfMod}
+use Rattle.ml_syntax.specs.WellFormed.{WfModArgument, WfModArguments, WfFunctorParam, WfFunctorParams, WfModType, WfSignature, WfItem, WfItems}
+use Rattle.ml_syntax.specs.WellFormed.{WfSigItem, WfSigItems}
+use Rattle.ml_syntax.specs.Respelled.{Spelling, spell, spell_tok, spell_run, spell_type, spell_value_name, spell_pat, spell_pats, spell_pat_field}
+use Rattle.ml_syntax.specs.Respelled.{spell_pat_fields, spell_variable, spell_expr, spell_links, spell_maybe_expr, spell_tail, spell_binding}
+use Rattle.ml_syntax.specs.Respelled.{spell_bindings, spell_case, spell_cases, spell_argument, spell_arguments, spell_param, spell_params, spell_part}
+use Rattle.ml_syntax.specs.Respelled.{spell_parts, spell_field, spell_fields, spell_constraint, spell_with_clause, spell_mod_expr, spell_mod_argument}
+use Rattle.ml_syntax.specs.Respelled.{spell_mod_arguments, spell_functor_param, spell_functor_params, spell_mod_type, spell_maybe_type, spell_item}
+use Rattle.ml_syntax.specs.Respelled.{spell_items, spell_sig_item, spell_sig_items, RespellingKeepsTheTree}
 
 both : {a b c d : Bool} → a ≡ c → b ≡ d → a || b ≡ c || d
 both p q = rw (p, q) refl
@@ -89,9 +127,13 @@ module _ (w : Spelling) where
     pat_same (ParenPat at p) h = one (placed key.LeftParen at) (pat_same p (one (fixed key.RightParen) h))
     pat_same (TypedPat at p run) h = one (placed key.LeftParen at) (pat_same p (one (fixed key.Colon) (run_same run (one (fixed key.RightParen) h))))
     pat_same (EmptyPat at b) h = one (placed (opening b) at) (one (fixed (closing b)) h)
-    pat_same (ListPat at b p ps last) h = one (placed (opening b) at) (pat_same p (pats_same key.Semicolon ps (optional_same key.Semicolon last (one (fixed (closing b)) h))))
-    pat_same (RecordPat at f fs rest last) h = one (placed key.LeftBrace at) (pat_field_same f (pat_fields_same fs (open_same rest (optional_same key.Semicolon last (one (fixed key.RightBrace) h)))))
-    pat_same (OpenedPat path at p) h = path_same path (one (fixed key.Dot) (one (placed key.LeftParen at) (pat_same p (one (fixed key.RightParen) h))))
+    pat_same (ListPat at b p ps last) h =
+        one (placed (opening b) at) (pat_same p (pats_same key.Semicolon ps (optional_same key.Semicolon last (one (fixed (closing b)) h))))
+    pat_same (RecordPat at f fs rest last) h =
+        one (placed key.LeftBrace at)
+        (pat_field_same f (pat_fields_same fs (open_same rest (optional_same key.Semicolon last (one (fixed key.RightBrace) h)))))
+    pat_same (OpenedPat path at p) h =
+        path_same path (one (fixed key.Dot) (one (placed key.LeftParen at) (pat_same p (one (fixed key.RightParen) h))))
 
     pats_same : (a : Fixed) (b : Pats) {j k : List Tok} → Spelled w j k → Spelled w (pats_then a (spell_pats w b) j) (pats_then a b k)
     pats_same sep no_pat h = h
@@ -99,7 +141,8 @@ module _ (w : Spelling) where
 
     pat_field_same : (a : PatField) {j k : List Tok} → Spelled w j k → Spelled w (pat_field_then (spell_pat_field w a) j) (pat_field_then a k)
     pat_field_same (PunnedField path x run) h = qualified_same path (one (word class.Lower x) (type_same run h))
-    pat_field_same (MatchedField path x run at p) h = qualified_same path (one (word class.Lower x) (type_same run (one (placed key.Equals at) (pat_same p h))))
+    pat_field_same (MatchedField path x run at p) h =
+        qualified_same path (one (word class.Lower x) (type_same run (one (placed key.Equals at) (pat_same p h))))
 
     pat_fields_same : (a : PatFields) {j k : List Tok} → Spelled w j k → Spelled w (pat_fields_then (spell_pat_fields w a) j) (pat_fields_then a k)
     pat_fields_same no_pat_field h = h
@@ -125,13 +168,19 @@ module _ (w : Spelling) where
   mutual
     expr_same : (a : Expr) {j k : List Tok} → Spelled w j k → Spelled w (expr_then (spell_expr w a) j) (expr_then a k)
     expr_same (Seq e es last) h = expr_same e (links_same es (optional_same key.Semicolon last h))
-    expr_same (Let at rec b bs e) h = one (placed key.Let at) (optional_same key.Rec rec (binding_same b (bindings_same bs (one (fixed key.In) (expr_same e h)))))
-    expr_same (LetOpen at at' bang path e) h = one (placed key.Let at) (one (placed key.Open at') (bang_same bang (path_same path (one (fixed key.In) (expr_same e h)))))
-    expr_same (LetModule at at' x eq m e) h = one (placed key.Let at) (one (placed key.Module at') (one (word class.Upper x) (one (placed key.Equals eq) (local_same m (one (fixed key.In) (expr_same e h))))))
+    expr_same (Let at rec b bs e) h =
+        one (placed key.Let at) (optional_same key.Rec rec (binding_same b (bindings_same bs (one (fixed key.In) (expr_same e h)))))
+    expr_same (LetOpen at at' bang path e) h =
+        one (placed key.Let at) (one (placed key.Open at') (bang_same bang (path_same path (one (fixed key.In) (expr_same e h)))))
+    expr_same (LetModule at at' x eq m e) h =
+        one (placed key.Let at) (one (placed key.Module at')
+        (one (word class.Upper x) (one (placed key.Equals eq) (local_same m (one (fixed key.In) (expr_same e h))))))
     expr_same (Fun at ps e) h = one (placed key.Fun at) (params_same ps (one (fixed key.Arrow) (expr_same e h)))
     expr_same (Function at bar c cs) h = one (placed key.Function at) (optional_same key.Bar bar (case_same c (cases_same cs h)))
-    expr_same (Match at e bar c cs) h = one (placed key.Match at) (expr_same e (one (fixed key.With) (optional_same key.Bar bar (case_same c (cases_same cs h)))))
-    expr_same (Try at e bar c cs) h = one (placed key.Try at) (expr_same e (one (fixed key.With) (optional_same key.Bar bar (case_same c (cases_same cs h)))))
+    expr_same (Match at e bar c cs) h =
+        one (placed key.Match at) (expr_same e (one (fixed key.With) (optional_same key.Bar bar (case_same c (cases_same cs h)))))
+    expr_same (Try at e bar c cs) h =
+        one (placed key.Try at) (expr_same e (one (fixed key.With) (optional_same key.Bar bar (case_same c (cases_same cs h)))))
     expr_same (If at c a tail) h = one (placed key.If at) (expr_same c (one (fixed key.Then) (expr_same a (tail_same tail h))))
     expr_same (Chain n e es) h = expr_same e (links_same es h)
     expr_same (Minus x e) h = one (word class.Infix x) (expr_same e h)
@@ -150,15 +199,22 @@ module _ (w : Spelling) where
     expr_same (UnitExpr at) h = one (placed key.LeftParen at) (one (fixed key.RightParen) h)
     expr_same (Paren at e) h = one (placed key.LeftParen at) (expr_same e (one (fixed key.RightParen) h))
     expr_same (Typed at e run) h = one (placed key.LeftParen at) (expr_same e (one (fixed key.Colon) (run_same run (one (fixed key.RightParen) h))))
-    expr_same (Coerced at e from to) h = one (placed key.LeftParen at) (expr_same e (type_same from (one (fixed key.ColonGreater) (run_same to (one (fixed key.RightParen) h)))))
+    expr_same (Coerced at e from to) h =
+        one (placed key.LeftParen at) (expr_same e (type_same from (one (fixed key.ColonGreater) (run_same to (one (fixed key.RightParen) h)))))
     expr_same (EmptyBegin at) h = one (placed key.Begin at) (one (fixed key.End) h)
     expr_same (Begin at e) h = one (placed key.Begin at) (expr_same e (one (fixed key.End) h))
     expr_same (EmptyList at b) h = one (placed (opening b) at) (one (fixed (closing b)) h)
-    expr_same (ListExpr at b e es last) h = one (placed (opening b) at) (expr_same e (links_same es (optional_same key.Semicolon last (one (fixed (closing b)) h))))
-    expr_same (Record at base f fs last) h = one (placed key.LeftBrace at) (base_same base (field_same f (fields_same fs (optional_same key.Semicolon last (one (fixed key.RightBrace) h)))))
+    expr_same (ListExpr at b e es last) h =
+        one (placed (opening b) at) (expr_same e (links_same es (optional_same key.Semicolon last (one (fixed (closing b)) h))))
+    expr_same (Record at base f fs last) h =
+        one (placed key.LeftBrace at)
+        (base_same base (field_same f (fields_same fs (optional_same key.Semicolon last (one (fixed key.RightBrace) h)))))
     expr_same (Opened path e) h = path_same path (one (fixed key.Dot) (expr_same e h))
     expr_same (While at c e) h = one (placed key.While at) (expr_same c (one (fixed key.Do) (expr_same e (one (fixed key.Done) h))))
-    expr_same (For at x eq a down b e) h = one (placed key.For at) (variable_same x (one (placed key.Equals eq) (expr_same a (one (fixed (direction down)) (expr_same b (one (fixed key.Do) (expr_same e (one (fixed key.Done) h))))))))
+    expr_same (For at x eq a down b e) h =
+        one (placed key.For at) (variable_same x
+        (one (placed key.Equals eq)
+        (expr_same a (one (fixed (direction down)) (expr_same b (one (fixed key.Do) (expr_same e (one (fixed key.Done) h))))))))
 
     links_same : (a : Links) {j k : List Tok} → Spelled w j k → Spelled w (links_then (spell_links w a) j) (links_then a k)
     links_same no_link h = h
@@ -175,7 +231,8 @@ module _ (w : Spelling) where
     tail_same : (a : Tail) {j k : List Tok} → Spelled w j k → Spelled w (tail_then (spell_tail w a) j) (tail_then a k)
     tail_same no_else h = h
     tail_same (or_else e) h = one (fixed key.Else) (expr_same e h)
-    tail_same (or_if at c a tail) h = one (fixed key.Else) (one (placed key.If at) (expr_same c (one (fixed key.Then) (expr_same a (tail_same tail h)))))
+    tail_same (or_if at c a tail) h =
+        one (fixed key.Else) (one (placed key.If at) (expr_same c (one (fixed key.Then) (expr_same a (tail_same tail h)))))
 
     binding_same : (a : Binding) {j k : List Tok} → Spelled w j k → Spelled w (binding_then (spell_binding w a) j) (binding_then a k)
     binding_same (PlainBinding p run at e) h = pat_same p (type_same run (one (placed key.Equals at) (expr_same e h)))
@@ -205,9 +262,15 @@ module _ (w : Spelling) where
     param_same (PatternParam p) h = pat_same p h
     param_same (LabelParam x) h = one (word class.Label x) h
     param_same (LabelPattern x p) h = one (word class.Label x) (pat_same p h)
-    param_same (DefaultParam x at p run eq e) h = one (word class.Label x) (one (placed key.LeftParen at) (pat_same p (type_same run (one (placed key.Equals eq) (expr_same e (one (fixed key.RightParen) h))))))
-    param_same (WrappedParam at optional at' x run) h = one (placed (wrap optional) at) (one (placed key.LeftParen at') (one (word class.Lower x) (type_same run (one (fixed key.RightParen) h))))
-    param_same (WrappedDefault at at' x run eq e) h = one (placed key.Question at) (one (placed key.LeftParen at') (one (word class.Lower x) (type_same run (one (placed key.Equals eq) (expr_same e (one (fixed key.RightParen) h))))))
+    param_same (DefaultParam x at p run eq e) h =
+        one (word class.Label x)
+        (one (placed key.LeftParen at) (pat_same p (type_same run (one (placed key.Equals eq) (expr_same e (one (fixed key.RightParen) h))))))
+    param_same (WrappedParam at optional at' x run) h =
+        one (placed (wrap optional) at) (one (placed key.LeftParen at') (one (word class.Lower x) (type_same run (one (fixed key.RightParen) h))))
+    param_same (WrappedDefault at at' x run eq e) h =
+        one (placed key.Question at)
+        (one (placed key.LeftParen at')
+        (one (word class.Lower x) (type_same run (one (placed key.Equals eq) (expr_same e (one (fixed key.RightParen) h))))))
     param_same (TypesParam at xs) h = one (placed key.LeftParen at) (one (fixed key.Type) (lowers_same xs (one (fixed key.RightParen) h)))
 
     params_same : (a : Params) {j k : List Tok} → Spelled w j k → Spelled w (params_then (spell_params w a) j) (params_then a k)
@@ -225,7 +288,8 @@ module _ (w : Spelling) where
 
     field_same : (a : Field) {j k : List Tok} → Spelled w j k → Spelled w (field_then (spell_field w a) j) (field_then a k)
     field_same (FieldPun path x run) h = qualified_same path (one (word class.Lower x) (type_same run h))
-    field_same (AssignedField path x run at e) h = qualified_same path (one (word class.Lower x) (type_same run (one (placed key.Equals at) (expr_same e h))))
+    field_same (AssignedField path x run at e) h =
+        qualified_same path (one (word class.Lower x) (type_same run (one (placed key.Equals at) (expr_same e h))))
 
     fields_same : (a : Fields) {j k : List Tok} → Spelled w j k → Spelled w (fields_then (spell_fields w a) j) (fields_then a k)
     fields_same no_field h = h
@@ -238,7 +302,8 @@ module _ (w : Spelling) where
   constraint_same : (a : Constraint) {j k : List Tok} → Spelled w j k → Spelled w (constraint_then (spell_constraint w a) j) (constraint_then a k)
   constraint_same (ConstraintOf a t private b) h = one (fixed key.Type) (run_same a (one t (optional_same key.Private private (run_same b h))))
 
-  constraints_same : (a : List Constraint) {j k : List Tok} → Spelled w j k → Spelled w (constraints_then (map (spell_constraint w) a) j) (constraints_then a k)
+  constraints_same : (a : List Constraint) {j k : List Tok} → Spelled w j k → Spelled w (constraints_then (map (spell_constraint w) a) j)
+      (constraints_then a k)
   constraints_same [] h = h
   constraints_same (c ∷ cs) h = one (fixed key.And) (constraint_same c (constraints_same cs h))
 
@@ -250,10 +315,13 @@ module _ (w : Spelling) where
   texts_same [] h = h
   texts_same (x ∷ xs) h = one (word class.Text x) (texts_same xs h)
 
-  external_same : (a : ValueName) (b : List Tok) (c : ℕ) (d : List Name) {j k : List Tok} → Spelled w j k → Spelled w (external_then (spell_value_name w a) (spell_run w b) c d j) (external_then a b c d k)
-  external_same x run at texts h = one (fixed key.External) (name_same x (one (fixed key.Colon) (run_same run (one (placed key.Equals at) (texts_same texts h)))))
+  external_same : (a : ValueName) (b : List Tok) (c : ℕ) (d : List Name) {j k : List Tok} → Spelled w j k
+      → Spelled w (external_then (spell_value_name w a) (spell_run w b) c d j) (external_then a b c d k)
+  external_same x run at texts h =
+      one (fixed key.External) (name_same x (one (fixed key.Colon) (run_same run (one (placed key.Equals at) (texts_same texts h)))))
 
-  open_item_same : (a : ℕ) (b : Option Name) (c : List Name) {j k : List Tok} → Spelled w j k → Spelled w (open_item_then a b c j) (open_item_then a b c k)
+  open_item_same : (a : ℕ) (b : Option Name) (c : List Name) {j k : List Tok} → Spelled w j k
+      → Spelled w (open_item_then a b c j) (open_item_then a b c k)
   open_item_same at bang path h = one (placed key.Open at) (bang_same bang (path_same path h))
 
   mutual
@@ -265,20 +333,26 @@ module _ (w : Spelling) where
     mod_same (ModParen at m) h = one (placed key.LeftParen at) (mod_same m (one (fixed key.RightParen) h))
     mod_same (Sealed at m s) h = one (placed key.LeftParen at) (mod_same m (one (fixed key.Colon) (mod_type_same s (one (fixed key.RightParen) h))))
 
-    mod_argument_same : (a : ModArgument) {j k : List Tok} → Spelled w j k → Spelled w (mod_argument_then (spell_mod_argument w a) j) (mod_argument_then a k)
+    mod_argument_same : (a : ModArgument) {j k : List Tok} → Spelled w j k
+        → Spelled w (mod_argument_then (spell_mod_argument w a) j) (mod_argument_then a k)
     mod_argument_same (ModuleArgument at m) h = one (placed key.LeftParen at) (mod_same m (one (fixed key.RightParen) h))
-    mod_argument_same (SealedArgument at m s) h = one (placed key.LeftParen at) (mod_same m (one (fixed key.Colon) (mod_type_same s (one (fixed key.RightParen) h))))
+    mod_argument_same (SealedArgument at m s) h =
+        one (placed key.LeftParen at) (mod_same m (one (fixed key.Colon) (mod_type_same s (one (fixed key.RightParen) h))))
     mod_argument_same (NoArgument at) h = one (placed key.LeftParen at) (one (fixed key.RightParen) h)
 
-    mod_arguments_same : (a : ModArguments) {j k : List Tok} → Spelled w j k → Spelled w (mod_arguments_then (spell_mod_arguments w a) j) (mod_arguments_then a k)
+    mod_arguments_same : (a : ModArguments) {j k : List Tok} → Spelled w j k → Spelled w (mod_arguments_then (spell_mod_arguments w a) j)
+        (mod_arguments_then a k)
     mod_arguments_same no_mod_argument h = h
     mod_arguments_same (more_mod_argument m ms) h = mod_argument_same m (mod_arguments_same ms h)
 
-    functor_param_same : (a : FunctorParam) {j k : List Tok} → Spelled w j k → Spelled w (functor_param_then (spell_functor_param w a) j) (functor_param_then a k)
-    functor_param_same (NamedParam at x s) h = one (placed key.LeftParen at) (module_name_same x (one (fixed key.Colon) (mod_type_same s (one (fixed key.RightParen) h))))
+    functor_param_same : (a : FunctorParam) {j k : List Tok} → Spelled w j k → Spelled w (functor_param_then (spell_functor_param w a) j)
+        (functor_param_then a k)
+    functor_param_same (NamedParam at x s) h =
+        one (placed key.LeftParen at) (module_name_same x (one (fixed key.Colon) (mod_type_same s (one (fixed key.RightParen) h))))
     functor_param_same (NoParam at) h = one (placed key.LeftParen at) (one (fixed key.RightParen) h)
 
-    functor_params_same : (a : FunctorParams) {j k : List Tok} → Spelled w j k → Spelled w (functor_params_then (spell_functor_params w a) j) (functor_params_then a k)
+    functor_params_same : (a : FunctorParams) {j k : List Tok} → Spelled w j k → Spelled w (functor_params_then (spell_functor_params w a) j)
+        (functor_params_then a k)
     functor_params_same no_functor_param h = h
     functor_params_same (more_functor_param p ps) h = functor_param_same p (functor_params_same ps h)
 
@@ -303,8 +377,10 @@ module _ (w : Spelling) where
     item_same (ExternalItem x run at texts) h = external_same x run at texts h
     item_same (TypeItem run) h = one (fixed key.Type) (run_same run h)
     item_same (ExceptionItem at run) h = one (placed key.Exception at) (run_same run h)
-    item_same (ModuleItem at x ps s eq m) h = one (placed key.Module at) (module_name_same x (functor_params_same ps (signature_same s (one (placed key.Equals eq) (mod_same m h)))))
-    item_same (ModuleTypeItem at x eq s) h = one (placed key.Module at) (one (fixed key.Type) (one (word class.Upper x) (one (placed key.Equals eq) (mod_type_same s h))))
+    item_same (ModuleItem at x ps s eq m) h =
+        one (placed key.Module at) (module_name_same x (functor_params_same ps (signature_same s (one (placed key.Equals eq) (mod_same m h)))))
+    item_same (ModuleTypeItem at x eq s) h =
+        one (placed key.Module at) (one (fixed key.Type) (one (word class.Upper x) (one (placed key.Equals eq) (mod_type_same s h))))
     item_same (OpenItem at bang path) h = open_item_same at bang path h
     item_same (IncludeItem at m) h = one (placed key.Include at) (mod_same m h)
 
@@ -318,9 +394,11 @@ module _ (w : Spelling) where
     sig_item_same (ExternalSig x run at texts) h = external_same x run at texts h
     sig_item_same (TypeSig run) h = one (fixed key.Type) (run_same run h)
     sig_item_same (ExceptionSig at run) h = one (placed key.Exception at) (run_same run h)
-    sig_item_same (ModuleSig at x ps s) h = one (placed key.Module at) (module_name_same x (functor_params_same ps (one (fixed key.Colon) (mod_type_same s h))))
+    sig_item_same (ModuleSig at x ps s) h =
+        one (placed key.Module at) (module_name_same x (functor_params_same ps (one (fixed key.Colon) (mod_type_same s h))))
     sig_item_same (AliasSig at x eq path) h = one (placed key.Module at) (one (word class.Upper x) (one (placed key.Equals eq) (path_same path h)))
-    sig_item_same (ModuleTypeSig at x eq s) h = one (placed key.Module at) (one (fixed key.Type) (one (word class.Upper x) (one (placed key.Equals eq) (mod_type_same s h))))
+    sig_item_same (ModuleTypeSig at x eq s) h =
+        one (placed key.Module at) (one (fixed key.Type) (one (word class.Upper x) (one (placed key.Equals eq) (mod_type_same s h))))
     sig_item_same (OpenSig at bang path) h = open_item_same at bang path h
     sig_item_same (IncludeSig at s) h = one (placed key.Include at) (mod_type_same s h)
 
@@ -363,27 +441,35 @@ module _ (w : Spelling) where
   in_declaration_too (word class.Keyword x) = refl
   in_declaration_too (word _ x) = refl
 
-  module _ (outside inside : Tok → Bool) (o : (t : Tok) → outside (spell_tok w t) ≡ outside t) (i : (t : Tok) → inside (spell_tok w t) ≡ inside t) where
-    after_same : (t : Tok) (b : Bracketing) (xs : List Fixed) → after_bracket outside inside (spell_tok w t) b xs ≡ after_bracket outside inside t b xs
+  module _ (outside inside : Tok → Bool) (o : (t : Tok) → outside (spell_tok w t) ≡ outside t)
+      (i : (t : Tok) → inside (spell_tok w t) ≡ inside t) where
+    after_same : (t : Tok) (b : Bracketing) (xs : List Fixed)
+        → after_bracket outside inside (spell_tok w t) b xs ≡ after_bracket outside inside t b xs
     after_same t (opens close) xs = refl
     after_same t (closes close) [] = refl
     after_same t (closes close) (x ∷ xs) = refl
     after_same t neither [] = rw (o t) refl
     after_same t neither (x ∷ xs) = rw (i t) refl
 
-    after_too : (t : Tok) (xs : List Fixed) → after_bracket outside inside (spell_tok w t) (bracketing (spell_tok w t)) xs ≡ after_bracket outside inside t (bracketing t) xs
+    after_too : (t : Tok) (xs : List Fixed) → after_bracket outside inside (spell_tok w t) (bracketing (spell_tok w t)) xs ≡ after_bracket outside
+        inside t (bracketing t) xs
     after_too t xs = ap (λ b. after_bracket outside inside (spell_tok w t) b xs) (bracketing_too t) ∙ after_same t (bracketing t) xs
 
-  matched_too : (outside inside : Tok → Bool) (o : (t : Tok) → outside (spell_tok w t) ≡ outside t) (i : (t : Tok) → inside (spell_tok w t) ≡ inside t) (st : Option (List Fixed)) (ts : List Tok) → is_matched outside inside st (spell_run w ts) ≡ is_matched outside inside st ts
+  matched_too : (outside inside : Tok → Bool) (o : (t : Tok) → outside (spell_tok w t) ≡ outside t)
+      (i : (t : Tok) → inside (spell_tok w t) ≡ inside t) (st : Option (List Fixed)) (ts : List Tok)
+      → is_matched outside inside st (spell_run w ts) ≡ is_matched outside inside st ts
   matched_too outside inside o i None [] = refl
   matched_too outside inside o i (Some []) [] = refl
   matched_too outside inside o i (Some (x ∷ xs)) [] = refl
   matched_too outside inside o i None (t ∷ ts) = refl
-  matched_too outside inside o i (Some xs) (t ∷ ts) = ap (λ st. is_matched outside inside st (spell_run w ts)) (after_too outside inside o i t xs) ∙ matched_too outside inside o i (after_bracket outside inside t (bracketing t) xs) ts
+  matched_too outside inside o i (Some xs) (t ∷ ts) = ap (λ st. is_matched outside inside st (spell_run w ts)) (after_too outside inside o i t xs)
+      ∙ matched_too outside inside o i (after_bracket outside inside t (bracketing t) xs) ts
 
   type_run_too : (run : List Tok) → is_type_run (spell_run w run) ≡ is_type_run run
   type_run_too [] = refl
-  type_run_too (t ∷ ts) = ap (λ st. is_matched beside_type in_type st (spell_run w ts)) (after_too begins_type in_type begins_type_too in_type_too t []) ∙ matched_too beside_type in_type beside_type_too in_type_too (after_bracket begins_type in_type t (bracketing t) []) ts
+  type_run_too (t ∷ ts) = ap (λ st. is_matched beside_type in_type st (spell_run w ts))
+      (after_too begins_type in_type begins_type_too in_type_too t []) ∙ matched_too beside_type in_type beside_type_too in_type_too
+      (after_bracket begins_type in_type t (bracketing t) []) ts
 
   declaration_run_too : (run : List Tok) → is_declaration_run (spell_run w run) ≡ is_declaration_run run
   declaration_run_too [] = refl
@@ -654,7 +740,8 @@ module _ (w : Spelling) where
   withs_wf [] h = tt
   withs_wf (WithOf c cs ∷ ws) h = (constraint_wf c h.0, constraints_wf cs h.1, withs_wf ws h.2)
 
-  external_wf : (x : ValueName) (run : List Tok) (texts : List Name) → WfExternal x run texts → WfExternal (spell_value_name w x) (spell_run w run) texts
+  external_wf : (x : ValueName) (run : List Tok) (texts : List Name) → WfExternal x run texts
+      → WfExternal (spell_value_name w x) (spell_run w run) texts
   external_wf x run texts h = (name_wf x h.0, type_run_too run ∙ h.1, h.2)
 
   -- ---- well formed
@@ -737,11 +824,13 @@ module _ (w : Spelling) where
 
     seq_wf : (e : Expr) (l : Links) (b : Bool) → WfSeq e l b → WfSeq (spell_expr w e) (spell_links w l) b
     seq_wf e no_link last h = (λ g. no_form_too e (h g))
-    seq_wf e (more_link t e' es) last h = (no_form_too e h.0, ap (spell_tok w) h.1, omega (arith, level_too e', h.2), wf e' h.3, seq_wf e' es last h.4)
+    seq_wf e (more_link t e' es) last h =
+        (no_form_too e h.0, ap (spell_tok w) h.1, omega (arith, level_too e', h.2), wf e' h.3, seq_wf e' es last h.4)
 
     chain_wf : (n : ℕ) (e : Expr) (l : Links) → WfChain n e l → WfChain n (spell_expr w e) (spell_links w l)
     chain_wf n e no_link h = tt
-    chain_wf n e (more_link t e' es) h = (calm_too e h.0, assigned_too t e h.1, op_level_too t ∙ h.2, operand_too n e' h.3, wf e' h.4, chain_wf n e' es h.5)
+    chain_wf n e (more_link t e' es) h =
+        (calm_too e h.0, assigned_too t e h.1, op_level_too t ∙ h.2, operand_too n e' h.3, wf e' h.4, chain_wf n e' es h.5)
 
     base_wf : (m : MaybeExpr) → WfBase m → WfBase (spell_maybe_expr w m)
     base_wf no_expr h = tt
@@ -864,7 +953,8 @@ module _ (w : Spelling) where
 
     items_wf : (b : Bool) (i : Items) → WfItems b i → WfItems b (spell_items w i)
     items_wf fresh no_item h = tt
-    items_wf fresh (more_item i is) h = (item_wf fresh i h.0, subst (λ b. WfItems b (spell_items w is)) (sym (separator_too i)) (items_wf (is_separator i) is h.1))
+    items_wf fresh (more_item i is) h =
+        (item_wf fresh i h.0, subst (λ b. WfItems b (spell_items w is)) (sym (separator_too i)) (items_wf (is_separator i) is h.1))
 
     sig_item_wf : (s : SigItem) → WfSigItem s → WfSigItem (spell_sig_item w s)
     sig_item_wf SeparatorSig h = tt

@@ -1,5 +1,6 @@
 -- The steps of reading the words of a tree one by one.
-use Rattle.std.proofs.Common.{◌≡◌, ℕ, suc, ◌≤◌, List, [], ◌∷◌, ◌++◌, Bool, true, false, length, codes, refl, ap, sym, ◌∙◌, arith, append_assoc, length-append}
+use Rattle.std.proofs.Common.{◌≡◌, ℕ, suc, ◌≤◌, List, [], ◌∷◌, ◌++◌, Bool, true, false, length, codes, refl, ap, sym, ◌∙◌, arith, append_assoc}
+use Rattle.std.proofs.Common.{length-append}
 use Rattle.rotor_base.specs.declared.token.Class.{Class}
 use Rattle.rotor_base.specs.declared.token.Class.TheVariants as class
 use Rattle.ml_syntax.specs.declared.fixed.Fixed.TheVariants as key
@@ -16,7 +17,8 @@ further : (ts : List Tok) (low : ℕ) (ss : List Site) (high more : ℕ) → hig
 further ts low [] high more f h = omega (arith, f, h)
 further ts low (s ∷ ss) high more f h = (h.0, h.1, h.2, further ts (suc h.0) ss high more f h.3)
 
-one_more : (ts : List Tok) (low : ℕ) (ss : List Site) (count : ℕ) (s : Site) → StandsAt ts count s → Between ts low ss count → Between ts low (ss ++ s ∷ []) (suc count)
+one_more : (ts : List Tok) (low : ℕ) (ss : List Site) (count : ℕ) (s : Site) → StandsAt ts count s → Between ts low ss count
+    → Between ts low (ss ++ s ∷ []) (suc count)
 one_more ts low [] count s st h = (count, h, st, omega arith)
 one_more ts low (s' ∷ ss) count s st h = (h.0, h.1, h.2, one_more ts (suc h.0) ss count s st h.3)
 
@@ -62,31 +64,42 @@ pass {ts = ts} {found = found} {k = k} t r = record {
 pub loose : {ts : List Tok} {found : List Site} {k : List Tok} → Read ts false found k → Read ts true found k
 loose r = record { past = r.past; whole = r.whole; marks = r.marks; calm = λ e. let wrong : true ≡ false = e in cc }
 
-pub mark : {ts : List Tok} {b : Bool} {found : List Site} {k : List Tok} (s : Site) (t : Tok) → is_brace t ≡ false → IsWordOf s t → ((r : Read ts b found (t ∷ k)) → s.operator ≡ false → EndsInBrace r.past → is_safe k ≡ true) → Read ts b found (t ∷ k) → Read ts false (found ++ s ∷ []) k
+pub mark : {ts : List Tok} {b : Bool} {found : List Site} {k : List Tok} (s : Site) (t : Tok) → is_brace t ≡ false → IsWordOf s t
+    → ((r : Read ts b found (t ∷ k)) → s.operator ≡ false → EndsInBrace r.past → is_safe k ≡ true) → Read ts b found (t ∷ k)
+    → Read ts false (found ++ s ∷ []) k
 mark {ts = ts} {found = found} {k = k} s t e w f r = record {
   past = r.past ++ t ∷ [];
   whole = r.whole ∙ sym (append_assoc r.past (t ∷ []) k);
-  marks = rw longer (one_more ts 0 found (length r.past) s (record { before = r.past; here = t; behind = k; split = r.whole; place = refl; same = w; apart = f r }) r.marks);
+  marks = rw longer (one_more ts 0 found (length r.past) s
+      (record { before = r.past; here = t; behind = k; split = r.whole; place = refl; same = w; apart = f r }) r.marks);
   calm = λ g. no_brace r.past t e;
 }
 
-pub name : {ts : List Tok} {found : List Site} {k : List Tok} (s : Site) (x : Name) → IsNamed s x → Read ts false found (word class.Lower x ∷ k) → Read ts false (found ++ s ∷ []) k
+pub name : {ts : List Tok} {found : List Site} {k : List Tok} (s : Site) (x : Name) → IsNamed s x → Read ts false found (word class.Lower x ∷ k)
+    → Read ts false (found ++ s ∷ []) k
 name s x n r = mark s (word class.Lower x) refl (a_name x n) (λ q o h. absurd (q.calm refl h)) r
 
-pub first : {ts : List Tok} {found : List Site} {k : List Tok} (s : Site) (x : Name) → IsNamed s x → is_safe k ≡ true → Read ts true found (word class.Lower x ∷ k) → Read ts false (found ++ s ∷ []) k
+pub first : {ts : List Tok} {found : List Site} {k : List Tok} (s : Site) (x : Name) → IsNamed s x → is_safe k ≡ true
+    → Read ts true found (word class.Lower x ∷ k) → Read ts false (found ++ s ∷ []) k
 first s x n u r = mark s (word class.Lower x) refl (a_name x n) (λ q o h. u) r
 
-pub label : {ts : List Tok} {found : List Site} {k : List Tok} (binds : Bool) (x : Name) → Read ts false found (word class.Label x ∷ k) → Read ts false (found ++ label_site binds x ∷ []) k
+pub label : {ts : List Tok} {found : List Site} {k : List Tok} (binds : Bool) (x : Name) → Read ts false found (word class.Label x ∷ k)
+    → Read ts false (found ++ label_site binds x ∷ []) k
 label binds x r = mark (label_site binds x) (word class.Label x) refl (a_label x refl refl refl refl) (λ q o h. absurd (q.calm refl h)) r
 
-pub equals : {ts : List Tok} {b : Bool} {found : List Site} {k : List Tok} (binds : Bool) (at : ℕ) → Read ts b found (placed key.Equals at ∷ k) → Read ts false (found ++ operated binds at (codes "=") ∷ []) k
-equals binds at r = mark (operated binds at (codes "=")) (placed key.Equals at) refl (an_equals at refl refl refl) (λ q o h. let wrong : true ≡ false = o in cc) r
+pub equals : {ts : List Tok} {b : Bool} {found : List Site} {k : List Tok} (binds : Bool) (at : ℕ) → Read ts b found (placed key.Equals at ∷ k)
+    → Read ts false (found ++ operated binds at (codes "=") ∷ []) k
+equals binds at r = mark (operated binds at (codes "=")) (placed key.Equals at) refl (an_equals at refl refl refl)
+    (λ q o h. let wrong : true ≡ false = o in cc) r
 
-pub sign : {ts : List Tok} {b : Bool} {found : List Site} {k : List Tok} (binds : Bool) (c : Class) (x : Name) → Read ts b found (word c x ∷ k) → Read ts false (found ++ operated binds x.at x.text ∷ []) k
+pub sign : {ts : List Tok} {b : Bool} {found : List Site} {k : List Tok} (binds : Bool) (c : Class) (x : Name) → Read ts b found (word c x ∷ k)
+    → Read ts false (found ++ operated binds x.at x.text ∷ []) k
 sign binds c x r = mark (operated binds x.at x.text) (word c x) refl (a_sign c x refl refl refl) (λ q o h. let wrong : true ≡ false = o in cc) r
 
-pub minus : {ts : List Tok} {b : Bool} {found : List Site} {k : List Tok} (x : Name) → Read ts b found (word class.Infix x ∷ k) → Read ts false (found ++ operated false x.at (126 ∷ x.text) ∷ []) k
-minus x r = mark (operated false x.at (126 ∷ x.text)) (word class.Infix x) refl (a_minus x refl refl refl) (λ q o h. let wrong : true ≡ false = o in cc) r
+pub minus : {ts : List Tok} {b : Bool} {found : List Site} {k : List Tok} (x : Name) → Read ts b found (word class.Infix x ∷ k)
+    → Read ts false (found ++ operated false x.at (126 ∷ x.text) ∷ []) k
+minus x r = mark (operated false x.at (126 ∷ x.text)) (word class.Infix x) refl (a_minus x refl refl refl)
+    (λ q o h. let wrong : true ≡ false = o in cc) r
 
 pub begin : (ts : List Tok) → Read ts false [] ts
 begin ts = record { past = []; whole = refl; marks = omega arith; calm = λ e h. no_end h.1 h.0 h.2 }

@@ -24,7 +24,12 @@ use Rattle.ml_syntax.specs.declared.module.FunctorParam.TheBlock as m
 use Rattle.ml_syntax.specs.declared.fixed.Fixed.TheVariants as key
 use Rattle.ml_syntax.specs.Tok.{fixed}
 use Rattle.ml_syntax.specs.Tree as pure
-use Rattle.ml_syntax.specs.View.{view_tok, view_pat, view_pats, view_pat_field, view_pat_fields, view_local_then, view_locals, locals, view, view_links, view_commas, view_ops, view_maybe, view_tail, view_binding, view_bindings, view_cases, view_argument, view_arguments, view_param, view_params, view_part, view_parts, view_field, view_fields, pats, pat_fields, links, commas, ops, maybe, tail_before, bindings, cases, arguments, params, parts, fields, view_mod, view_mod_argument, view_mod_arguments, view_functor_param, view_functor_params, view_item, view_items, view_sig_item, view_sig_items, mod_arguments, functor_params, items, sig_items}
+use Rattle.ml_syntax.specs.View.{view_tok, view_pat, view_pats, view_pat_field, view_pat_fields, view_local_then, view_locals, locals, view}
+use Rattle.ml_syntax.specs.View.{view_links, view_commas, view_ops, view_maybe, view_tail, view_binding, view_bindings, view_cases, view_argument}
+use Rattle.ml_syntax.specs.View.{view_arguments, view_param, view_params, view_part, view_parts, view_field, view_fields, pats, pat_fields, links}
+use Rattle.ml_syntax.specs.View.{commas, ops, maybe, tail_before, bindings, cases, arguments, params, parts, fields, view_mod, view_mod_argument}
+use Rattle.ml_syntax.specs.View.{view_mod_arguments, view_functor_param, view_functor_params, view_item, view_items, view_sig_item, view_sig_items}
+use Rattle.ml_syntax.specs.View.{mod_arguments, functor_params, items, sig_items}
 
 pats_row : {n : _} (k : p.Row_of-Pat n) → view_pats k ≡ pats (p.items-the_row-Pat n k)
 unfolding view_pat
@@ -168,4 +173,22 @@ unfolding view
 guard_of None = refl
 guard_of (Some e) = refl
 
-pub ruleset views = (pats_of, pat_fields_of, locals_of, links_of, commas_of, ops_of, bindings_of, arguments_of, params_of, parts_of, fields_of, mod_arguments_of, functor_params_of, items_of, sig_items_of, tail_of, cases_of)
+pub ruleset views = (
+  pats_of,
+  pat_fields_of,
+  locals_of,
+  links_of,
+  commas_of,
+  ops_of,
+  bindings_of,
+  arguments_of,
+  params_of,
+  parts_of,
+  fields_of,
+  mod_arguments_of,
+  functor_params_of,
+  items_of,
+  sig_items_of,
+  tail_of,
+  cases_of,
+)

@@ -30,7 +30,8 @@ RespelledTokens = (w : Spelling) (xs : List Lexeme) → lexeme_toks 1 (respelled
 -- their nesting is not over the limit.
 abbrev pub RespelledFilesAreRead : Type 0
 RespelledFilesAreRead =
-    (w : Spelling) (t : FileTree) (bytes : List ℕ) (xs : List Lexeme) → WfFile t → Lexed bytes xs → lexeme_toks 1 xs ≡ words t → AllMayBecome bytes xs (new_words w 1 xs)
+    (w : Spelling) (t : FileTree) (bytes : List ℕ) (xs : List Lexeme) → WfFile t → Lexed bytes xs → lexeme_toks 1 xs ≡ words t
+    → AllMayBecome bytes xs (new_words w 1 xs)
     → Lexed (respelled bytes xs (new_words w 1 xs)) (respelled_lexemes xs (new_words w 1 xs))
     × WfFile (spell_file w t)
     × (lexeme_toks 1 (respelled_lexemes xs (new_words w 1 xs)) ≡ words (spell_file w t))
@@ -41,26 +42,30 @@ LexemesAreNumbered = (bytes : List ℕ) (xs : List Lexeme) → Lexed bytes xs �
 
 -- a word that is changed becomes a value name, and its number is that of one of these places, which is no operator
 abbrev pub ChangesNames : Spelling → List Site → Type 0
-ChangesNames w ss = (n : ℕ) (text : List ℕ) → (w n text ≡ text) ⊎ (IsTrue (is_value_name (w n text)) × (s : Site) × Contains ss s × (s.at ≡ n) × (s.operator ≡ false))
+ChangesNames w ss = (n : ℕ) (text : List ℕ)
+    → (w n text ≡ text) ⊎ (IsTrue (is_value_name (w n text)) × (s : Site) × Contains ss s × (s.at ≡ n) × (s.operator ≡ false))
 
 -- then each lexeme may become its new word
 abbrev pub SitesMayBecome : Type 0
 SitesMayBecome =
-    (w : Spelling) (t : FileTree) (bytes : List ℕ) (xs : List Lexeme) → WfFile t → Lexed bytes xs → lexeme_toks 1 xs ≡ words t → ChangesNames w (sites t)
+    (w : Spelling) (t : FileTree) (bytes : List ℕ) (xs : List Lexeme) → WfFile t → Lexed bytes xs → lexeme_toks 1 xs ≡ words t
+    → ChangesNames w (sites t)
     → AllMayBecomeBehind None xs (new_words w 1 xs)
 
 -- If names of places alone are changed, to value names, the respelled bytes are cut into the respelled lexemes, the
 -- respelled tree is well formed, and it has their words.
 abbrev pub RespelledNamesAreRead : Type 0
 RespelledNamesAreRead =
-    (w : Spelling) (t : FileTree) (bytes : List ℕ) (xs : List Lexeme) → WfFile t → Lexed bytes xs → lexeme_toks 1 xs ≡ words t → ChangesNames w (sites t)
+    (w : Spelling) (t : FileTree) (bytes : List ℕ) (xs : List Lexeme) → WfFile t → Lexed bytes xs → lexeme_toks 1 xs ≡ words t
+    → ChangesNames w (sites t)
     → Lexed (respelled bytes xs (new_words w 1 xs)) (respelled_lexemes xs (new_words w 1 xs))
     × WfFile (spell_file w t)
     × (lexeme_toks 1 (respelled_lexemes xs (new_words w 1 xs)) ≡ words (spell_file w t))
 
 -- a file that was read is sound
 abbrev pub ReadFilesAreSound : Type 0
-ReadFilesAreSound = (t : FileTree) (bytes : List ℕ) (xs : List Lexeme) → length bytes ≤ max_file_bytes → WfFile t → Lexed bytes xs → lexeme_toks 1 xs ≡ words t → IsSoundFile t
+ReadFilesAreSound = (t : FileTree) (bytes : List ℕ) (xs : List Lexeme) → length bytes ≤ max_file_bytes → WfFile t → Lexed bytes xs
+    → lexeme_toks 1 xs ≡ words t → IsSoundFile t
 
 -- a part of numbered words is numbered
 abbrev pub PartsAreNumbered : Type 0

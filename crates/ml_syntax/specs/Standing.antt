@@ -90,4 +90,5 @@ SitesAreWords =
 abbrev pub NoSiteOpensAQuoted : Type 0
 NoSiteOpensAQuoted =
     (t : FileTree) → WfFile t → AreNumbered 1 (words t) → (s : Site) → Contains (sites t) s → s.operator ≡ false
-    → (front : List Tok) (brace : ℕ) (here next : Tok) (behind : List Tok) → words t ≡ (front ++ placed key.LeftBrace brace ∷ []) ++ here ∷ next ∷ behind → s.at ≡ suc (suc (length front)) → begins_bar next ≡ false
+    → (front : List Tok) (brace : ℕ) (here next : Tok) (behind : List Tok)
+    → words t ≡ (front ++ placed key.LeftBrace brace ∷ []) ++ here ∷ next ∷ behind → s.at ≡ suc (suc (length front)) → begins_bar next ≡ false

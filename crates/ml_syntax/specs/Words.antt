@@ -6,7 +6,25 @@ use Rattle.ml_syntax.specs.declared.fixed.Fixed.TheVariants as key
 use Rattle.ml_syntax.specs.declared.word.Bracket.{Bracket}
 use Rattle.ml_syntax.specs.declared.word.Bracket.TheVariants as bracket
 use Rattle.ml_syntax.specs.Tok.{Name, Tok, fixed, placed, word}
-use Rattle.ml_syntax.specs.Tree.{ValueName, PlainName, OperatorName, Pat, AsPat, OrPat, TuplePat, ConsPat, ConstrApplyPat, TagApplyPat, LazyPat, ExceptionPat, AnyPat, ValuePat, LiteralPat, NegativePat, RangePat, ConstrPat, TagPat, BoolPat, UnitPat, ParenPat, TypedPat, EmptyPat, ListPat, RecordPat, OpenedPat, Pats, no_pat, more_pat, PatField, PunnedField, MatchedField, PatFields, no_pat_field, more_pat_field, Variable, PlainVariable, AnyVariable, LocalModule, LocalPath, LocalArguments, no_local, more_local, no_module, Expr, Seq, Let, LetOpen, LetModule, Fun, Function, Match, Try, If, Chain, Minus, Apply, ConstrApply, TagApply, Assert, Lazy, Postfix, Prefixed, Literal, BoolExpr, Value, Constr, Tag, UnitExpr, Paren, Typed, Coerced, EmptyBegin, Begin, EmptyList, ListExpr, Record, Opened, While, For, Links, no_link, more_link, MaybeExpr, no_expr, some_expr, Tail, no_else, or_else, or_if, Binding, PlainBinding, AppliedBinding, Bindings, no_binding, more_binding, Case, CaseOf, Cases, no_case, more_case, Argument, Positional, LabelPun, Labelled, Arguments, no_argument, more_argument, Param, PatternParam, LabelParam, LabelPattern, DefaultParam, WrappedParam, WrappedDefault, TypesParam, Params, no_param, more_param, Part, LabelPart, IndexPart, CharPart, Parts, no_part, more_part, Field, FieldPun, AssignedField, Fields, no_field, more_field, ModuleName, UpperName, AnyName, Constraint, ConstraintOf, WithClause, WithOf, ModExpr, ModPath, Struct, Functor, ModApply, ModParen, Sealed, ModArgument, ModuleArgument, SealedArgument, NoArgument, ModArguments, no_mod_argument, more_mod_argument, FunctorParam, NamedParam, NoParam, FunctorParams, no_functor_param, more_functor_param, ModType, TypePath, Sig, TypeOf, TypeParen, With, FunctorType, ParamArrow, Arrow, MaybeType, no_type, some_type, Item, ExprItem, SeparatorItem, ValueItem, ExternalItem, TypeItem, ExceptionItem, ModuleItem, ModuleTypeItem, OpenItem, IncludeItem, Items, no_item, more_item, SigItem, SeparatorSig, ValSig, ExternalSig, TypeSig, ExceptionSig, ModuleSig, AliasSig, ModuleTypeSig, OpenSig, IncludeSig, SigItems, no_sig_item, more_sig_item, FileTree, Body, Face}
+use Rattle.ml_syntax.specs.Tree.{ValueName, PlainName, OperatorName, Pat, AsPat, OrPat, TuplePat, ConsPat, ConstrApplyPat, TagApplyPat, LazyPat}
+use Rattle.ml_syntax.specs.Tree.{ExceptionPat, AnyPat, ValuePat, LiteralPat, NegativePat, RangePat, ConstrPat, TagPat, BoolPat, UnitPat, ParenPat}
+use Rattle.ml_syntax.specs.Tree.{TypedPat, EmptyPat, ListPat, RecordPat, OpenedPat, Pats, no_pat, more_pat, PatField, PunnedField, MatchedField}
+use Rattle.ml_syntax.specs.Tree.{PatFields, no_pat_field, more_pat_field, Variable, PlainVariable, AnyVariable, LocalModule, LocalPath}
+use Rattle.ml_syntax.specs.Tree.{LocalArguments, no_local, more_local, no_module, Expr, Seq, Let, LetOpen, LetModule, Fun, Function, Match, Try, If}
+use Rattle.ml_syntax.specs.Tree.{Chain, Minus, Apply, ConstrApply, TagApply, Assert, Lazy, Postfix, Prefixed, Literal, BoolExpr, Value, Constr, Tag}
+use Rattle.ml_syntax.specs.Tree.{UnitExpr, Paren, Typed, Coerced, EmptyBegin, Begin, EmptyList, ListExpr, Record, Opened, While, For, Links, no_link}
+use Rattle.ml_syntax.specs.Tree.{more_link, MaybeExpr, no_expr, some_expr, Tail, no_else, or_else, or_if, Binding, PlainBinding, AppliedBinding}
+use Rattle.ml_syntax.specs.Tree.{Bindings, no_binding, more_binding, Case, CaseOf, Cases, no_case, more_case, Argument, Positional, LabelPun}
+use Rattle.ml_syntax.specs.Tree.{Labelled, Arguments, no_argument, more_argument, Param, PatternParam, LabelParam, LabelPattern, DefaultParam}
+use Rattle.ml_syntax.specs.Tree.{WrappedParam, WrappedDefault, TypesParam, Params, no_param, more_param, Part, LabelPart, IndexPart, CharPart, Parts}
+use Rattle.ml_syntax.specs.Tree.{no_part, more_part, Field, FieldPun, AssignedField, Fields, no_field, more_field, ModuleName, UpperName, AnyName}
+use Rattle.ml_syntax.specs.Tree.{Constraint, ConstraintOf, WithClause, WithOf, ModExpr, ModPath, Struct, Functor, ModApply, ModParen, Sealed}
+use Rattle.ml_syntax.specs.Tree.{ModArgument, ModuleArgument, SealedArgument, NoArgument, ModArguments, no_mod_argument, more_mod_argument}
+use Rattle.ml_syntax.specs.Tree.{FunctorParam, NamedParam, NoParam, FunctorParams, no_functor_param, more_functor_param, ModType, TypePath, Sig}
+use Rattle.ml_syntax.specs.Tree.{TypeOf, TypeParen, With, FunctorType, ParamArrow, Arrow, MaybeType, no_type, some_type, Item, ExprItem}
+use Rattle.ml_syntax.specs.Tree.{SeparatorItem, ValueItem, ExternalItem, TypeItem, ExceptionItem, ModuleItem, ModuleTypeItem, OpenItem, IncludeItem}
+use Rattle.ml_syntax.specs.Tree.{Items, no_item, more_item, SigItem, SeparatorSig, ValSig, ExternalSig, TypeSig, ExceptionSig, ModuleSig, AliasSig}
+use Rattle.ml_syntax.specs.Tree.{ModuleTypeSig, OpenSig, IncludeSig, SigItems, no_sig_item, more_sig_item, FileTree, Body, Face}
 
 -- ---- small parts
 
@@ -89,8 +107,10 @@ abbrev mutual
   pat_then (ParenPat at p) k = placed key.LeftParen at ∷ pat_then p (fixed key.RightParen ∷ k)
   pat_then (TypedPat at p run) k = placed key.LeftParen at ∷ pat_then p (fixed key.Colon ∷ (run ++ (fixed key.RightParen ∷ k)))
   pat_then (EmptyPat at b) k = placed (opening b) at ∷ fixed (closing b) ∷ k
-  pat_then (ListPat at b p ps last) k = placed (opening b) at ∷ pat_then p (pats_then key.Semicolon ps (optional_then key.Semicolon last (fixed (closing b) ∷ k)))
-  pat_then (RecordPat at f fs rest last) k = placed key.LeftBrace at ∷ pat_field_then f (pat_fields_then fs (open_then rest (optional_then key.Semicolon last (fixed key.RightBrace ∷ k))))
+  pat_then (ListPat at b p ps last) k =
+      placed (opening b) at ∷ pat_then p (pats_then key.Semicolon ps (optional_then key.Semicolon last (fixed (closing b) ∷ k)))
+  pat_then (RecordPat at f fs rest last) k =
+      placed key.LeftBrace at ∷ pat_field_then f (pat_fields_then fs (open_then rest (optional_then key.Semicolon last (fixed key.RightBrace ∷ k))))
   pat_then (OpenedPat path at p) k = path_then path (fixed key.Dot ∷ placed key.LeftParen at ∷ pat_then p (fixed key.RightParen ∷ k))
 
   -- each behind a fixed word
@@ -140,7 +160,8 @@ abbrev mutual
   expr_then (Seq e es last) k = expr_then e (links_then es (optional_then key.Semicolon last k))
   expr_then (Let at rec b bs e) k = placed key.Let at ∷ optional_then key.Rec rec (binding_then b (bindings_then bs (fixed key.In ∷ expr_then e k)))
   expr_then (LetOpen at at' bang path e) k = placed key.Let at ∷ placed key.Open at' ∷ bang_then bang (path_then path (fixed key.In ∷ expr_then e k))
-  expr_then (LetModule at at' x eq m e) k = placed key.Let at ∷ placed key.Module at' ∷ word class.Upper x ∷ placed key.Equals eq ∷ local_then m (fixed key.In ∷ expr_then e k)
+  expr_then (LetModule at at' x eq m e) k = placed key.Let at ∷ placed key.Module at' ∷ word class.Upper x ∷ placed key.Equals eq ∷ local_then m
+      (fixed key.In ∷ expr_then e k)
   expr_then (Fun at ps e) k = placed key.Fun at ∷ params_then ps (fixed key.Arrow ∷ expr_then e k)
   expr_then (Function at bar c cs) k = placed key.Function at ∷ optional_then key.Bar bar (case_then c (cases_then cs k))
   expr_then (Match at e bar c cs) k = placed key.Match at ∷ expr_then e (fixed key.With ∷ optional_then key.Bar bar (case_then c (cases_then cs k)))
@@ -163,15 +184,20 @@ abbrev mutual
   expr_then (UnitExpr at) k = placed key.LeftParen at ∷ fixed key.RightParen ∷ k
   expr_then (Paren at e) k = placed key.LeftParen at ∷ expr_then e (fixed key.RightParen ∷ k)
   expr_then (Typed at e run) k = placed key.LeftParen at ∷ expr_then e (fixed key.Colon ∷ (run ++ (fixed key.RightParen ∷ k)))
-  expr_then (Coerced at e from to) k = placed key.LeftParen at ∷ expr_then e (type_then from (fixed key.ColonGreater ∷ (to ++ (fixed key.RightParen ∷ k))))
+  expr_then (Coerced at e from to) k =
+      placed key.LeftParen at ∷ expr_then e (type_then from (fixed key.ColonGreater ∷ (to ++ (fixed key.RightParen ∷ k))))
   expr_then (EmptyBegin at) k = placed key.Begin at ∷ fixed key.End ∷ k
   expr_then (Begin at e) k = placed key.Begin at ∷ expr_then e (fixed key.End ∷ k)
   expr_then (EmptyList at b) k = placed (opening b) at ∷ fixed (closing b) ∷ k
-  expr_then (ListExpr at b e es last) k = placed (opening b) at ∷ expr_then e (links_then es (optional_then key.Semicolon last (fixed (closing b) ∷ k)))
-  expr_then (Record at base f fs last) k = placed key.LeftBrace at ∷ base_then base (field_then f (fields_then fs (optional_then key.Semicolon last (fixed key.RightBrace ∷ k))))
+  expr_then (ListExpr at b e es last) k =
+      placed (opening b) at ∷ expr_then e (links_then es (optional_then key.Semicolon last (fixed (closing b) ∷ k)))
+  expr_then (Record at base f fs last) k =
+      placed key.LeftBrace at ∷ base_then base (field_then f (fields_then fs (optional_then key.Semicolon last (fixed key.RightBrace ∷ k))))
   expr_then (Opened path e) k = path_then path (fixed key.Dot ∷ expr_then e k)
   expr_then (While at c e) k = placed key.While at ∷ expr_then c (fixed key.Do ∷ expr_then e (fixed key.Done ∷ k))
-  expr_then (For at x eq a down b e) k = placed key.For at ∷ variable_then x (placed key.Equals eq ∷ expr_then a (fixed (direction down) ∷ expr_then b (fixed key.Do ∷ expr_then e (fixed key.Done ∷ k))))
+  expr_then (For at x eq a down b e) k =
+      placed key.For at ∷ variable_then x
+      (placed key.Equals eq ∷ expr_then a (fixed (direction down) ∷ expr_then b (fixed key.Do ∷ expr_then e (fixed key.Done ∷ k))))
 
   pub links_then : Links → List Tok → List Tok
   links_then no_link k = k
@@ -218,9 +244,12 @@ abbrev mutual
   param_then (PatternParam p) k = pat_then p k
   param_then (LabelParam x) k = word class.Label x ∷ k
   param_then (LabelPattern x p) k = word class.Label x ∷ pat_then p k
-  param_then (DefaultParam x at p run eq e) k = word class.Label x ∷ placed key.LeftParen at ∷ pat_then p (type_then run (placed key.Equals eq ∷ expr_then e (fixed key.RightParen ∷ k)))
-  param_then (WrappedParam at optional at' x run) k = placed (wrap optional) at ∷ placed key.LeftParen at' ∷ word class.Lower x ∷ type_then run (fixed key.RightParen ∷ k)
-  param_then (WrappedDefault at at' x run eq e) k = placed key.Question at ∷ placed key.LeftParen at' ∷ word class.Lower x ∷ type_then run (placed key.Equals eq ∷ expr_then e (fixed key.RightParen ∷ k))
+  param_then (DefaultParam x at p run eq e) k =
+      word class.Label x ∷ placed key.LeftParen at ∷ pat_then p (type_then run (placed key.Equals eq ∷ expr_then e (fixed key.RightParen ∷ k)))
+  param_then (WrappedParam at optional at' x run) k = placed (wrap optional) at ∷ placed key.LeftParen at' ∷ word class.Lower x ∷ type_then run
+      (fixed key.RightParen ∷ k)
+  param_then (WrappedDefault at at' x run eq e) k = placed key.Question at ∷ placed key.LeftParen at' ∷ word class.Lower x ∷ type_then run
+      (placed key.Equals eq ∷ expr_then e (fixed key.RightParen ∷ k))
   param_then (TypesParam at xs) k = placed key.LeftParen at ∷ fixed key.Type ∷ lowers_then xs (fixed key.RightParen ∷ k)
 
   pub params_then : Params → List Tok → List Tok
@@ -290,7 +319,8 @@ abbrev mutual
   mod_arguments_then (more_mod_argument m ms) k = mod_argument_then m (mod_arguments_then ms k)
 
   pub functor_param_then : FunctorParam → List Tok → List Tok
-  functor_param_then (NamedParam at x s) k = placed key.LeftParen at ∷ module_name_then x (fixed key.Colon ∷ mod_type_then s (fixed key.RightParen ∷ k))
+  functor_param_then (NamedParam at x s) k =
+      placed key.LeftParen at ∷ module_name_then x (fixed key.Colon ∷ mod_type_then s (fixed key.RightParen ∷ k))
   functor_param_then (NoParam at) k = placed key.LeftParen at ∷ fixed key.RightParen ∷ k
 
   pub functor_params_then : FunctorParams → List Tok → List Tok
@@ -318,7 +348,8 @@ abbrev mutual
   item_then (ExternalItem x run at texts) k = external_then x run at texts k
   item_then (TypeItem run) k = fixed key.Type ∷ (run ++ k)
   item_then (ExceptionItem at run) k = placed key.Exception at ∷ (run ++ k)
-  item_then (ModuleItem at x ps s eq m) k = placed key.Module at ∷ module_name_then x (functor_params_then ps (signature_then s (placed key.Equals eq ∷ mod_then m k)))
+  item_then (ModuleItem at x ps s eq m) k =
+      placed key.Module at ∷ module_name_then x (functor_params_then ps (signature_then s (placed key.Equals eq ∷ mod_then m k)))
   item_then (ModuleTypeItem at x eq s) k = placed key.Module at ∷ fixed key.Type ∷ word class.Upper x ∷ placed key.Equals eq ∷ mod_type_then s k
   item_then (OpenItem at bang path) k = open_item_then at bang path k
   item_then (IncludeItem at m) k = placed key.Include at ∷ mod_then m k

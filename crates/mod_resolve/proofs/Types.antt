@@ -2,7 +2,8 @@
 use Rattle.std.proofs.Common.{◌≡◌, ℕ, List, [], ◌∷◌, ◌++◌, Option, Some, None, ◌≤◌, length, arith, refl, sym, ap, ◌∙◌}
 use Rattle.ml_syntax.specs.declared.word.Word.{Word}
 use Rattle.ml_syntax.specs.View.{view_words}
-use Rattle.shape_core.specs.Shape.{Name, Shape, Struct, Functor, Unitary, Opaque, Entries, or_value, step, step_from, inside, find_path, walk, find_mty, type_in, entries_in}
+use Rattle.shape_core.specs.Shape.{Name, Shape, Struct, Functor, Unitary, Opaque, Entries, or_value, step, step_from, inside, find_path, walk}
+use Rattle.shape_core.specs.Shape.{find_mty, type_in, entries_in}
 use Rattle.binding_model.specs.Scopes.{texts, type_under}
 
 pub type_in_so : (s : Shape) (S : Name) → type_in s S ≡ or_value (find_mty (entries_in s) S) Opaque
@@ -23,7 +24,8 @@ texts_last : (p : List Word) (w : Word) → texts (view_words (p ++ w ∷ [])) �
 texts_last [] w = refl
 texts_last (x ∷ p) w = ap (λ l. x.name ∷ l) (texts_last p w)
 
-pub type_last : (sc : Entries) (x : Word) (p : List Word) (w : Word) → type_under (Struct sc) (texts (view_words ((x ∷ p) ++ w ∷ []))) ≡ type_in (walk sc (texts (view_words (x ∷ p)))) w.name
+pub type_last : (sc : Entries) (x : Word) (p : List Word) (w : Word) → type_under (Struct sc) (texts (view_words ((x ∷ p) ++ w ∷ []))) ≡ type_in
+    (walk sc (texts (view_words (x ∷ p)))) w.name
 type_last sc x p w = ap (λ l. type_under (Struct sc) (x.name ∷ l)) (texts_last p w) ∙ last_under (Struct sc) x.name (texts (view_words p)) w.name
 
 pub type_alone : (sc : Entries) (w : Word) → type_under (Struct sc) (texts (view_words (w ∷ []))) ≡ or_value (find_mty sc w.name) Opaque

@@ -1,6 +1,7 @@
 -- A resolver of units, one after another from nothing, has the facts and the looks of the project, or names its first
 -- heavy site.
-use Rattle.std.proofs.Common.{◌≡◌, ℕ, ◌+◌, ◌≤◌, ◌<◌, ◌||◌, List, [], ◌∷◌, ◌++◌, Bool, true, false, map, length, Option, Some, None, refl, sym, ap, subst, ◌∙◌, arith, nat_lt}
+use Rattle.std.proofs.Common.{◌≡◌, ℕ, ◌+◌, ◌≤◌, ◌<◌, ◌||◌, List, [], ◌∷◌, ◌++◌, Bool, true, false, map, length, Option, Some, None, refl, sym, ap}
+use Rattle.std.proofs.Common.{subst, ◌∙◌, arith, nat_lt}
 use Rattle.std.proofs.lemmas.Bool.Decides.{leb_tells}
 use Rattle.rotor_base.specs.declared.place.Place.{Place}
 use Rattle.rotor_base.specs.declared.place.Link.{Link}
@@ -49,8 +50,10 @@ rest_light None p h = h
 rest_light (Some at) p h = absurd cc
 
 -- the last of some steps, if no site is heavy
-last_light : (n : Sums) (a : Steps) (at : Place) (s : Shape) → heavy_from n (a ⨾ WeighedSite at s) ≡ None → (sums_after n (a ⨾ WeighedSite at s)).work ≤ 4194304
-last_light n a at s h = site_light (weight s) (sums_after (sums_after n a) (WeighedSite at s)) at (rest_light (heavy_from n a) (heavy_from (sums_after n a) (WeighedSite at s)) h)
+last_light : (n : Sums) (a : Steps) (at : Place) (s : Shape) → heavy_from n (a ⨾ WeighedSite at s) ≡ None
+    → (sums_after n (a ⨾ WeighedSite at s)).work ≤ 4194304
+last_light n a at s h = site_light (weight s) (sums_after (sums_after n a) (WeighedSite at s))
+    at (rest_light (heavy_from n a) (heavy_from (sums_after n a) (WeighedSite at s)) h)
 
 unit_light : (u : UnitTree) (sc : Entries) (n : Sums) → heavy_from n (unit_steps sc u) ≡ None → (sums_after n (unit_steps sc u)).work ≤ 4194304
 unit_light u sc n h =
@@ -67,7 +70,8 @@ unit_light u sc n h =
     let k = rest_light (heavy_from half F) (heavy_from whole (L ⨾ WeighedSite at s)) j in
     last_light whole L at s k
 
-units_light : (us : List UnitTree) (sc : Entries) (n : Sums) → n.work ≤ 4194304 → heavy_from n (units_steps sc us) ≡ None → (sums_after n (units_steps sc us)).work ≤ 4194304
+units_light : (us : List UnitTree) (sc : Entries) (n : Sums) → n.work ≤ 4194304 → heavy_from n (units_steps sc us) ≡ None
+    → (sums_after n (units_steps sc us)).work ≤ 4194304
 units_light [] sc n l h = l
 units_light (u ∷ us) sc n l h =
     let a = first_light (heavy_from n (unit_steps sc u)) (heavy_from (sums_after n (unit_steps sc u)) (units_steps (after_unit sc u) us)) h in
@@ -85,16 +89,19 @@ from_start r n s l us t a b c h =
 at_start : (r : Option Recorder) → Tracks no_sums (nothing_found r).sums
 at_start r = record { weight = refl; work = refl; opened = refl }
 
-pub heavy_taken : (us : List UnitTree) (r : Option Recorder) (at : Place) → taken (Going (nothing_found r)) (steps us) ≡ HeavyAt at → heavy us ≡ Some at
+pub heavy_taken : (us : List UnitTree) (r : Option Recorder) (at : Place)
+    → taken (Going (nothing_found r)) (steps us) ≡ HeavyAt at → heavy us ≡ Some at
 heavy_taken us r at h = stopped_heavy (steps us) (nothing_found r) no_sums at (at_start r) h
 
 pub light_taken : (us : List UnitTree) (r : Option Recorder) (m : Found) → taken (Going (nothing_found r)) (steps us) ≡ Going m → heavy us ≡ None
 light_taken us r m h = went_light (steps us) (nothing_found r) m no_sums (at_start r) h
 
-arrived : (us : List UnitTree) (r : Option Recorder) (m : Found) → taken (Going (nothing_found r)) (steps us) ≡ Going m → Arrived (nothing_found r) no_sums (steps us) m
+arrived : (us : List UnitTree) (r : Option Recorder) (m : Found) → taken (Going (nothing_found r)) (steps us) ≡ Going m
+    → Arrived (nothing_found r) no_sums (steps us) m
 arrived us r m h = went_there (steps us) (nothing_found r) m no_sums (at_start r) h
 
-within : (us : List UnitTree) (r : Option Recorder) (m : Found) → taken (Going (nothing_found r)) (steps us) ≡ Going m → (sums_after no_sums (steps us)).work ≤ 4194304
+within : (us : List UnitTree) (r : Option Recorder) (m : Found) → taken (Going (nothing_found r)) (steps us) ≡ Going m
+    → (sums_after no_sums (steps us)).work ≤ 4194304
 within us r m h = units_light us none no_sums (omega arith) (light_taken us r m h)
 
 pub facts_taken : (us : List UnitTree) (r : Option Recorder) (m : Found) → taken (Going (nothing_found r)) (steps us) ≡ Going m
@@ -105,7 +112,8 @@ facts_taken us r m h =
     sym (ap (λ x. facts_with x m.links m.groups) a.refs ∙ ap (λ x. facts_with (refs_of (steps us)) x m.groups) (a.links (within us r m h))
     ∙ ap (facts_with (refs_of (steps us)) (trace link (steps us)).told) a.groups)
 
-pub looks_taken : (us : List UnitTree) (w : Watch) (m : Found) → taken (Going (nothing_found (Some (record { watch = w; looks = no_looks })))) (steps us) ≡ Going m → looks_kept m.recorder ≡ looks w us
+pub looks_taken : (us : List UnitTree) (w : Watch) (m : Found) → taken (Going (nothing_found (Some (record { watch = w; looks = no_looks }))))
+    (steps us) ≡ Going m → looks_kept m.recorder ≡ looks w us
 looks_taken us w m h =
     let r : Recorder = record { watch = w; looks = no_looks } in
     let ls = (trace (look w) (steps us)).told in

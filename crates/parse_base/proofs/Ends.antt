@@ -1,5 +1,6 @@
 -- A place past the end is the end, and what is read is the longest.
-use Rattle.std.proofs.Common.{◌≡◌, ℕ, zero, suc, ◌+◌, ◌≤◌, ◌<◌, ◌⊎◌, inl, inr, min, List, [], ◌∷◌, length, drop, map, Option, Some, None, refl, sym, ap, ◌∙◌, arith, length-drop}
+use Rattle.std.proofs.Common.{◌≡◌, ℕ, zero, suc, ◌+◌, ◌≤◌, ◌<◌, ◌⊎◌, inl, inr, min, List, [], ◌∷◌, length, drop, map, Option, Some, None, refl, sym}
+use Rattle.std.proofs.Common.{ap, ◌∙◌, arith, length-drop}
 use Rattle.std.proofs.lemmas.List.{length-map}
 use Rattle.rotor_base.specs.declared.token.Class.{Class}
 use Rattle.rotor_base.specs.declared.token.Token.{Token}
@@ -37,7 +38,8 @@ cut ts n (inr h) =
 pub from_min : (ts : List Token) (n : ℕ) → from ts (min n (length ts)) ≡ from ts n
 from_min ts n = cut ts n (either n (length ts))
 
-pub longest_pat : (ts : List Token) (start end place : ℕ) (p : Pat) → place ≡ min end (length ts) → read_pat (length ts + 1) (from ts start) ≡ Some (p, from ts end) → IsLongestPat (from ts start) p (from ts place)
+pub longest_pat : (ts : List Token) (start end place : ℕ) (p : Pat) → place ≡ min end (length ts)
+    → read_pat (length ts + 1) (from ts start) ≡ Some (p, from ts end) → IsLongestPat (from ts start) p (from ts place)
 longest_pat ts start end place p e h =
     let q : from ts place ≡ from ts end = ap (from ts) e ∙ from_min ts end in
     rw q (pat_longest (length ts + 1) (from ts start) p (from ts end) (omega (arith, from_length ts start)) h)

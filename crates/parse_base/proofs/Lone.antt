@@ -64,7 +64,8 @@ cons_none p (x ∷ xs) h = absurd (omega arith)
 pub ruleset grown = (as_more, as_none, or_more, or_none, tuple_more, tuple_none, cons_more, cons_none)
 
 -- a pattern that is neither a constructor nor a tag is applied to nothing
-pub applied_other : (p : Pat) (ts : List Tok) (o : Option (pure.Pat × List Tok)) → ((x : Path) → p ≡ pat_v.Constr x → ⊥) → ((x : Word) → p ≡ pat_v.Tag x → ⊥) → applied_to (view_pat p) ts (cond (can_apply (view_pat p)) o None) ≡ (view_pat p, ts)
+pub applied_other : (p : Pat) (ts : List Tok) (o : Option (pure.Pat × List Tok)) → ((x : Path) → p ≡ pat_v.Constr x → ⊥)
+    → ((x : Word) → p ≡ pat_v.Tag x → ⊥) → applied_to (view_pat p) ts (cond (can_apply (view_pat p)) o None) ≡ (view_pat p, ts)
 unfolding view_pat
 applied_other (pat_b.Constr path) ts o h k = absurd (h path refl)
 applied_other (pat_b.Tag w) ts o h k = absurd (k w refl)

@@ -7,9 +7,13 @@ use Rattle.ml_syntax.specs.declared.fixed.Fixed.TheVariants as key
 use Rattle.ml_syntax.specs.declared.word.Bracket.{Bracket}
 use Rattle.ml_syntax.specs.declared.word.Bracket.TheVariants as bracket
 use Rattle.ml_syntax.specs.Tok.{Name, Tok, fixed, placed, word}
-use Rattle.ml_syntax.specs.Words.{truth, pat_then, pats_then, pat_field_then, pat_fields_then, path_then, dotted_then, qualified_then, name_then, names_then, type_then, optional_then, open_then, opening, closing}
+use Rattle.ml_syntax.specs.Words.{truth, pat_then, pats_then, pat_field_then, pat_fields_then, path_then, dotted_then, qualified_then, name_then}
+use Rattle.ml_syntax.specs.Words.{names_then, type_then, optional_then, open_then, opening, closing}
 use Rattle.ml_syntax.specs.WellFormed.{WfPat, is_operator, is_literal}
-use Rattle.ml_syntax.specs.Tree.{ValueName, PlainName, OperatorName, Pat, AsPat, OrPat, TuplePat, ConsPat, ConstrApplyPat, TagApplyPat, LazyPat, ExceptionPat, AnyPat, ValuePat, LiteralPat, NegativePat, RangePat, ConstrPat, TagPat, BoolPat, UnitPat, ParenPat, TypedPat, EmptyPat, ListPat, RecordPat, OpenedPat, Pats, no_pat, more_pat, PatField, PunnedField, MatchedField, PatFields, no_pat_field, more_pat_field}
+use Rattle.ml_syntax.specs.Tree.{ValueName, PlainName, OperatorName, Pat, AsPat, OrPat, TuplePat, ConsPat, ConstrApplyPat, TagApplyPat, LazyPat}
+use Rattle.ml_syntax.specs.Tree.{ExceptionPat, AnyPat, ValuePat, LiteralPat, NegativePat, RangePat, ConstrPat, TagPat, BoolPat, UnitPat, ParenPat}
+use Rattle.ml_syntax.specs.Tree.{TypedPat, EmptyPat, ListPat, RecordPat, OpenedPat, Pats, no_pat, more_pat, PatField, PunnedField, MatchedField}
+use Rattle.ml_syntax.specs.Tree.{PatFields, no_pat_field, more_pat_field}
 
 -- ---- lengths
 
@@ -69,11 +73,34 @@ mutual
   pat_more (BoolPat at b) k = omega arith
   pat_more (UnitPat at) k = omega arith
   pat_more (ParenPat at p) k = omega (arith, pat_more p (fixed key.RightParen ∷ k))
-  pat_more (TypedPat at p run) k = omega (arith, pat_more p (fixed key.Colon ∷ (run ++ (fixed key.RightParen ∷ k))), run_longer run (fixed key.RightParen ∷ k))
+  pat_more (TypedPat at p run) k =
+      omega (arith, pat_more p (fixed key.Colon ∷ (run ++ (fixed key.RightParen ∷ k))), run_longer run (fixed key.RightParen ∷ k))
   pat_more (EmptyPat at b) k = omega arith
-  pat_more (ListPat at b p ps last) k = omega (arith, pat_more p (pats_then key.Semicolon ps (optional_then key.Semicolon last (fixed (closing b) ∷ k))), pats_more key.Semicolon ps (optional_then key.Semicolon last (fixed (closing b) ∷ k)), optional_longer key.Semicolon last (fixed (closing b) ∷ k))
-  pat_more (RecordPat at f fs rest last) k = omega (arith, field_more f (pat_fields_then fs (open_then rest (optional_then key.Semicolon last (fixed key.RightBrace ∷ k)))), fields_more fs (open_then rest (optional_then key.Semicolon last (fixed key.RightBrace ∷ k))), open_longer rest (optional_then key.Semicolon last (fixed key.RightBrace ∷ k)), optional_longer key.Semicolon last (fixed key.RightBrace ∷ k))
-  pat_more (OpenedPat path at p) k = omega (arith, path_longer path (fixed key.Dot ∷ placed key.LeftParen at ∷ pat_then p (fixed key.RightParen ∷ k)), pat_more p (fixed key.RightParen ∷ k))
+  pat_more (ListPat at b p ps last) k =
+      omega (
+        arith,
+        pat_more p (pats_then key.Semicolon ps (optional_then key.Semicolon last (fixed (closing b) ∷ k))),
+        pats_more key.Semicolon ps
+            (optional_then key.Semicolon last (fixed (closing b) ∷ k)),
+        optional_longer key.Semicolon last (fixed (closing b) ∷ k),
+      )
+  pat_more (RecordPat at f fs rest last) k =
+      omega (
+        arith,
+        field_more f (pat_fields_then fs (open_then rest (optional_then key.Semicolon last (fixed key.RightBrace ∷ k)))),
+        fields_more fs
+            (open_then rest (optional_then key.Semicolon last (fixed key.RightBrace ∷ k))),
+        open_longer rest
+            (optional_then key.Semicolon last (fixed key.RightBrace ∷ k)),
+        optional_longer key.Semicolon last (fixed key.RightBrace ∷ k),
+      )
+  pat_more (OpenedPat path at p) k =
+      omega (
+        arith,
+        path_longer path (fixed key.Dot ∷ placed key.LeftParen at ∷ pat_then p (fixed key.RightParen ∷ k)),
+        pat_more p
+            (fixed key.RightParen ∷ k),
+      )
 
   pub pats_more : (sep : Fixed) (ps : Pats) (k : List Tok) → length k ≤ length (pats_then sep ps k)
   pats_more sep no_pat k = omega arith
@@ -81,7 +108,14 @@ mutual
 
   pub field_more : (f : PatField) (k : List Tok) → length k ≤ length (pat_field_then f k)
   field_more (PunnedField path x run) k = omega (arith, qualified_longer path (word class.Lower x ∷ type_then run k), type_longer run k)
-  field_more (MatchedField path x run at p) k = omega (arith, qualified_longer path (word class.Lower x ∷ type_then run (placed key.Equals at ∷ pat_then p k)), type_longer run (placed key.Equals at ∷ pat_then p k), pat_more p k)
+  field_more (MatchedField path x run at p) k =
+      omega (
+        arith,
+        qualified_longer path (word class.Lower x ∷ type_then run (placed key.Equals at ∷ pat_then p k)),
+        type_longer run
+            (placed key.Equals at ∷ pat_then p k),
+        pat_more p k,
+      )
 
   pub fields_more : (fs : PatFields) (k : List Tok) → length k ≤ length (pat_fields_then fs k)
   fields_more no_pat_field k = omega arith
@@ -166,7 +200,8 @@ pat_opens (ExceptionPat at p) k w = opens_by (pat_then p k) (placed key.Exceptio
 pat_opens (AnyPat at) k w = opens_by k (placed key.Underscore at) refl refl
 pat_opens (ValuePat x) k w = name_opens x k
 pat_opens (LiteralPat c x) k w = literal_opens c x k w
-pat_opens (NegativePat x c y) k w = record { first = word class.Infix x; rest = word c y ∷ k; is = refl; begins = refl; behind = λ h. (c, y, k, refl) }
+pat_opens (NegativePat x c y) k w =
+    record { first = word class.Infix x; rest = word c y ∷ k; is = refl; begins = refl; behind = λ h. (c, y, k, refl) }
 pat_opens (RangePat x y) k w = free_opens class.Char x (fixed key.DotDot ∷ word class.Char y ∷ k) refl
 pat_opens (ConstrPat path) k w = path_opens path k w
 pat_opens (TagPat x) k w = free_opens class.Tag x k refl
@@ -175,8 +210,11 @@ pat_opens (UnitPat at) k w = opens_by (fixed key.RightParen ∷ k) (placed key.L
 pat_opens (ParenPat at p) k w = opens_by (pat_then p (fixed key.RightParen ∷ k)) (placed key.LeftParen at) refl refl
 pat_opens (TypedPat at p run) k w = opens_by (pat_then p (fixed key.Colon ∷ (run ++ (fixed key.RightParen ∷ k)))) (placed key.LeftParen at) refl refl
 pat_opens (EmptyPat at b) k w = bracket_opens at b (fixed (closing b) ∷ k)
-pat_opens (ListPat at b p ps last) k w = bracket_opens at b (pat_then p (pats_then key.Semicolon ps (optional_then key.Semicolon last (fixed (closing b) ∷ k))))
-pat_opens (RecordPat at f fs rest last) k w = opens_by (pat_field_then f (pat_fields_then fs (open_then rest (optional_then key.Semicolon last (fixed key.RightBrace ∷ k))))) (placed key.LeftBrace at) refl refl
+pat_opens (ListPat at b p ps last) k w =
+    bracket_opens at b (pat_then p (pats_then key.Semicolon ps (optional_then key.Semicolon last (fixed (closing b) ∷ k))))
+pat_opens (RecordPat at f fs rest last) k w =
+    opens_by (pat_field_then f (pat_fields_then fs (open_then rest (optional_then key.Semicolon last (fixed key.RightBrace ∷ k)))))
+    (placed key.LeftBrace at) refl refl
 pat_opens (OpenedPat path at p) k w = path_opens path (fixed key.Dot ∷ placed key.LeftParen at ∷ pat_then p (fixed key.RightParen ∷ k)) w.0
 
 pub opens_longer : (ts : List Tok) → Opens ts → 0 < length ts
@@ -193,7 +231,13 @@ pat_longer (TuplePat p ps) k w = omega (arith, pat_longer p (pats_then key.Comma
 pat_longer (ConsPat p ps) k w = omega (arith, pat_longer p (pats_then key.ColonColon ps k) w.2, pats_more key.ColonColon ps k)
 pat_longer (ConstrApplyPat path p) k w = omega (arith, path_longer path (pat_then p k), pat_longer p k w.2)
 pat_longer (ConstrPat path) k w = path_strict path k w
-pat_longer (OpenedPat path at p) k w = omega (arith, path_longer path (fixed key.Dot ∷ placed key.LeftParen at ∷ pat_then p (fixed key.RightParen ∷ k)), pat_more p (fixed key.RightParen ∷ k))
+pat_longer (OpenedPat path at p) k w =
+    omega (
+      arith,
+      path_longer path (fixed key.Dot ∷ placed key.LeftParen at ∷ pat_then p (fixed key.RightParen ∷ k)),
+      pat_more p
+          (fixed key.RightParen ∷ k),
+    )
 pat_longer (TagApplyPat x p) k w = omega (arith, pat_more p k)
 pat_longer (LazyPat at p) k w = omega (arith, pat_more p k)
 pat_longer (ExceptionPat at p) k w = omega (arith, pat_more p k)
@@ -206,7 +250,26 @@ pat_longer (TagPat x) k w = omega arith
 pat_longer (BoolPat at b) k w = omega arith
 pat_longer (UnitPat at) k w = omega arith
 pat_longer (ParenPat at p) k w = omega (arith, pat_more p (fixed key.RightParen ∷ k))
-pat_longer (TypedPat at p run) k w = omega (arith, pat_more p (fixed key.Colon ∷ (run ++ (fixed key.RightParen ∷ k))), run_longer run (fixed key.RightParen ∷ k))
+pat_longer (TypedPat at p run) k w =
+    omega (arith, pat_more p (fixed key.Colon ∷ (run ++ (fixed key.RightParen ∷ k))), run_longer run (fixed key.RightParen ∷ k))
 pat_longer (EmptyPat at b) k w = omega arith
-pat_longer (ListPat at b p ps last) k w = omega (arith, pat_more (ListPat at b p ps last) k, pat_more p (pats_then key.Semicolon ps (optional_then key.Semicolon last (fixed (closing b) ∷ k))), pats_more key.Semicolon ps (optional_then key.Semicolon last (fixed (closing b) ∷ k)), optional_longer key.Semicolon last (fixed (closing b) ∷ k))
-pat_longer (RecordPat at f fs rest last) k w = omega (arith, field_more f (pat_fields_then fs (open_then rest (optional_then key.Semicolon last (fixed key.RightBrace ∷ k)))), fields_more fs (open_then rest (optional_then key.Semicolon last (fixed key.RightBrace ∷ k))), open_longer rest (optional_then key.Semicolon last (fixed key.RightBrace ∷ k)), optional_longer key.Semicolon last (fixed key.RightBrace ∷ k))
+pat_longer (ListPat at b p ps last) k w =
+    omega (
+      arith,
+      pat_more (ListPat at b p ps last) k,
+      pat_more p
+          (pats_then key.Semicolon ps (optional_then key.Semicolon last (fixed (closing b) ∷ k))),
+      pats_more key.Semicolon ps
+          (optional_then key.Semicolon last (fixed (closing b) ∷ k)),
+      optional_longer key.Semicolon last (fixed (closing b) ∷ k),
+    )
+pat_longer (RecordPat at f fs rest last) k w =
+    omega (
+      arith,
+      field_more f (pat_fields_then fs (open_then rest (optional_then key.Semicolon last (fixed key.RightBrace ∷ k)))),
+      fields_more fs
+          (open_then rest (optional_then key.Semicolon last (fixed key.RightBrace ∷ k))),
+      open_longer rest
+          (optional_then key.Semicolon last (fixed key.RightBrace ∷ k)),
+      optional_longer key.Semicolon last (fixed key.RightBrace ∷ k),
+    )

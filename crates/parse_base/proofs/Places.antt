@@ -1,5 +1,6 @@
 -- The tokens from a place on, and what is at the place.
-use Rattle.std.proofs.Common.{◌≡◌, ℕ, zero, suc, ◌+◌, ◌≤◌, ◌<◌, ◌⊎◌, inl, inr, min, List, [], ◌∷◌, length, drop, map, Bool, true, false, Option, Some, None, refl, sym, ap, ◌∙◌, arith, get_or, length-drop}
+use Rattle.std.proofs.Common.{◌≡◌, ℕ, zero, suc, ◌+◌, ◌≤◌, ◌<◌, ◌⊎◌, inl, inr, min, List, [], ◌∷◌, length, drop, map, Bool, true, false, Option, Some}
+use Rattle.std.proofs.Common.{None, refl, sym, ap, ◌∙◌, arith, get_or, length-drop}
 use Rattle.std.proofs.lemmas.List.{length-map, drop_more, drop_all}
 use Rattle.std.proofs.lemmas.Bool.{eqb-false}
 use Rattle.rotor_base.specs.declared.token.Class.{Class}
@@ -14,7 +15,8 @@ use Rattle.parse_base.specs.Gives.{lexeme, from, text_at, head_text, name_at, ki
 use Rattle.parse_base.proofs.Stepping.{same_is}
 
 -- the tokens from a place on, if there is a token at it
-pub from_there : (ts : List Token) (at : ℕ) (t : Token) → at < length ts → from ts at ≡ tok (get_or ts at t).class (at + 1) (get_or ts at t).bytes.now ∷ from ts (at + 1)
+pub from_there : (ts : List Token) (at : ℕ) (t : Token) → at < length ts
+    → from ts at ≡ tok (get_or ts at t).class (at + 1) (get_or ts at t).bytes.now ∷ from ts (at + 1)
 unfolding from
 from_there ts at t lt =
     let e : suc (at + 1) ≡ at + 1 + 1 = omega arith in
@@ -35,7 +37,8 @@ pub from_next : (ts : List Token) (at : ℕ) → at < length ts → (t : Tok) ×
 from_next [] at lt = absurd (omega (arith, lt))
 from_next (t ∷ ts) at lt = (tok (get_or (t ∷ ts) at t).class (at + 1) (get_or (t ∷ ts) at t).bytes.now, from_there (t ∷ ts) at t lt)
 
-sees_or : (c : Class) (o : Option Fixed) (at : ℕ) (text : List ℕ) (here next : List Tok) → here ≡ tok_or (word c (record { at = at; text = text })) at o ∷ next → Sees (kind_or c o) at text here next
+sees_or : (c : Class) (o : Option Fixed) (at : ℕ) (text : List ℕ) (here next : List Tok)
+    → here ≡ tok_or (word c (record { at = at; text = text })) at o ∷ next → Sees (kind_or c o) at text here next
 sees_or c None at text here next e = e
 sees_or c (Some x) at text here next e = e
 
@@ -44,10 +47,13 @@ sees class.Keyword at text here next e = sees_or class.Keyword (fixed_of text) a
 sees class.Mark at text here next e = sees_or class.Mark (fixed_of text) at text here next e
 sees _ at text here next e = e
 
-pub sees_token : (ts : List Token) (at : ℕ) (t : Token) → at < length ts → Sees (kind_of (get_or ts at t).class (get_or ts at t).bytes.now) (at + 1) (text_at ts at) (from ts at) (from ts (at + 1))
-sees_token ts at t lt = rw (text_there ts at t lt) (sees (get_or ts at t).class (at + 1) (get_or ts at t).bytes.now (from ts at) (from ts (at + 1)) (from_there ts at t lt))
+pub sees_token : (ts : List Token) (at : ℕ) (t : Token) → at < length ts → Sees (kind_of (get_or ts at t).class (get_or ts at t).bytes.now) (at + 1)
+    (text_at ts at) (from ts at) (from ts (at + 1))
+sees_token ts at t lt = rw (text_there ts at t lt)
+    (sees (get_or ts at t).class (at + 1) (get_or ts at t).bytes.now (from ts at) (from ts (at + 1)) (from_there ts at t lt))
 
-pub sees_when : (ts : List Token) (at : ℕ) (t : Token) (k : Kind) → at < length ts → k ≡ kind_of (get_or ts at t).class (get_or ts at t).bytes.now → Sees k (at + 1) (text_at ts at) (from ts at) (from ts (at + 1))
+pub sees_when : (ts : List Token) (at : ℕ) (t : Token) (k : Kind) → at < length ts → k ≡ kind_of (get_or ts at t).class (get_or ts at t).bytes.now
+    → Sees k (at + 1) (text_at ts at) (from ts at) (from ts (at + 1))
 sees_when ts at t k lt e = rw e (sees_token ts at t lt)
 
 is_there_or : (c : Class) (o : Option Fixed) (at n : ℕ) → at < n → IsThere (kind_or c o) at n
@@ -59,11 +65,13 @@ is_there class.Keyword text at n lt = is_there_or class.Keyword (fixed_of text) 
 is_there class.Mark text at n lt = is_there_or class.Mark (fixed_of text) at n lt
 is_there _ text at n lt = lt
 
-pub there_when : (ts : List Token) (at : ℕ) (t : Token) (k : Kind) → at < length ts → k ≡ kind_of (get_or ts at t).class (get_or ts at t).bytes.now → IsThere k at (length ts)
+pub there_when : (ts : List Token) (at : ℕ) (t : Token) (k : Kind) → at < length ts → k ≡ kind_of (get_or ts at t).class (get_or ts at t).bytes.now
+    → IsThere k at (length ts)
 there_when ts at t k lt e = rw e (is_there (get_or ts at t).class (get_or ts at t).bytes.now at (length ts) lt)
 
 -- the word of a token
-pub word_there : (ts : List Token) (at : ℕ) (t : Token) (number : ℕ) (text : List ℕ) → at < length ts → number ≡ at + 1 → text ≡ (get_or ts at t).bytes.now → from ts at ≡ tok (get_or ts at t).class number text ∷ from ts (at + 1)
+pub word_there : (ts : List Token) (at : ℕ) (t : Token) (number : ℕ) (text : List ℕ) → at < length ts → number ≡ at + 1
+    → text ≡ (get_or ts at t).bytes.now → from ts at ≡ tok (get_or ts at t).class number text ∷ from ts (at + 1)
 word_there ts at t number text lt n e = rw (n, e) (from_there ts at t lt)
 
 -- ---- equal fixed words
@@ -92,7 +100,8 @@ either (suc a) (suc b) = up (either a b)
     up (inl h) = inl (omega arith)
     up (inr h) = inr (omega arith)
 
-drop_step : (ts : List Token) (n at : ℕ) → drop n (from ts (at + 1)) ≡ from ts (at + 1 + n) → (at < length ts) ⊎ (length ts ≤ at) → drop (suc n) (from ts at) ≡ from ts (at + suc n)
+drop_step : (ts : List Token) (n at : ℕ) → drop n (from ts (at + 1)) ≡ from ts (at + 1 + n) → (at < length ts) ⊎ (length ts ≤ at)
+    → drop (suc n) (from ts at) ≡ from ts (at + suc n)
 drop_step ts n at h (inl lt) =
     let x = from_next ts at lt in
     let e : at + 1 + n ≡ at + suc n = omega arith in

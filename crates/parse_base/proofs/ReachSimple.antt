@@ -1,5 +1,6 @@
 -- No Simple pattern is missed, if none of its parts is.
-use Rattle.std.proofs.Common.{◌≡◌, ◌≢◌, ℕ, zero, suc, ◌<◌, ◌≤◌, List, [], ◌∷◌, ◌++◌, length, Bool, true, false, cond, if◌then◌else◌, Option, Some, None, refl, sym, ap, subst, ◌∙◌, arith}
+use Rattle.std.proofs.Common.{◌≡◌, ◌≢◌, ℕ, zero, suc, ◌<◌, ◌≤◌, List, [], ◌∷◌, ◌++◌, length, Bool, true, false, cond, if◌then◌else◌, Option, Some}
+use Rattle.std.proofs.Common.{None, refl, sym, ap, subst, ◌∙◌, arith}
 use Rattle.rotor_base.specs.declared.token.Class.{Class}
 use Rattle.rotor_base.specs.declared.token.Class.TheVariants as class
 use Rattle.ml_syntax.specs.declared.fixed.Fixed.{Fixed}
@@ -7,13 +8,17 @@ use Rattle.ml_syntax.specs.declared.fixed.Fixed.TheVariants as key
 use Rattle.ml_syntax.specs.declared.word.Bracket.{Bracket}
 use Rattle.ml_syntax.specs.declared.word.Bracket.TheVariants as bracket
 use Rattle.ml_syntax.specs.Tok.{Name, Tok, fixed, placed, word}
-use Rattle.ml_syntax.specs.Words.{pat_then, pats_then, pat_field_then, pat_fields_then, path_then, dotted_then, type_then, optional_then, open_then, opening, closing}
+use Rattle.ml_syntax.specs.Words.{pat_then, pats_then, pat_field_then, pat_fields_then, path_then, dotted_then, type_then, optional_then, open_then}
+use Rattle.ml_syntax.specs.Words.{opening, closing}
 use Rattle.ml_syntax.specs.Runs.{is_type_run}
 use Rattle.ml_syntax.specs.WellFormed.{WfName, WfType, WfPat, WfPats, WfPatField, WfPatFields, is_literal, is_number, is_minus, is_operator}
-use Rattle.ml_syntax.specs.Tree.{ValueName, PlainName, OperatorName, Pat, ValuePat, LiteralPat, NegativePat, RangePat, ConstrPat, BoolPat, ParenPat, TypedPat, EmptyPat, ListPat, RecordPat, OpenedPat, Pats, no_pat, more_pat, PatField, PunnedField, MatchedField, PatFields, no_pat_field, more_pat_field}
+use Rattle.ml_syntax.specs.Tree.{ValueName, PlainName, OperatorName, Pat, ValuePat, LiteralPat, NegativePat, RangePat, ConstrPat, BoolPat, ParenPat}
+use Rattle.ml_syntax.specs.Tree.{TypedPat, EmptyPat, ListPat, RecordPat, OpenedPat, Pats, no_pat, more_pat, PatField, PunnedField, MatchedField}
+use Rattle.ml_syntax.specs.Tree.{PatFields, no_pat_field, more_pat_field}
 use Rattle.parse_base.specs.Steps.{Read, ◌>>=◌, many, always}
 use Rattle.parse_base.specs.Pieces.{dot_upper, more_uppers, qualifiers, lower_word, optional_type}
-use Rattle.parse_base.specs.PatReading.{range_or, closed_by, opened_or, list_pat, record_pat, next_pat, more_pats, paren_pat, opened_part, upper_pat, bracket_pat, equals_part, field_pat, next_field, brace_pat, simple_pat, read_pat}
+use Rattle.parse_base.specs.PatReading.{range_or, closed_by, opened_or, list_pat, record_pat, next_pat, more_pats, paren_pat, opened_part, upper_pat}
+use Rattle.parse_base.specs.PatReading.{bracket_pat, equals_part, field_pat, next_field, brace_pat, simple_pat, read_pat}
 use Rattle.parse_base.proofs.Stepping.{some_is, from_some}
 use Rattle.parse_base.proofs.Reach.{Beyond, Reach, exact, farther, stop, no_turn, more_turns, expect_same}
 use Rattle.parse_base.proofs.FoundPat.{Finds, opened_ok, part_found, next_field_found, pat_found}
@@ -63,22 +68,30 @@ none_read m one found ts never = by (one ts) refl
 -- ---- which clause of a reading is taken
 
 module _ (sub : Read Pat) (n : ℕ) where
-  paren_by : (at : ℕ) (t : Tok) (r : List Tok) (b : Bool) → is_operator t ≡ b → (b ≡ true → ⊥) → cond b (Some (ValuePat (OperatorName at t), r)) (sub (t ∷ fixed key.RightParen ∷ r) >>= λ p. closed_by at p.0 p.1) ≡ (sub (t ∷ fixed key.RightParen ∷ r) >>= λ p. closed_by at p.0 p.1)
+  paren_by : (at : ℕ) (t : Tok) (r : List Tok) (b : Bool) → is_operator t ≡ b → (b ≡ true → ⊥)
+      → cond b (Some (ValuePat (OperatorName at t), r)) (sub (t ∷ fixed key.RightParen ∷ r) >>= λ p. closed_by at p.0 p.1)
+      ≡ (sub (t ∷ fixed key.RightParen ∷ r) >>= λ p. closed_by at p.0 p.1)
   paren_by at t r true h never = absurd (never refl)
   paren_by at t r false h never = refl
 
-  paren_first : (at : ℕ) (t : Tok) (rest : List Tok) → begins_pat t ≡ true → (is_operator t ≡ true → (c : Class) × (y : Name) × (r : List Tok) × (rest ≡ word c y ∷ r)) → paren_pat sub n at (t ∷ rest) ≡ (sub (t ∷ rest) >>= λ p. closed_by at p.0 p.1)
+  paren_first : (at : ℕ) (t : Tok) (rest : List Tok) → begins_pat t ≡ true
+      → (is_operator t ≡ true → (c : Class) × (y : Name) × (r : List Tok) × (rest ≡ word c y ∷ r))
+      → paren_pat sub n at (t ∷ rest) ≡ (sub (t ∷ rest) >>= λ p. closed_by at p.0 p.1)
   unfolding paren_pat
   paren_first at (fixed x) rest b behind = absurd cc
-  paren_first at (placed x at') (fixed key.RightParen ∷ r) b behind = paren_by at (placed x at') r (is_operator (placed x at')) refl (λ h. let q = behind h in absurd cc)
-  paren_first at (word c x) (fixed key.RightParen ∷ r) b behind = paren_by at (word c x) r (is_operator (word c x)) refl (λ h. let q = behind h in absurd cc)
+  paren_first at (placed x at') (fixed key.RightParen ∷ r) b behind = paren_by at (placed x at') r (is_operator (placed x at')) refl
+      (λ h. let q = behind h in absurd cc)
+  paren_first at (word c x) (fixed key.RightParen ∷ r) b behind =
+      paren_by at (word c x) r (is_operator (word c x)) refl (λ h. let q = behind h in absurd cc)
   paren_first at (placed x at') _ b behind = refl
   paren_first at (word c x) _ b behind = refl
 
   pub paren_else : (at : ℕ) (ts : List Tok) → Opens ts → paren_pat sub n at ts ≡ (sub ts >>= λ p. closed_by at p.0 p.1)
-  paren_else at ts o = subst (λ k. paren_pat sub n at k ≡ (sub k >>= λ p. closed_by at p.0 p.1)) (sym o.is) (paren_first at o.first o.rest o.begins o.behind)
+  paren_else at ts o = subst (λ k. paren_pat sub n at k ≡ (sub k >>= λ p. closed_by at p.0 p.1)) (sym o.is)
+      (paren_first at o.first o.rest o.begins o.behind)
 
-  bracket_first : (at : ℕ) (b : Bracket) (t : Tok) (rest : List Tok) → begins_pat t ≡ true → bracket_pat sub n at b (t ∷ rest) ≡ (sub (t ∷ rest) >>= λ p. list_pat at b p.0 (more_pats sub n key.Semicolon sub p.1))
+  bracket_first : (at : ℕ) (b : Bracket) (t : Tok) (rest : List Tok) → begins_pat t ≡ true
+      → bracket_pat sub n at b (t ∷ rest) ≡ (sub (t ∷ rest) >>= λ p. list_pat at b p.0 (more_pats sub n key.Semicolon sub p.1))
   unfolding bracket_pat
   bracket_first at b (fixed x) rest h = absurd cc
   bracket_first at bracket.List (placed x at') rest h = refl
@@ -86,8 +99,10 @@ module _ (sub : Read Pat) (n : ℕ) where
   bracket_first at bracket.List (word c x) rest h = refl
   bracket_first at bracket.Array (word c x) rest h = refl
 
-  pub bracket_else : (at : ℕ) (b : Bracket) (ts : List Tok) → Opens ts → bracket_pat sub n at b ts ≡ (sub ts >>= λ p. list_pat at b p.0 (more_pats sub n key.Semicolon sub p.1))
-  bracket_else at b ts o = subst (λ k. bracket_pat sub n at b k ≡ (sub k >>= λ p. list_pat at b p.0 (more_pats sub n key.Semicolon sub p.1))) (sym o.is) (bracket_first at b o.first o.rest o.begins)
+  pub bracket_else : (at : ℕ) (b : Bracket) (ts : List Tok) → Opens ts
+      → bracket_pat sub n at b ts ≡ (sub ts >>= λ p. list_pat at b p.0 (more_pats sub n key.Semicolon sub p.1))
+  bracket_else at b ts o = subst (λ k. bracket_pat sub n at b k ≡ (sub k >>= λ p. list_pat at b p.0 (more_pats sub n key.Semicolon sub p.1)))
+      (sym o.is) (bracket_first at b o.first o.rest o.begins)
 
 -- what is read from a pattern's words and more
 abbrev pub Hits : Pat → Type 0
@@ -119,7 +134,8 @@ unfolding simple_pat
 bool_read f at true r = refl
 bool_read f at false r = refl
 
-operator_read : (f at : ℕ) (t : Tok) (r : List Tok) → is_operator t ≡ true → simple_at f (placed key.LeftParen at ∷ t ∷ fixed key.RightParen ∷ r) ≡ Some (ValuePat (OperatorName at t), r)
+operator_read : (f at : ℕ) (t : Tok) (r : List Tok) → is_operator t ≡ true
+    → simple_at f (placed key.LeftParen at ∷ t ∷ fixed key.RightParen ∷ r) ≡ Some (ValuePat (OperatorName at t), r)
 unfolding simple_pat paren_pat
 operator_read f at (fixed x) r w = absurd cc
 operator_read f at (placed x at') r w = rw w refl
@@ -134,7 +150,8 @@ char_reach : (x : Name) (r : List Tok) → Reach (Goes 5 r) (LiteralPat class.Ch
 char_reach x (fixed key.DotDot ∷ word class.Char y ∷ ts) = farther (omega arith) (RangePat x y, ts) refl (omega arith)
 char_reach x _ = exact refl
 
-pub literal_reach : (f : ℕ) (c : Class) (x : Name) (r : List Tok) → is_literal c ≡ true → Reach (Goes 5 r) (LiteralPat c x) r (simple_at f (word c x ∷ r))
+pub literal_reach : (f : ℕ) (c : Class) (x : Name) (r : List Tok) → is_literal c ≡ true
+    → Reach (Goes 5 r) (LiteralPat c x) r (simple_at f (word c x ∷ r))
 unfolding simple_pat
 literal_reach f class.Int x r w = exact refl
 literal_reach f class.Float x r w = exact refl
@@ -151,7 +168,8 @@ literal_reach f class.Prefix x r w = absurd cc
 literal_reach f class.Infix x r w = absurd cc
 literal_reach f class.Mark x r w = absurd cc
 
-pub negative_read : (f : ℕ) (x : Name) (c : Class) (y : Name) (r : List Tok) → is_minus x.text ≡ true → is_number c ≡ true → simple_at f (word class.Infix x ∷ word c y ∷ r) ≡ Some (NegativePat x c y, r)
+pub negative_read : (f : ℕ) (x : Name) (c : Class) (y : Name) (r : List Tok) → is_minus x.text ≡ true → is_number c ≡ true
+    → simple_at f (word class.Infix x ∷ word c y ∷ r) ≡ Some (NegativePat x c y, r)
 unfolding simple_pat
 negative_read f x c y r m n = rw (m, n) refl
 
@@ -163,30 +181,40 @@ opened_goes f r x e =
     (subst (Goes 5) (sym q) (omega arith), omega (arith, ap length q, pat_more x.1 (fixed key.RightParen ∷ x.2)))
 
 dot_goes : (r : List Tok) (x : Name × List Tok) → dot_upper r ≡ Some x → Goes 5 r × (length x.1 < length r)
-dot_goes (fixed key.Dot ∷ word class.Upper y ∷ ts) x e = from_some (λ (z : Name × List Tok). Goes 5 (fixed key.Dot ∷ word class.Upper y ∷ ts) × (length z.1 < length (fixed key.Dot ∷ word class.Upper y ∷ ts))) e (omega arith, omega arith)
+dot_goes (fixed key.Dot ∷ word class.Upper y ∷ ts) x e =
+    from_some (λ (z : Name × List Tok). Goes 5 (fixed key.Dot ∷ word class.Upper y ∷ ts)
+    × (length z.1 < length (fixed key.Dot ∷ word class.Upper y ∷ ts))) e (omega arith, omega arith)
 dot_goes _ x e = absurd cc
 
-constr_here : (f : ℕ) (y : Name) (ys : List Name) (r : List Tok) (o : Option (ℕ × Pat × List Tok)) → opened_part (read_pat f) f r ≡ o → Reach (Goes 5 r) (ConstrPat (y ∷ ys)) r (Some (opened_or (y ∷ ys) r o))
+constr_here : (f : ℕ) (y : Name) (ys : List Name) (r : List Tok) (o : Option (ℕ × Pat × List Tok)) → opened_part (read_pat f) f r ≡ o
+    → Reach (Goes 5 r) (ConstrPat (y ∷ ys)) r (Some (opened_or (y ∷ ys) r o))
 constr_here f y ys r None e = exact refl
 constr_here f y ys r (Some x) e = let g = opened_goes f r x e in farther g.0 (OpenedPat (y ∷ ys) x.0 x.1, x.2) refl g.1
 
-opened_shorter : (f : ℕ) (path : List Name) (r : List Tok) (o : Option (ℕ × Pat × List Tok)) → opened_part (read_pat f) f r ≡ o → length (opened_or path r o).1 ≤ length r
+opened_shorter : (f : ℕ) (path : List Name) (r : List Tok) (o : Option (ℕ × Pat × List Tok)) → opened_part (read_pat f) f r ≡ o
+    → length (opened_or path r o).1 ≤ length r
 opened_shorter f path r None e = omega arith
 opened_shorter f path r (Some x) e = omega (arith, (opened_goes f r x e).1)
 
-constr_end : (f : ℕ) (y : Name) (ys : List Name) (r : List Tok) (more : List Name × List Tok) → Beyond (Goes 5 r) ys r (length r) (Some more) → Reach (Goes 5 r) (ConstrPat (y ∷ ys)) r (Some (opened_or (y ∷ more.0) more.1 (opened_part (read_pat f) f more.1)))
-constr_end f y ys r more (exact e) = let q = some_is e in subst (λ (m : List Name × List Tok). Reach (Goes 5 r) (ConstrPat (y ∷ ys)) r (Some (opened_or (y ∷ m.0) m.1 (opened_part (read_pat f) f m.1)))) (sym q) (constr_here f y ys r (opened_part (read_pat f) f r) refl)
+constr_end : (f : ℕ) (y : Name) (ys : List Name) (r : List Tok) (more : List Name × List Tok) → Beyond (Goes 5 r) ys r (length r) (Some more)
+    → Reach (Goes 5 r) (ConstrPat (y ∷ ys)) r (Some (opened_or (y ∷ more.0) more.1 (opened_part (read_pat f) f more.1)))
+constr_end f y ys r more (exact e) = let q = some_is e in
+    subst (λ (m : List Name × List Tok). Reach (Goes 5 r) (ConstrPat (y ∷ ys)) r (Some (opened_or (y ∷ m.0) m.1 (opened_part (read_pat f) f m.1))))
+    (sym q) (constr_here f y ys r (opened_part (read_pat f) f r) refl)
 constr_end f y ys r more (farther c x e lt) =
     let q = some_is e in
     farther c (opened_or (y ∷ more.0) more.1 (opened_part (read_pat f) f more.1)) refl
     (omega (arith, opened_shorter f (y ∷ more.0) more.1 (opened_part (read_pat f) f more.1) refl, ap (λ (m : List Name × List Tok). length m.1) q))
 
-pub constr_reach : (f : ℕ) (path : List Name) (r : List Tok) → path ≢ [] → length (path_then path r) ≤ suc f → Reach (Goes 5 r) (ConstrPat path) r (simple_at f (path_then path r))
+pub constr_reach : (f : ℕ) (path : List Name) (r : List Tok) → path ≢ [] → length (path_then path r) ≤ suc f
+    → Reach (Goes 5 r) (ConstrPat path) r (simple_at f (path_then path r))
 unfolding simple_pat upper_pat
 constr_reach f [] r w len = absurd (w refl)
-constr_reach f (y ∷ ys) r w len = constr_end f y ys r (more_uppers f (dotted_then ys r)) (uppers_reach (Goes 5 r) ys r f (omega arith) (λ x e. dot_goes r x e))
+constr_reach f (y ∷ ys) r w len =
+    constr_end f y ys r (more_uppers f (dotted_then ys r)) (uppers_reach (Goes 5 r) ys r f (omega arith) (λ x e. dot_goes r x e))
 
-pub opened_read : (f : ℕ) (path : List Name) (at : ℕ) (p : Pat) (r : List Tok) → path ≢ [] → Hits p → WfPat p → length (pat_then (OpenedPat path at p) r) ≤ suc f → simple_at f (pat_then (OpenedPat path at p) r) ≡ Some (OpenedPat path at p, r)
+pub opened_read : (f : ℕ) (path : List Name) (at : ℕ) (p : Pat) (r : List Tok) → path ≢ [] → Hits p → WfPat p
+    → length (pat_then (OpenedPat path at p) r) ≤ suc f → simple_at f (pat_then (OpenedPat path at p) r) ≡ Some (OpenedPat path at p, r)
 unfolding simple_pat upper_pat
 opened_read f [] at p r w hits wp len = absurd (w refl)
 opened_read f (y ∷ ys) at p r w hits wp len =
@@ -198,13 +226,15 @@ opened_read f (y ∷ ys) at p r w hits wp len =
 
 -- ---- parentheses
 
-pub paren_read : (f at : ℕ) (p : Pat) (r : List Tok) → Hits p → WfPat p → length (pat_then (ParenPat at p) r) ≤ suc f → simple_at f (pat_then (ParenPat at p) r) ≡ Some (ParenPat at p, r)
+pub paren_read : (f at : ℕ) (p : Pat) (r : List Tok) → Hits p → WfPat p → length (pat_then (ParenPat at p) r) ≤ suc f
+    → simple_at f (pat_then (ParenPat at p) r) ≡ Some (ParenPat at p, r)
 unfolding simple_pat
 paren_read f at p r hits w len =
     let inside = hit p hits w f (fixed key.RightParen ∷ r) (omega arith) (λ h. absurd (omega arith)) in
     paren_else (read_pat f) f at (pat_then p (fixed key.RightParen ∷ r)) (pat_opens p (fixed key.RightParen ∷ r) w) ∙ rw inside refl
 
-pub typed_read : (f at : ℕ) (p : Pat) (run r : List Tok) → Hits p → WfPat p → is_type_run run ≡ true → length (pat_then (TypedPat at p run) r) ≤ suc f → simple_at f (pat_then (TypedPat at p run) r) ≡ Some (TypedPat at p run, r)
+pub typed_read : (f at : ℕ) (p : Pat) (run r : List Tok) → Hits p → WfPat p → is_type_run run ≡ true → length (pat_then (TypedPat at p run) r) ≤ suc f
+    → simple_at f (pat_then (TypedPat at p run) r) ≡ Some (TypedPat at p run, r)
 unfolding simple_pat
 typed_read f at p run r hits w t len =
     let rest : List Tok = fixed key.Colon ∷ (run ++ (fixed key.RightParen ∷ r)) in
@@ -228,29 +258,36 @@ rest_ends (more_pat p ps) tail never h = absurd (omega arith)
 sub_none : (f : ℕ) (k : Fixed) (r : List Tok) → read_pat f (fixed k ∷ r) ≡ None
 sub_none f k r = none_read 0 (read_pat f) (pat_found f) (fixed k ∷ r) (fixed_opens_none k r)
 
-next_none : (f : ℕ) (r : List Tok) (b : Bracket) (last : Bool) → next_pat (read_pat f) f key.Semicolon (read_pat f) (optional_then key.Semicolon last (fixed (closing b) ∷ r)) ≡ None
+next_none : (f : ℕ) (r : List Tok) (b : Bracket) (last : Bool)
+    → next_pat (read_pat f) f key.Semicolon (read_pat f) (optional_then key.Semicolon last (fixed (closing b) ∷ r)) ≡ None
 next_none f r bracket.List true = sub_none f key.RightBracket r
 next_none f r bracket.Array true = sub_none f key.RightArray r
 next_none f r bracket.List false = refl
 next_none f r bracket.Array false = refl
 
-next_shorter : (f : ℕ) (sep : Fixed) (m : ℕ) (one : Read Pat) → Finds m one → (ts : List Tok) (x : Pat × List Tok) → next_pat (read_pat f) f sep one ts ≡ Some x → length x.1 < length ts
+next_shorter : (f : ℕ) (sep : Fixed) (m : ℕ) (one : Read Pat) → Finds m one → (ts : List Tok) (x : Pat × List Tok)
+    → next_pat (read_pat f) f sep one ts ≡ Some x → length x.1 < length ts
 next_shorter f sep m one found ts x e =
     let p = part_found (read_pat f) f (pat_found f) m sep one found ts x e in
     omega (arith, ap length p.1, ap length p.2.words, pat_more x.0 x.1)
 
-row_read : (f : ℕ) (ps : Pats) (tail : List Tok) → AllHit ps → WfPats 0 ps → next_pat (read_pat f) f key.Semicolon (read_pat f) tail ≡ None → (Goes 0 tail → ⊥) → (n : ℕ) → length (pats_then key.Semicolon ps tail) ≤ n → n ≤ f
+row_read : (f : ℕ) (ps : Pats) (tail : List Tok) → AllHit ps → WfPats 0 ps → next_pat (read_pat f) f key.Semicolon (read_pat f) tail ≡ None
+    → (Goes 0 tail → ⊥) → (n : ℕ) → length (pats_then key.Semicolon ps tail) ≤ n → n ≤ f
     → Reach ⊥ ps tail (Some (many no_pat more_pat always (next_pat (read_pat f) f key.Semicolon (read_pat f)) n (pats_then key.Semicolon ps tail)))
-row_read f no_pat tail hits w none never n len le = no_turn no_pat more_pat always (next_pat (read_pat f) f key.Semicolon (read_pat f)) (next_shorter f key.Semicolon 0 (read_pat f) (pat_found f)) ⊥ true tail (length tail) n (λ _ x e. absurd cc)
+row_read f no_pat tail hits w none never n len le = no_turn no_pat more_pat always (next_pat (read_pat f) f key.Semicolon (read_pat f))
+    (next_shorter f key.Semicolon 0 (read_pat f) (pat_found f)) ⊥ true tail (length tail) n (λ _ x e. absurd cc)
 row_read f (more_pat p ps) tail hits w none never zero len le = absurd (omega arith)
 row_read f (more_pat p ps) tail hits w none never (suc n) len le =
     let rest : List Tok = pats_then key.Semicolon ps tail in
     let longer = pat_longer p rest w.1 in
-    let part = ap (λ o. o >>= read_pat f) (expect_same key.Semicolon (pat_then p rest)) ∙ hit p hits.0 w.1 f rest (omega (arith, longer)) (rest_ends ps tail never) in
-    more_turns no_pat more_pat always (next_pat (read_pat f) f key.Semicolon (read_pat f)) (next_shorter f key.Semicolon 0 (read_pat f) (pat_found f)) ⊥ p ps tail (fixed key.Semicolon ∷ pat_then p rest) rest (length tail) n part refl
+    let part = ap (λ o. o >>= read_pat f) (expect_same key.Semicolon (pat_then p rest))
+    ∙ hit p hits.0 w.1 f rest (omega (arith, longer)) (rest_ends ps tail never) in
+    more_turns no_pat more_pat always (next_pat (read_pat f) f key.Semicolon (read_pat f)) (next_shorter f key.Semicolon 0 (read_pat f) (pat_found f))
+    ⊥ p ps tail (fixed key.Semicolon ∷ pat_then p rest) rest (length tail) n part refl
     (row_read f ps tail hits.1 w.2 none never n (omega (arith, longer)) (omega arith))
 
-close_read : (at : ℕ) (b : Bracket) (p : Pat) (ps : Pats) (last : Bool) (r : List Tok) → list_pat at b p (ps, optional_then key.Semicolon last (fixed (closing b) ∷ r)) ≡ Some (ListPat at b p ps last, r)
+close_read : (at : ℕ) (b : Bracket) (p : Pat) (ps : Pats) (last : Bool) (r : List Tok)
+    → list_pat at b p (ps, optional_then key.Semicolon last (fixed (closing b) ∷ r)) ≡ Some (ListPat at b p ps last, r)
 close_read at bracket.List p ps true r = refl
 close_read at bracket.Array p ps true r = refl
 close_read at bracket.List p ps false r = refl
@@ -266,14 +303,18 @@ unfolding simple_pat bracket_pat
 empty_read f at bracket.List r = refl
 empty_read f at bracket.Array r = refl
 
-pub list_read : (f at : ℕ) (b : Bracket) (p : Pat) (ps : Pats) (last : Bool) (r : List Tok) → Hits p → AllHit ps → WfPat p → WfPats 0 ps → length (pat_then (ListPat at b p ps last) r) ≤ suc f → simple_at f (pat_then (ListPat at b p ps last) r) ≡ Some (ListPat at b p ps last, r)
+pub list_read : (f at : ℕ) (b : Bracket) (p : Pat) (ps : Pats) (last : Bool) (r : List Tok) → Hits p → AllHit ps → WfPat p → WfPats 0 ps
+    → length (pat_then (ListPat at b p ps last) r) ≤ suc f → simple_at f (pat_then (ListPat at b p ps last) r) ≡ Some (ListPat at b p ps last, r)
 list_read f at b p ps last r hits all w ws len =
     let tail : List Tok = optional_then key.Semicolon last (fixed (closing b) ∷ r) in
     let rest : List Tok = pats_then key.Semicolon ps tail in
     let longer = pat_longer p rest w in
     let first = hit p hits w f rest (omega arith) (rest_ends ps tail (ends_by r b last)) in
-    let row = some_is (stop {C = ⊥} (λ c. c) (row_read f ps tail all ws (next_none f r b last) (ends_by r b last) f (omega (arith, longer)) (omega arith))) in
-    simple_bracket f at b (pat_then p rest) ∙ bracket_else (read_pat f) f at b (pat_then p rest) (pat_opens p rest w) ∙ ap (λ o. o >>= λ x. list_pat at b x.0 (more_pats (read_pat f) f key.Semicolon (read_pat f) x.1)) first ∙ ap (list_pat at b p) row ∙ close_read at b p ps last r
+    let row = some_is (stop {C = ⊥} (λ c. c)
+    (row_read f ps tail all ws (next_none f r b last) (ends_by r b last) f (omega (arith, longer)) (omega arith))) in
+    simple_bracket f at b (pat_then p rest) ∙ bracket_else (read_pat f) f at b (pat_then p rest) (pat_opens p rest w)
+    ∙ ap (λ o. o >>= λ x. list_pat at b x.0 (more_pats (read_pat f) f key.Semicolon (read_pat f) x.1)) first ∙ ap (list_pat at b p) row
+    ∙ close_read at b p ps last r
 
 -- ---- records
 
@@ -294,10 +335,12 @@ no_equals : (f : ℕ) (k : List Tok) → EndsField k → equals_part (read_pat f
 no_equals f _ (by_semicolon r) = refl
 no_equals f _ (by_brace r) = refl
 
-equals_read : (f at : ℕ) (p : Pat) (k : List Tok) → Hits p → WfPat p → EndsField k → length (pat_then p k) ≤ f → equals_part (read_pat f) f (placed key.Equals at ∷ pat_then p k) ≡ Some (at, p, k)
+equals_read : (f at : ℕ) (p : Pat) (k : List Tok) → Hits p → WfPat p → EndsField k → length (pat_then p k) ≤ f
+    → equals_part (read_pat f) f (placed key.Equals at ∷ pat_then p k) ≡ Some (at, p, k)
 equals_read f at p k hits w ends len = let inside = hit p hits w f k len (ends_goes k ends) in rw inside refl
 
-field_read : (f : ℕ) (x : PatField) (k : List Tok) → FieldHits x → WfPatField x → EndsField k → length (pat_field_then x k) ≤ f → field_pat (read_pat f) f (pat_field_then x k) ≡ Some (x, k)
+field_read : (f : ℕ) (x : PatField) (k : List Tok) → FieldHits x → WfPatField x → EndsField k → length (pat_field_then x k) ≤ f
+    → field_pat (read_pat f) f (pat_field_then x k) ≡ Some (x, k)
 unfolding field_pat
 field_read f (PunnedField path x run) k hits w ends len =
     let q = qualifiers_reach path (word class.Lower x ∷ type_then run k) f len refl in
@@ -342,35 +385,45 @@ underscore_qualifiers (suc f) at r = refl
 no_field : (f : ℕ) (rest : Option ℕ) (last : Bool) (r : List Tok) → next_field (read_pat f) f (record_end rest last r) ≡ None
 no_field f None true r = field_none f (fixed key.RightBrace ∷ r) (fixed_qualifiers f key.RightBrace r) refl
 no_field f None false r = refl
-no_field f (Some at) last r = field_none f (placed key.Underscore at ∷ optional_then key.Semicolon last (fixed key.RightBrace ∷ r)) (underscore_qualifiers f at (optional_then key.Semicolon last (fixed key.RightBrace ∷ r))) refl
+no_field f (Some at) last r = field_none f (placed key.Underscore at ∷ optional_then key.Semicolon last (fixed key.RightBrace ∷ r))
+    (underscore_qualifiers f at (optional_then key.Semicolon last (fixed key.RightBrace ∷ r))) refl
 
 field_shorter : (f : ℕ) (ts : List Tok) (x : PatField × List Tok) → next_field (read_pat f) f ts ≡ Some x → length x.1 < length ts
 field_shorter f ts x e =
     let p = next_field_found (read_pat f) f (pat_found f) ts x e in
     omega (arith, ap length p.1, ap length p.2.words, field_more x.0 x.1)
 
-fields_read : (f : ℕ) (fs : PatFields) (rest : Option ℕ) (last : Bool) (r : List Tok) → FieldsHit fs → WfPatFields fs → (n : ℕ) → length (pat_fields_then fs (record_end rest last r)) ≤ n → n ≤ f
-    → Reach ⊥ fs (record_end rest last r) (Some (many no_pat_field more_pat_field always (next_field (read_pat f) f) n (pat_fields_then fs (record_end rest last r))))
-fields_read f no_pat_field rest last r hits w n len le = no_turn no_pat_field more_pat_field always (next_field (read_pat f) f) (field_shorter f) ⊥ true (record_end rest last r) (length (record_end rest last r)) n (λ _ x e. let none = no_field f rest last r in absurd cc)
+fields_read : (f : ℕ) (fs : PatFields) (rest : Option ℕ) (last : Bool) (r : List Tok) → FieldsHit fs → WfPatFields fs → (n : ℕ)
+    → length (pat_fields_then fs (record_end rest last r)) ≤ n → n ≤ f
+    → Reach ⊥ fs (record_end rest last r)
+    (Some (many no_pat_field more_pat_field always (next_field (read_pat f) f) n (pat_fields_then fs (record_end rest last r))))
+fields_read f no_pat_field rest last r hits w n len le = no_turn no_pat_field more_pat_field always (next_field (read_pat f) f)
+    (field_shorter f) ⊥ true (record_end rest last r) (length (record_end rest last r)) n (λ _ x e. let none = no_field f rest last r in absurd cc)
 fields_read f (more_pat_field x fs) rest last r hits w zero len le = absurd (omega arith)
 fields_read f (more_pat_field x fs) rest last r hits w (suc n) len le =
     let k : List Tok = pat_fields_then fs (record_end rest last r) in
     let longer = field_more x k in
-    let part = ap (λ o. o >>= field_pat (read_pat f) f) (expect_same key.Semicolon (pat_field_then x k)) ∙ field_read f x k hits.0 w.0 (fields_end fs rest last r) (omega arith) in
-    more_turns no_pat_field more_pat_field always (next_field (read_pat f) f) (field_shorter f) ⊥ x fs (record_end rest last r) (fixed key.Semicolon ∷ pat_field_then x k) k (length (record_end rest last r)) n part refl
+    let part = ap (λ o. o >>= field_pat (read_pat f) f) (expect_same key.Semicolon (pat_field_then x k))
+    ∙ field_read f x k hits.0 w.0 (fields_end fs rest last r) (omega arith) in
+    more_turns no_pat_field more_pat_field always (next_field (read_pat f) f) (field_shorter f) ⊥ x fs (record_end rest last r)
+    (fixed key.Semicolon ∷ pat_field_then x k) k (length (record_end rest last r)) n part refl
     (fields_read f fs rest last r hits.1 w.1 n (omega (arith, longer)) (omega arith))
 
-record_close : (at : ℕ) (x : PatField) (fs : PatFields) (rest : Option ℕ) (last : Bool) (r : List Tok) → record_pat at x (fs, record_end rest last r) ≡ Some (RecordPat at x fs rest last, r)
+record_close : (at : ℕ) (x : PatField) (fs : PatFields) (rest : Option ℕ) (last : Bool) (r : List Tok)
+    → record_pat at x (fs, record_end rest last r) ≡ Some (RecordPat at x fs rest last, r)
 record_close at x fs None true r = refl
 record_close at x fs None false r = refl
 record_close at x fs (Some at') true r = refl
 record_close at x fs (Some at') false r = refl
 
-pub record_read : (f at : ℕ) (x : PatField) (fs : PatFields) (rest : Option ℕ) (last : Bool) (r : List Tok) → FieldHits x → FieldsHit fs → WfPatField x → WfPatFields fs → length (pat_then (RecordPat at x fs rest last) r) ≤ suc f → simple_at f (pat_then (RecordPat at x fs rest last) r) ≡ Some (RecordPat at x fs rest last, r)
+pub record_read : (f at : ℕ) (x : PatField) (fs : PatFields) (rest : Option ℕ) (last : Bool) (r : List Tok) → FieldHits x → FieldsHit fs
+    → WfPatField x → WfPatFields fs → length (pat_then (RecordPat at x fs rest last) r) ≤ suc f
+    → simple_at f (pat_then (RecordPat at x fs rest last) r) ≡ Some (RecordPat at x fs rest last, r)
 unfolding simple_pat brace_pat
 record_read f at x fs rest last r hits all w ws len =
     let k : List Tok = pat_fields_then fs (record_end rest last r) in
     let longer = field_more x k in
     let first = field_read f x k hits w (fields_end fs rest last r) (omega arith) in
     let row = some_is (stop {C = ⊥} (λ c. c) (fields_read f fs rest last r all ws f (omega (arith, longer)) (omega arith))) in
-    ap (λ o. o >>= λ y. record_pat at y.0 (many no_pat_field more_pat_field always (next_field (read_pat f) f) f y.1)) first ∙ ap (record_pat at x) row ∙ record_close at x fs rest last r
+    ap (λ o. o >>= λ y. record_pat at y.0 (many no_pat_field more_pat_field always (next_field (read_pat f) f) f y.1)) first
+    ∙ ap (record_pat at x) row ∙ record_close at x fs rest last r

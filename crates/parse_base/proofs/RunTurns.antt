@@ -1,5 +1,6 @@
 -- Reading a run, one token after the other.
-use Rattle.std.proofs.Common.{◌≡◌, ℕ, zero, suc, ◌+◌, ◌-◌, ◌<◌, ◌≤◌, List, [], ◌∷◌, ◌++◌, ◌==◌, length, take, drop, map, reverse, Bool, true, false, cond, Option, Some, None, refl, sym, ap, ◌∙◌, arith}
+use Rattle.std.proofs.Common.{◌≡◌, ℕ, zero, suc, ◌+◌, ◌-◌, ◌<◌, ◌≤◌, List, [], ◌∷◌, ◌++◌, ◌==◌, length, take, drop, map, reverse, Bool, true, false}
+use Rattle.std.proofs.Common.{cond, Option, Some, None, refl, sym, ap, ◌∙◌, arith}
 use Rattle.std.proofs.lemmas.Bool.{eqb-true}
 use Rattle.std.proofs.lemmas.List.{length-reverse}
 use Rattle.ml_syntax.specs.declared.word.Word.{Word}
@@ -87,11 +88,13 @@ module _ (outside inside : Tok → Bool) where
   stopped [] count done h k = found_before count done h (k refl)
   stopped (x ∷ xs) count done h k = refl
 
-  pub run_ends : (xs : List Fixed) (count done : ℕ) (here : List Tok) (whole : Option ℕ) → here ≡ [] → 0 < done → (xs ≡ [] → count ≡ done) → Later xs count done here ≡ whole → counted count ≡ whole
+  pub run_ends : (xs : List Fixed) (count done : ℕ) (here : List Tok) (whole : Option ℕ) → here ≡ [] → 0 < done → (xs ≡ [] → count ≡ done)
+      → Later xs count done here ≡ whole → counted count ≡ whole
   unfolding longest
   run_ends xs count done here whole e h k l = sym (stopped xs count done h k) ∙ sym (ap (Later xs count done) e) ∙ l
 
-  pub run_stops : (xs : List Fixed) (count done : ℕ) (here : List Tok) (whole : Option ℕ) → first_after outside inside here xs ≡ None → 0 < done → (xs ≡ [] → count ≡ done) → Later xs count done here ≡ whole → counted count ≡ whole
+  pub run_stops : (xs : List Fixed) (count done : ℕ) (here : List Tok) (whole : Option ℕ) → first_after outside inside here xs ≡ None → 0 < done
+      → (xs ≡ [] → count ≡ done) → Later xs count done here ≡ whole → counted count ≡ whole
   unfolding longest
   run_stops xs count done [] whole e h k l = sym (stopped xs count done h k) ∙ l
   run_stops xs count done (t ∷ ts) whole e h k l =
@@ -107,16 +110,20 @@ module _ (outside inside : Tok → Bool) where
       by None e = absurd cc
       by (Some n) e = absurd cc
 
-  on_by : (xs ys : List Fixed) (count done : ℕ) (o : Option ℕ) → (ys ≡ [] → o ≡ None → ⊥) → 0 < done → (xs ≡ [] → count ≡ done) → or_later (count_after ys (done + 1) count) (done + 1) o ≡ or_later count done (one_more o (or_none (Some xs)))
+  on_by : (xs ys : List Fixed) (count done : ℕ) (o : Option ℕ) → (ys ≡ [] → o ≡ None → ⊥) → 0 < done → (xs ≡ [] → count ≡ done)
+      → or_later (count_after ys (done + 1) count) (done + 1) o ≡ or_later count done (one_more o (or_none (Some xs)))
   on_by xs ys count done (Some n) never h k = let e : done + 1 + n ≡ done + suc n = omega arith in ap Some e
   on_by xs [] count done None never h k = absurd (never refl refl)
   on_by xs (y ∷ ys) count done None never h k = ap counted (kept_count y ys (done + 1) count) ∙ sym (stopped xs count done h k)
 
-  pub run_goes_on : (xs ys : List Fixed) (count done : ℕ) (t : Tok) (next : List Tok) (whole : Option ℕ) → first_after outside inside (t ∷ next) xs ≡ Some ys → 0 < done → (xs ≡ [] → count ≡ done) → Later xs count done (t ∷ next) ≡ whole → Later ys (count_after ys (done + 1) count) (done + 1) next ≡ whole
+  pub run_goes_on : (xs ys : List Fixed) (count done : ℕ) (t : Tok) (next : List Tok) (whole : Option ℕ)
+      → first_after outside inside (t ∷ next) xs ≡ Some ys → 0 < done → (xs ≡ [] → count ≡ done) → Later xs count done (t ∷ next) ≡ whole
+      → Later ys (count_after ys (done + 1) count) (done + 1) next ≡ whole
   unfolding longest
   run_goes_on xs ys count done t next whole e h k l =
       let one : longest outside inside (Some xs) (t ∷ next) ≡ one_more (longest outside inside (Some ys) next) (or_none (Some xs)) = rw e refl in
-      on_by xs ys count done (longest outside inside (Some ys) next) (λ e' o. never_none next (sym (ap (λ (z : List Fixed). longest outside inside (Some z) next) e') ∙ o)) h k
+      on_by xs ys count done (longest outside inside (Some ys) next)
+      (λ e' o. never_none next (sym (ap (λ (z : List Fixed). longest outside inside (Some z) next) e') ∙ o)) h k
       ∙ sym (ap (or_later count done) one) ∙ l
 
 -- ---- the first token
@@ -132,10 +139,14 @@ begun ys (Some n) never = let e : 1 + n ≡ suc n = omega arith in ap Some e
 begun [] None never = absurd (never refl refl)
 begun (y ∷ ys) None never = ap counted (kept_count y ys 1 0)
 
-pub run_begins : (k : RunKind) (t : Tok) (next here : List Tok) (ys : List Fixed) → here ≡ t ∷ next → first_after (is_first k) (is_inside k) here [] ≡ Some ys → or_later (count_after ys 1 0) 1 (longest (is_beside k) (is_inside k) (Some ys) next) ≡ run_length k here
+pub run_begins : (k : RunKind) (t : Tok) (next here : List Tok) (ys : List Fixed) → here ≡ t ∷ next
+    → first_after (is_first k) (is_inside k) here [] ≡ Some ys → or_later (count_after ys 1 0) 1 (longest (is_beside k) (is_inside k) (Some ys) next)
+    ≡ run_length k here
 run_begins k t next here ys p e =
-    let e' : first_after (is_first k) (is_inside k) (t ∷ next) [] ≡ Some ys = ap (λ (h : List Tok). first_after (is_first k) (is_inside k) h []) (sym p) ∙ e in
-    rw (p, e') (begun ys (longest (is_beside k) (is_inside k) (Some ys) next) (λ q o. never_none (is_beside k) (is_inside k) next (sym (ap (λ (z : List Fixed). longest (is_beside k) (is_inside k) (Some z) next) q) ∙ o)))
+    let e' : first_after (is_first k) (is_inside k) (t ∷ next) [] ≡ Some ys = ap (λ (h : List Tok). first_after (is_first k) (is_inside k) h [])
+    (sym p) ∙ e in
+    rw (p, e') (begun ys (longest (is_beside k) (is_inside k) (Some ys) next)
+    (λ q o. never_none (is_beside k) (is_inside k) next (sym (ap (λ (z : List Fixed). longest (is_beside k) (is_inside k) (Some z) next) q) ∙ o)))
 
 -- ---- the tokens of a run
 
@@ -149,12 +160,16 @@ map_last : (xs : List Word) (w : Word) → map view_tok (xs ++ w ∷ []) ≡ map
 map_last [] w = refl
 map_last (x ∷ xs) w = ap (λ (k : List Tok). view_tok x ∷ k) (map_last xs w)
 
-pub word_pushed : (ts : List Token) (at next : ℕ) (xs ys : List Word) (w : Word) → at ≤ next → ys ≡ xs ++ w ∷ [] → from ts next ≡ view_tok w ∷ from ts (next + 1) → map view_tok xs ≡ take (next - at) (from ts at) → map view_tok ys ≡ take (next + 1 - at) (from ts at)
+pub word_pushed : (ts : List Token) (at next : ℕ) (xs ys : List Word) (w : Word) → at ≤ next → ys ≡ xs ++ w ∷ []
+    → from ts next ≡ view_tok w ∷ from ts (next + 1) → map view_tok xs ≡ take (next - at) (from ts at)
+    → map view_tok ys ≡ take (next + 1 - at) (from ts at)
 word_pushed ts at next xs ys w le p q h =
     let e : at + (next - at) ≡ next = omega arith in
     let m : next + 1 - at ≡ suc (next - at) = omega arith in
     let d : drop (next - at) (from ts at) ≡ view_tok w ∷ from ts (next + 1) = from_drop ts (next - at) at ∙ ap (from ts) e ∙ q in
-    ap (map view_tok) p ∙ map_last xs w ∙ ap (λ (k : List Tok). k ++ view_tok w ∷ []) h ∙ sym (take_next (next - at) (from ts at) (view_tok w) (from ts (next + 1)) d) ∙ sym (ap (λ (k : ℕ). take k (from ts at)) m)
+    ap (map view_tok) p ∙ map_last xs w ∙ ap (λ (k : List Tok). k ++ view_tok w ∷ []) h
+    ∙ sym (take_next (next - at) (from ts at) (view_tok w) (from ts (next + 1)) d) ∙ sym (ap (λ (k : ℕ). take k (from ts at)) m)
 
-pub cut_there : (ts : List Token) (at n : ℕ) (o : Option ℕ) (words : List Tok) → o ≡ Some n → words ≡ take n (from ts at) → cut_at (from ts at) o ≡ Some (words, from ts (at + n))
+pub cut_there : (ts : List Token) (at n : ℕ) (o : Option ℕ) (words : List Tok) → o ≡ Some n → words ≡ take n (from ts at)
+    → cut_at (from ts at) o ≡ Some (words, from ts (at + n))
 cut_there ts at n o words e w = rw (e, w) (ap (λ (k : List Tok). Some (take n (from ts at), k)) (from_drop ts n at))

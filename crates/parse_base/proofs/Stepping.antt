@@ -18,7 +18,64 @@ bind_ok None f y e = absurd cc
 bind_ok (Some x) f y e = (x, refl, e)
 
 uncode : ℕ → Fixed
-uncode n = cond (eqb n 0) key.And (cond (eqb n 1) key.As (cond (eqb n 2) key.Assert (cond (eqb n 3) key.Begin (cond (eqb n 4) key.Constraint (cond (eqb n 5) key.Do (cond (eqb n 6) key.Done (cond (eqb n 7) key.Downto (cond (eqb n 8) key.Else (cond (eqb n 9) key.End (cond (eqb n 10) key.Exception (cond (eqb n 11) key.External (cond (eqb n 12) key.False (cond (eqb n 13) key.For (cond (eqb n 14) key.Fun (cond (eqb n 15) key.Function (cond (eqb n 16) key.Functor (cond (eqb n 17) key.If (cond (eqb n 18) key.In (cond (eqb n 19) key.Include (cond (eqb n 20) key.Lazy (cond (eqb n 21) key.Let (cond (eqb n 22) key.Match (cond (eqb n 23) key.Module (cond (eqb n 24) key.Mutable (cond (eqb n 25) key.Nonrec (cond (eqb n 26) key.Of (cond (eqb n 27) key.Open (cond (eqb n 28) key.Private (cond (eqb n 29) key.Rec (cond (eqb n 30) key.Sig (cond (eqb n 31) key.Struct (cond (eqb n 32) key.Then (cond (eqb n 33) key.To (cond (eqb n 34) key.True (cond (eqb n 35) key.Try (cond (eqb n 36) key.Type (cond (eqb n 37) key.Val (cond (eqb n 38) key.When (cond (eqb n 39) key.While (cond (eqb n 40) key.With (cond (eqb n 41) key.Underscore (cond (eqb n 42) key.LeftParen (cond (eqb n 43) key.RightParen (cond (eqb n 44) key.LeftBracket (cond (eqb n 45) key.RightBracket (cond (eqb n 46) key.LeftBrace (cond (eqb n 47) key.RightBrace (cond (eqb n 48) key.LeftArray (cond (eqb n 49) key.RightArray (cond (eqb n 50) key.LeftLess (cond (eqb n 51) key.LeftGreater (cond (eqb n 52) key.Semicolon (cond (eqb n 53) key.DoubleSemicolon (cond (eqb n 54) key.Comma (cond (eqb n 55) key.Dot (cond (eqb n 56) key.DotDot (cond (eqb n 57) key.Colon (cond (eqb n 58) key.ColonColon (cond (eqb n 59) key.ColonGreater (cond (eqb n 60) key.Arrow (cond (eqb n 61) key.LeftArrow (cond (eqb n 62) key.Bar (cond (eqb n 63) key.Equals (cond (eqb n 64) key.Tilde key.Question))))))))))))))))))))))))))))))))))))))))))))))))))))))))))))))))
+uncode n = cond (eqb n 0) key.And
+    (cond (eqb n 1) key.As (cond (eqb n 2) key.Assert
+    (cond (eqb n 3) key.Begin
+    (cond (eqb n 4) key.Constraint
+    (cond (eqb n 5) key.Do (cond (eqb n 6) key.Done
+    (cond (eqb n 7) key.Downto
+    (cond (eqb n 8) key.Else
+    (cond (eqb n 9) key.End (cond (eqb n 10) key.Exception
+    (cond (eqb n 11) key.External
+    (cond (eqb n 12) key.False
+    (cond (eqb n 13) key.For
+    (cond (eqb n 14) key.Fun
+    (cond (eqb n 15) key.Function
+    (cond (eqb n 16) key.Functor
+    (cond (eqb n 17) key.If (cond (eqb n 18) key.In
+    (cond (eqb n 19) key.Include
+    (cond (eqb n 20) key.Lazy
+    (cond (eqb n 21) key.Let
+    (cond (eqb n 22) key.Match
+    (cond (eqb n 23) key.Module
+    (cond (eqb n 24) key.Mutable
+    (cond (eqb n 25) key.Nonrec
+    (cond (eqb n 26) key.Of (cond (eqb n 27) key.Open
+    (cond (eqb n 28) key.Private
+    (cond (eqb n 29) key.Rec
+    (cond (eqb n 30) key.Sig
+    (cond (eqb n 31) key.Struct
+    (cond (eqb n 32) key.Then
+    (cond (eqb n 33) key.To (cond (eqb n 34) key.True
+    (cond (eqb n 35) key.Try
+    (cond (eqb n 36) key.Type
+    (cond (eqb n 37) key.Val
+    (cond (eqb n 38) key.When
+    (cond (eqb n 39) key.While
+    (cond (eqb n 40) key.With
+    (cond (eqb n 41) key.Underscore
+    (cond (eqb n 42) key.LeftParen
+    (cond (eqb n 43) key.RightParen
+    (cond (eqb n 44) key.LeftBracket
+    (cond (eqb n 45) key.RightBracket
+    (cond (eqb n 46) key.LeftBrace
+    (cond (eqb n 47) key.RightBrace
+    (cond (eqb n 48) key.LeftArray
+    (cond (eqb n 49) key.RightArray
+    (cond (eqb n 50) key.LeftLess
+    (cond (eqb n 51) key.LeftGreater
+    (cond (eqb n 52) key.Semicolon
+    (cond (eqb n 53) key.DoubleSemicolon
+    (cond (eqb n 54) key.Comma
+    (cond (eqb n 55) key.Dot
+    (cond (eqb n 56) key.DotDot
+    (cond (eqb n 57) key.Colon
+    (cond (eqb n 58) key.ColonColon
+    (cond (eqb n 59) key.ColonGreater
+    (cond (eqb n 60) key.Arrow
+    (cond (eqb n 61) key.LeftArrow
+    (cond (eqb n 62) key.Bar
+    (cond (eqb n 63) key.Equals (cond (eqb n 64) key.Tilde key.Question))))))))))))))))))))))))))))))))))))))))))))))))))))))))))))))))
 
 uncode-code : (a : Fixed) → uncode (code a) ≡ a
 unfolding uncode
@@ -101,7 +158,8 @@ expect_ok k (fixed j ∷ ts) r e = expect_by k j ts r (same j k) (same_is j k) e
 expect_ok k [] r e = absurd cc
 expect_ok k (_ ∷ ts) r e = absurd cc
 
-place_by : (k j : Fixed) (at : ℕ) (ts : List Tok) (x : ℕ × List Tok) (b : Bool) → (b ≡ true → j ≡ k) → cond b (Some (at, ts)) None ≡ Some x → placed j at ∷ ts ≡ placed k x.0 ∷ x.1
+place_by : (k j : Fixed) (at : ℕ) (ts : List Tok) (x : ℕ × List Tok) (b : Bool) → (b ≡ true → j ≡ k) → cond b (Some (at, ts)) None ≡ Some x
+    → placed j at ∷ ts ≡ placed k x.0 ∷ x.1
 place_by k j at ts x true h e = from_some (λ y. placed j at ∷ ts ≡ placed k y.0 ∷ y.1) e (ap (λ i. placed i at ∷ ts) (h refl))
 place_by k j at ts x false h e = absurd cc
 
@@ -114,11 +172,13 @@ module _ {A L : Type 0} (nil : L) (cons : A → L → L) (on : A → Bool) (part
     (q_nil : (ts : List Tok) → Q nil ts ts)
     (q_last : (ts : List Tok) (x : A × List Tok) → part ts ≡ Some x → Q (cons x.0 nil) ts x.1)
     (q_cons : (ts : List Tok) (x : A × List Tok) (l : L) (r : List Tok) → part ts ≡ Some x → on x.0 ≡ true → Q l x.1 r → Q (cons x.0 l) ts r) where
-  turn_ind : (rest : List Tok → L × List Tok) → ((r : List Tok) → Q (rest r).0 r (rest r).1) → (o : Option (A × List Tok)) (ts : List Tok) → part ts ≡ o → Q (turn nil cons on rest o ts).0 ts (turn nil cons on rest o ts).1
+  turn_ind : (rest : List Tok → L × List Tok) → ((r : List Tok) → Q (rest r).0 r (rest r).1) → (o : Option (A × List Tok)) (ts : List Tok)
+      → part ts ≡ o → Q (turn nil cons on rest o ts).0 ts (turn nil cons on rest o ts).1
   turn_ind rest h None ts e = q_nil ts
   turn_ind rest h (Some x) ts e = chosen (on x.0) refl
     where
-      chosen : (b : Bool) → on x.0 ≡ b → Q (cond {A = L × List Tok} b (cons x.0 (rest x.1).0, (rest x.1).1) (cons x.0 nil, x.1)).0 ts (cond {A = L × List Tok} b (cons x.0 (rest x.1).0, (rest x.1).1) (cons x.0 nil, x.1)).1
+      chosen : (b : Bool) → on x.0 ≡ b → Q (cond {A = L × List Tok} b (cons x.0 (rest x.1).0, (rest x.1).1) (cons x.0 nil, x.1)).0 ts
+          (cond {A = L × List Tok} b (cons x.0 (rest x.1).0, (rest x.1).1) (cons x.0 nil, x.1)).1
       chosen true h' = q_cons ts x (rest x.1).0 (rest x.1).1 e h' (h x.1)
       chosen false h' = q_last ts x e
 

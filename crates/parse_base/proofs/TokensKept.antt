@@ -1,5 +1,6 @@
 -- The tokens of respelled lexemes.
-use Rattle.std.proofs.Common.{◌≡◌, ℕ, zero, suc, ◌+◌, ◌-◌, ◌≤◌, ◌⊎◌, inl, inr, List, [], ◌∷◌, ◌==◌, map, length, drop, None, refl, ap, sym, ◌∙◌, arith}
+use Rattle.std.proofs.Common.{◌≡◌, ℕ, zero, suc, ◌+◌, ◌-◌, ◌≤◌, ◌⊎◌, inl, inr, List, [], ◌∷◌, ◌==◌, map, length, drop, None, refl, ap, sym, ◌∙◌}
+use Rattle.std.proofs.Common.{arith}
 use Rattle.std.proofs.lemmas.Bool.Decides.{nat_tests}
 use Rattle.rotor_base.specs.declared.token.Class.{Class}
 use Rattle.rotor_base.specs.declared.token.Class.TheVariants as class
@@ -46,7 +47,8 @@ from_is : (ts : List Token) (at : ℕ) → from ts at ≡ drop at (lexeme_toks 1
 unfolding from
 from_is ts at =
     let same : at + 1 ≡ 1 + at = omega arith in
-    ap (λ k. toks_from k (map lexeme (drop at ts))) same ∙ ap (toks_from (1 + at)) (map_drop lexeme at ts) ∙ toks_drop at 1 (map lexeme ts) ∙ ap (λ v. drop at (toks_from 1 v)) (views_same ts)
+    ap (λ k. toks_from k (map lexeme (drop at ts))) same ∙ ap (toks_from (1 + at)) (map_drop lexeme at ts) ∙ toks_drop at 1 (map lexeme ts)
+    ∙ ap (λ v. drop at (toks_from 1 v)) (views_same ts)
 
 as_many : (ts : List Token) → length (view_tokens ts) ≡ length ts
 as_many [] = refl
@@ -68,7 +70,13 @@ shift a b e le = elim (which (a == b)) [
   | inr y ↦ grind (arith, nat_tests, y, le)
 ]
 
-one_alike : (w : Spelling) (at start : ℕ) (t u : Token) → view_token u ≡ record { class = t.class; start = start; end = start + length (spelled w t.class (record { at = at; text = t.bytes.now })).text; bytes = (spelled w t.class (record { at = at; text = t.bytes.now })).text } → IsAlike t u
+one_alike : (w : Spelling) (at start : ℕ) (t u : Token)
+    → view_token u ≡ record {
+      class = t.class;
+      start = start;
+      end = start + length (spelled w t.class (record { at = at; text = t.bytes.now })).text;
+      bytes = (spelled w t.class (record { at = at; text = t.bytes.now })).text;
+    } → IsAlike t u
 one_alike w at start t u e = (
   ap (λ l. l.class) e,
   elim (text_kept w t.class (record { at = at; text = t.bytes.now })) [
@@ -77,7 +85,8 @@ one_alike w at start t u e = (
   ],
 )
 
-touch : (w : Spelling) (bytes : List ℕ) (at end : ℕ) (t u : Token) (ts us : List Token) → AreInOrder bytes t.end (view_tokens ts) → view_tokens us ≡ respelled_lexemes_from t.end end (view_tokens ts) (new_words w at (view_tokens ts)) → u.end ≡ end → touches u us ≡ touches t ts
+touch : (w : Spelling) (bytes : List ℕ) (at end : ℕ) (t u : Token) (ts us : List Token) → AreInOrder bytes t.end (view_tokens ts)
+    → view_tokens us ≡ respelled_lexemes_from t.end end (view_tokens ts) (new_words w at (view_tokens ts)) → u.end ≡ end → touches u us ≡ touches t ts
 touch w bytes at end t u [] [] h e f = refl
 touch w bytes at end t u [] (v ∷ us) h e f = cc
 touch w bytes at end t u (s ∷ ts) [] h e f = cc
@@ -85,10 +94,12 @@ touch w bytes at end t u (s ∷ ts) (v ∷ us) h e f =
     let text = (spelled w s.class (record { at = at; text = s.bytes.now })).text in
     let start = end + (s.start - t.end) in
     let one : Lexeme = record { class = s.class; start = start; end = start + length text; bytes = text } in
-    let head = head_same (view_token v) one (view_tokens us) (respelled_lexemes_from s.end (start + length text) (view_tokens ts) (new_words w (suc at) (view_tokens ts))) e in
+    let head = head_same (view_token v) one (view_tokens us)
+    (respelled_lexemes_from s.end (start + length text) (view_tokens ts) (new_words w (suc at) (view_tokens ts))) e in
     ap (λ n. u.end == n) (ap (λ l. l.start) head) ∙ ap (λ n. n == start) f ∙ shift t.end s.start end h.0
 
-all_alike : (w : Spelling) (bytes : List ℕ) (at old now : ℕ) (ts us : List Token) → AreInOrder bytes old (view_tokens ts) → view_tokens us ≡ respelled_lexemes_from old now (view_tokens ts) (new_words w at (view_tokens ts)) → AreAlike ts us
+all_alike : (w : Spelling) (bytes : List ℕ) (at old now : ℕ) (ts us : List Token) → AreInOrder bytes old (view_tokens ts)
+    → view_tokens us ≡ respelled_lexemes_from old now (view_tokens ts) (new_words w at (view_tokens ts)) → AreAlike ts us
 all_alike w bytes at old now [] [] h e = tt
 all_alike w bytes at old now [] (u ∷ us) h e = cc
 all_alike w bytes at old now (t ∷ ts) [] h e = cc
@@ -98,14 +109,19 @@ all_alike w bytes at old now (t ∷ ts) (u ∷ us) h e =
     let one : Lexeme = record { class = t.class; start = start; end = start + length text; bytes = text } in
     let rest = respelled_lexemes_from t.end (start + length text) (view_tokens ts) (new_words w (suc at) (view_tokens ts)) in
     let head = head_same (view_token u) one (view_tokens us) rest e in
-    let tail = tail_same (view_token u) one (view_tokens us) rest e in
-    (one_alike w at start t u head, touch w bytes (suc at) (start + length text) t u ts us h.4 tail (ap (λ l. l.end) head), all_alike w bytes (suc at) t.end (start + length text) ts us h.4 tail)
+    let tail = tail_same (view_token u) one (view_tokens us) rest e in (
+      one_alike w at start t u head,
+      touch w bytes (suc at) (start + length text) t u ts us h.4 tail (ap (λ l. l.end) head),
+      all_alike w bytes
+          (suc at) t.end (start + length text) ts us h.4 tail,
+    )
 
 pub respelled_tokens_are_kept : RespelledTokensAreKept
 respelled_tokens_are_kept w bytes ts us cut e = (
   record {
     many = sym (as_many us) ∙ ap length e ∙ respelled_many w 1 0 0 (view_tokens ts) ∙ as_many ts;
-    same = λ at. from_is us at ∙ ap (λ v. drop at (lexeme_toks 1 v)) e ∙ ap (drop at) (respelled_tokens w (view_tokens ts)) ∙ sym (map_drop (spell_tok w) at (lexeme_toks 1 (view_tokens ts))) ∙ ap (map (spell_tok w)) (sym (from_is ts at));
+    same = λ at. from_is us at ∙ ap (λ v. drop at (lexeme_toks 1 v)) e ∙ ap (drop at) (respelled_tokens w (view_tokens ts))
+        ∙ sym (map_drop (spell_tok w) at (lexeme_toks 1 (view_tokens ts))) ∙ ap (map (spell_tok w)) (sym (from_is ts at));
   },
   all_alike w bytes 1 0 0 ts us (lexemes_are_in_order bytes (view_tokens ts) cut) e,
 )

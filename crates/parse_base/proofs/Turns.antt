@@ -1,5 +1,6 @@
 -- Reading parts one after the other, as a loop does.
-use Rattle.std.proofs.Common.{◌≡◌, ℕ, zero, suc, ◌-◌, ◌+◌, ◌≤◌, ◌<◌, List, [], ◌∷◌, ◌++◌, Bool, true, false, Option, Some, None, map, refl, sym, ap, ◌∙◌, arith}
+use Rattle.std.proofs.Common.{◌≡◌, ℕ, zero, suc, ◌-◌, ◌+◌, ◌≤◌, ◌<◌, List, [], ◌∷◌, ◌++◌, Bool, true, false, Option, Some, None, map, refl, sym, ap}
+use Rattle.std.proofs.Common.{◌∙◌, arith}
 use Rattle.ml_syntax.specs.Tok.{Tok}
 use Rattle.parse_base.specs.Steps.{Read, turn, many}
 
@@ -24,7 +25,8 @@ module _ {A L : Type 0} (nil : L) (cons : A → L → L) (on : A → Bool) (part
   pub turn_init : (n : ℕ) (here : List Tok) → Left [] n here (many nil cons on part n here)
   turn_init n here = refl
 
-  pub turn_on : (found : List A) (x : A) (n i : ℕ) (here after : List Tok) (whole : L × List Tok) → i < n → part here ≡ Some (x, after) → on x ≡ true → Left found (n - i) here whole → Left (found ++ x ∷ []) (n - (i + 1)) after whole
+  pub turn_on : (found : List A) (x : A) (n i : ℕ) (here after : List Tok) (whole : L × List Tok) → i < n → part here ≡ Some (x, after) → on x ≡ true
+      → Left found (n - i) here whole → Left (found ++ x ∷ []) (n - (i + 1)) after whole
   unfolding many
   turn_on found x n i here after whole lt e h k =
       let s : n - i ≡ suc (n - (i + 1)) = omega arith in
@@ -32,21 +34,24 @@ module _ {A L : Type 0} (nil : L) (cons : A → L → L) (on : A → Bool) (part
       let one : many nil cons on part (n - i) here ≡ (cons x m.0, m.1) = rw (s, e, h) refl in
       ap (λ (l : L). (l, m.1)) (before_last cons found x m.0) ∙ sym (ap (λ (z : L × List Tok). (before cons found z.0, z.1)) one) ∙ k
 
-  pub turn_off : (found : List A) (x : A) (n i : ℕ) (here after : List Tok) (whole : L × List Tok) → i < n → part here ≡ Some (x, after) → on x ≡ false → Left found (n - i) here whole → whole ≡ (before cons (found ++ x ∷ []) nil, after)
+  pub turn_off : (found : List A) (x : A) (n i : ℕ) (here after : List Tok) (whole : L × List Tok) → i < n → part here ≡ Some (x, after)
+      → on x ≡ false → Left found (n - i) here whole → whole ≡ (before cons (found ++ x ∷ []) nil, after)
   unfolding many
   turn_off found x n i here after whole lt e h k =
       let s : n - i ≡ suc (n - (i + 1)) = omega arith in
       let one : many nil cons on part (n - i) here ≡ (cons x nil, after) = rw (s, e, h) refl in
       sym k ∙ ap (λ (z : L × List Tok). (before cons found z.0, z.1)) one ∙ ap (λ (l : L). (l, after)) (sym (before_last cons found x nil))
 
-  pub turn_none : (found : List A) (n i : ℕ) (here : List Tok) (whole : L × List Tok) → i < n → part here ≡ None → Left found (n - i) here whole → whole ≡ (before cons found nil, here)
+  pub turn_none : (found : List A) (n i : ℕ) (here : List Tok) (whole : L × List Tok) → i < n → part here ≡ None → Left found (n - i) here whole
+      → whole ≡ (before cons found nil, here)
   unfolding many
   turn_none found n i here whole lt e k =
       let s : n - i ≡ suc (n - (i + 1)) = omega arith in
       let one : many nil cons on part (n - i) here ≡ (nil, here) = rw (s, e) refl in
       sym k ∙ ap (λ (z : L × List Tok). (before cons found z.0, z.1)) one
 
-  pub turn_end : (found : List A) (n i : ℕ) (here : List Tok) (whole : L × List Tok) → n ≤ i → Left found (n - i) here whole → whole ≡ (before cons found nil, here)
+  pub turn_end : (found : List A) (n i : ℕ) (here : List Tok) (whole : L × List Tok) → n ≤ i → Left found (n - i) here whole
+      → whole ≡ (before cons found nil, here)
   unfolding many
   turn_end found n i here whole le k =
       let s : n - i ≡ 0 = omega arith in
@@ -55,10 +60,12 @@ module _ {A L : Type 0} (nil : L) (cons : A → L → L) (on : A → Bool) (part
 
   -- the same of what a `Vec` holds, seen by f
   module _ {X : Type 0} (f : X → A) where
-    pub pushed : (xs ys : List X) (x : X) (n i : ℕ) (here after : List Tok) (whole : L × List Tok) → ys ≡ xs ++ x ∷ [] → i < n → part here ≡ Some (f x, after) → on (f x) ≡ true → Left (map f xs) (n - i) here whole → Left (map f ys) (n - (i + 1)) after whole
+    pub pushed : (xs ys : List X) (x : X) (n i : ℕ) (here after : List Tok) (whole : L × List Tok) → ys ≡ xs ++ x ∷ [] → i < n
+        → part here ≡ Some (f x, after) → on (f x) ≡ true → Left (map f xs) (n - i) here whole → Left (map f ys) (n - (i + 1)) after whole
     pushed xs ys x n i here after whole p lt e h k = rw (p, map_append f xs (x ∷ [])) (turn_on (map f xs) (f x) n i here after whole lt e h k)
 
-    pub pushed_last : (xs ys : List X) (x : X) (n i : ℕ) (here after : List Tok) (whole : L × List Tok) → ys ≡ xs ++ x ∷ [] → i < n → part here ≡ Some (f x, after) → on (f x) ≡ false → Left (map f xs) (n - i) here whole → whole ≡ (before cons (map f ys) nil, after)
+    pub pushed_last : (xs ys : List X) (x : X) (n i : ℕ) (here after : List Tok) (whole : L × List Tok) → ys ≡ xs ++ x ∷ [] → i < n
+        → part here ≡ Some (f x, after) → on (f x) ≡ false → Left (map f xs) (n - i) here whole → whole ≡ (before cons (map f ys) nil, after)
     pushed_last xs ys x n i here after whole p lt e h k = rw (p, map_append f xs (x ∷ [])) (turn_off (map f xs) (f x) n i here after whole lt e h k)
 
 pub deeper : {X : Type 0} (f : ℕ → X) (n : ℕ) → 0 < n → f n ≡ f (suc (n - 1))

@@ -83,7 +83,8 @@ IsPlain refused.Memory = Unit {0}
 IsPlain _ = ⊥
 
 -- What a function value that reads patterns does, to a depth.
-pub record Nests (depth : ℕ) (pre : Global → Bor (List Token) → ℕ → ℕ → ℕ → Type 0) (post : Global → Bor (List Token) → ℕ → ℕ → ℕ → Result (Source × ℕ) ReadError → Type 0) : Type 0 where
+pub record Nests (depth : ℕ) (pre : Global → Bor (List Token) → ℕ → ℕ → ℕ → Type 0)
+    (post : Global → Bor (List Token) → ℕ → ℕ → ℕ → Result (Source × ℕ) ReadError → Type 0) : Type 0 where
   pub callable : (alloc : Global) (ts : Bor (List Token)) (levels at : ℕ) → length ts.now ≤ max_file_bytes → pre alloc ts depth levels at
   pub reads : (alloc : Global) (ts : Bor (List Token)) (levels at : ℕ) (r : Result (Source × ℕ) ReadError) → post alloc ts depth levels at r
       → Gives (λ x. (view_pat x.0, from ts.now x.1)) r (read_pat depth (from ts.now at))

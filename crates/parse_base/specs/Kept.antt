@@ -46,7 +46,8 @@ FormsAreKept = (ts us : List Token) (at : ℕ) → AreAlike ts us → first_form
 -- the tokens of respelled lexemes are the tokens respelled; the two lists are alike so
 abbrev pub RespelledTokensAreKept : Type 0
 RespelledTokensAreKept =
-    (w : Spelling) (bytes : List ℕ) (ts us : List Token) → Lexed bytes (view_tokens ts) → view_tokens us ≡ respelled_lexemes (view_tokens ts) (new_words w 1 (view_tokens ts))
+    (w : Spelling) (bytes : List ℕ) (ts us : List Token) → Lexed bytes (view_tokens ts)
+    → view_tokens us ≡ respelled_lexemes (view_tokens ts) (new_words w 1 (view_tokens ts))
     → AreRespelled w ts us × AreAlike ts us
 
 -- Respelling keeps the reading. The old tokens have no refused form, are not nested over the limit, and are the words

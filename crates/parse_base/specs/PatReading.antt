@@ -9,7 +9,10 @@ use Rattle.ml_syntax.specs.declared.word.Bracket.TheVariants as bracket
 use Rattle.ml_syntax.specs.Tok.{Name, Tok, fixed, placed, word}
 use Rattle.ml_syntax.specs.Words.{closing}
 use Rattle.ml_syntax.specs.WellFormed.{is_literal, is_number, is_minus, is_operator}
-use Rattle.ml_syntax.specs.Tree.{ValueName, PlainName, OperatorName, Pat, AsPat, OrPat, TuplePat, ConsPat, ConstrApplyPat, TagApplyPat, LazyPat, ExceptionPat, AnyPat, ValuePat, LiteralPat, NegativePat, RangePat, ConstrPat, TagPat, BoolPat, UnitPat, ParenPat, TypedPat, EmptyPat, ListPat, RecordPat, OpenedPat, Pats, no_pat, more_pat, PatField, PunnedField, MatchedField, PatFields, no_pat_field, more_pat_field}
+use Rattle.ml_syntax.specs.Tree.{ValueName, PlainName, OperatorName, Pat, AsPat, OrPat, TuplePat, ConsPat, ConstrApplyPat, TagApplyPat, LazyPat}
+use Rattle.ml_syntax.specs.Tree.{ExceptionPat, AnyPat, ValuePat, LiteralPat, NegativePat, RangePat, ConstrPat, TagPat, BoolPat, UnitPat, ParenPat}
+use Rattle.ml_syntax.specs.Tree.{TypedPat, EmptyPat, ListPat, RecordPat, OpenedPat, Pats, no_pat, more_pat, PatField, PunnedField, MatchedField}
+use Rattle.ml_syntax.specs.Tree.{PatFields, no_pat_field, more_pat_field}
 use Rattle.parse_base.specs.Steps.{Read, ◌>>=◌, expect, expect_at, many, always}
 use Rattle.parse_base.specs.Pieces.{more_uppers, qualifiers, lower_word, value_name, type_run, optional_type}
 
@@ -109,7 +112,8 @@ module _ (sub : Read Pat) (n : ℕ) where
   -- after a `(`
   unfoldable pub paren_pat : ℕ → Read Pat
   paren_pat at (fixed key.RightParen ∷ ts) = Some (UnitPat at, ts)
-  paren_pat at (t ∷ fixed key.RightParen ∷ ts) = if is_operator t then Some (ValuePat (OperatorName at t), ts) else (sub (t ∷ fixed key.RightParen ∷ ts) >>= λ p. closed_by at p.0 p.1)
+  paren_pat at (t ∷ fixed key.RightParen ∷ ts) = if is_operator t then Some (ValuePat (OperatorName at t), ts) else
+      (sub (t ∷ fixed key.RightParen ∷ ts) >>= λ p. closed_by at p.0 p.1)
   paren_pat at ts = sub ts >>= λ p. closed_by at p.0 p.1
 
   abbrev pub opened_part : List Tok → Option (ℕ × Pat × List Tok)

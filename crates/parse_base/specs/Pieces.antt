@@ -59,7 +59,8 @@ one_more None other = other
 unfoldable pub longest : (Tok → Bool) → (Tok → Bool) → Option (List Fixed) → List Tok → Option ℕ
 longest outside inside st [] = or_none st
 longest outside inside None (t ∷ ts) = None
-longest outside inside (Some xs) (t ∷ ts) = one_more (longest outside inside (after_bracket outside inside t (bracketing t) xs) ts) (or_none (Some xs))
+longest outside inside (Some xs) (t ∷ ts) = one_more (longest outside inside (after_bracket outside inside t (bracketing t) xs) ts)
+    (or_none (Some xs))
 
 -- the first tokens, and those behind them
 abbrev pub cut_at : List Tok → Option ℕ → Option (List Tok × List Tok)
@@ -73,7 +74,8 @@ type_run (t ∷ ts) = cut_at (t ∷ ts) (one_more (longest beside_type in_type (
 
 unfoldable pub declaration_run : Read (List Tok)
 declaration_run [] = None
-declaration_run (t ∷ ts) = cut_at (t ∷ ts) (one_more (longest in_declaration in_declaration (after_bracket in_declaration in_declaration t (bracketing t) []) ts) None)
+declaration_run (t ∷ ts) =
+    cut_at (t ∷ ts) (one_more (longest in_declaration in_declaration (after_bracket in_declaration in_declaration t (bracketing t) []) ts) None)
 
 -- an optional `:` and type; if no type begins, the `:` is not read
 abbrev pub type_or : List Tok → Option (List Tok × List Tok) → Option (List Tok) × List Tok

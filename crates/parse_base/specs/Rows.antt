@@ -21,4 +21,5 @@ first_is q [] = false
 first_is q (t ∷ ts) = q t
 
 abbrev pub keyword_operator : List ℕ → Bool
-keyword_operator text = bytes_eq text (codes "mod") || bytes_eq text (codes "land") || bytes_eq text (codes "lor") || bytes_eq text (codes "lxor") || bytes_eq text (codes "lsl") || bytes_eq text (codes "lsr") || bytes_eq text (codes "asr")
+keyword_operator text = bytes_eq text (codes "mod") || bytes_eq text (codes "land") || bytes_eq text (codes "lor") || bytes_eq text
+    (codes "lxor") || bytes_eq text (codes "lsl") || bytes_eq text (codes "lsr") || bytes_eq text (codes "asr")

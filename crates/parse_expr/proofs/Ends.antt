@@ -9,7 +9,8 @@ use Rattle.expr_reading.specs.ExprReading.{read_expr}
 use Rattle.expr_reading.specs.Longest.{IsLongestExpr, BeginsNoExpr}
 use Rattle.expr_reading.proofs.LawsExpr.{expr_longest, expr_none}
 
-pub longest_expr : (ts : List Token) (start end place : ℕ) (e : Expr) → place ≡ min end (length ts) → read_expr (length ts + 1) wanted.Sequence (from ts start) ≡ Some (e, from ts end) → IsLongestExpr (from ts start) e (from ts place)
+pub longest_expr : (ts : List Token) (start end place : ℕ) (e : Expr) → place ≡ min end (length ts)
+    → read_expr (length ts + 1) wanted.Sequence (from ts start) ≡ Some (e, from ts end) → IsLongestExpr (from ts start) e (from ts place)
 longest_expr ts start end place e p h =
     let q : from ts place ≡ from ts end = ap (from ts) p ∙ from_min ts end in
     rw q (expr_longest (length ts + 1) (from ts start) e (from ts end) (omega (arith, from_length ts start)) h)

@@ -47,7 +47,8 @@ pub ruleset constructors = (constr_none, constr_some)
 -- ---- behind a module path and a `.`
 
 module _ (path : List Name) (r : List Tok) where
-  pub plain_value : (ns : List Word) (x : pure.ValueName) → length ns ≡ 0 → qualified path (pure.Value (view_words ns) x) r ≡ Some (pure.Value path x, r)
+  pub plain_value : (ns : List Word) (x : pure.ValueName) → length ns ≡ 0
+      → qualified path (pure.Value (view_words ns) x) r ≡ Some (pure.Value path x, r)
   plain_value [] x h = refl
   plain_value (n ∷ ns) x h = absurd (omega arith)
 
@@ -64,7 +65,8 @@ module _ (path : List Name) (r : List Tok) where
   brackets_some (t.Record' at base _ f _ fs last) h = refl
   brackets_some _ h = absurd cc
 
-  pub brackets_none : (e : Expr) → ((ns : Vec Word) (x : ValueName) → e ≡ v.Value ns x → ⊥) → is_bracketed (view e) ≡ false → qualified path (view e) r ≡ None
+  pub brackets_none : (e : Expr) → ((ns : Vec Word) (x : ValueName) → e ≡ v.Value ns x → ⊥) → is_bracketed (view e) ≡ false
+      → qualified path (view e) r ≡ None
   unfolding view
   brackets_none (t.Value ns x) k h = absurd (k ns x refl)
   brackets_none (t.Unit at) k h = absurd cc
@@ -99,7 +101,8 @@ infix_by false false false false false false false false q = absurd (omega (arit
 
 infix_no_comma : (text : List ℕ) → infix_level text ≡ 4 → ⊥
 unfolding infix_level
-infix_no_comma text q = infix_by (bytes_eq text (codes "||")) (bytes_eq text (codes "&&")) (bytes_eq text (codes "!=")) (begins_among "=<>|&$" text) (begins_among "@^" text) (begins_among "+-" text) (begins_power text) (begins_among "*/%" text) q
+infix_no_comma text q = infix_by (bytes_eq text (codes "||")) (bytes_eq text (codes "&&")) (bytes_eq text (codes "!=")) (begins_among "=<>|&$" text)
+    (begins_among "@^" text) (begins_among "+-" text) (begins_power text) (begins_among "*/%" text) q
 
 keyword_by : (a b : Bool) → ◌≡◌ {A = ℕ} (cond a 11 (cond b 12 0)) 4 → ⊥
 keyword_by true b q = absurd (omega (arith, q))
@@ -122,32 +125,43 @@ comma_alone _ q = absurd (omega (arith, q))
 
 -- ---- what follows a `(`
 
-operator_by : (at : ℕ) (k : Tok) (ts : List Tok) (x : pure.ValueName × List Tok) (b : Bool) → is_operator k ≡ b → ◌≡◌ {A = Option (pure.ValueName × List Tok)} (cond b (Some (pure.OperatorName at k, ts)) None) (Some x) → (u : Tok) × (k ∷ fixed key.RightParen ∷ ts ≡ u ∷ fixed key.RightParen ∷ x.1) × (is_operator u ≡ true) × (x.0 ≡ pure.OperatorName at u)
-operator_by at k ts x true h e = from_some (λ (y : pure.ValueName × List Tok). (u : Tok) × (k ∷ fixed key.RightParen ∷ ts ≡ u ∷ fixed key.RightParen ∷ y.1) × (is_operator u ≡ true) × (y.0 ≡ pure.OperatorName at u)) e (k, refl, h, refl)
+operator_by : (at : ℕ) (k : Tok) (ts : List Tok) (x : pure.ValueName × List Tok) (b : Bool) → is_operator k ≡ b
+    → ◌≡◌ {A = Option (pure.ValueName × List Tok)} (cond b (Some (pure.OperatorName at k, ts)) None) (Some x)
+    → (u : Tok) × (k ∷ fixed key.RightParen ∷ ts ≡ u ∷ fixed key.RightParen ∷ x.1) × (is_operator u ≡ true) × (x.0 ≡ pure.OperatorName at u)
+operator_by at k ts x true h e =
+    from_some (λ (y : pure.ValueName × List Tok). (u : Tok) × (k ∷ fixed key.RightParen ∷ ts ≡ u ∷ fixed key.RightParen ∷ y.1)
+    × (is_operator u ≡ true) × (y.0 ≡ pure.OperatorName at u)) e (k, refl, h, refl)
 operator_by at k ts x false h e = absurd cc
 
-operator_ok : (at : ℕ) (ts : List Tok) (x : pure.ValueName × List Tok) → operator_at at ts ≡ Some x → (k : Tok) × (ts ≡ k ∷ fixed key.RightParen ∷ x.1) × (is_operator k ≡ true) × (x.0 ≡ pure.OperatorName at k)
+operator_ok : (at : ℕ) (ts : List Tok) (x : pure.ValueName × List Tok) → operator_at at ts ≡ Some x
+    → (k : Tok) × (ts ≡ k ∷ fixed key.RightParen ∷ x.1) × (is_operator k ≡ true) × (x.0 ≡ pure.OperatorName at k)
 operator_ok at (k ∷ fixed key.RightParen ∷ ts) x e = operator_by at k ts x (is_operator k) refl e
 operator_ok at _ x e = absurd cc
 
 module _ (sub : Wanted → Read pure.Expr) (n at : ℕ) where
-  paren_closed : (k : Tok) (r : List Tok) → is_operator k ≡ true → paren_expr sub n at (k ∷ fixed key.RightParen ∷ r) ≡ Some (pure.Value [] (pure.OperatorName at k), r)
+  paren_closed : (k : Tok) (r : List Tok) → is_operator k ≡ true → paren_expr sub n at (k ∷ fixed key.RightParen ∷ r) ≡ Some
+      (pure.Value [] (pure.OperatorName at k), r)
   unfolding paren_expr
   paren_closed (fixed j) r h = absurd cc
   paren_closed (placed j p) r h = rw h refl
   paren_closed (word c x) r h = rw h refl
 
-  pub paren_operator : (ts : List Tok) (x : pure.ValueName) (r : List Tok) → operator_at at ts ≡ Some (x, r) → paren_expr sub n at ts ≡ Some (pure.Value [] x, r)
+  pub paren_operator : (ts : List Tok) (x : pure.ValueName) (r : List Tok) → operator_at at ts ≡ Some (x, r)
+      → paren_expr sub n at ts ≡ Some (pure.Value [] x, r)
   paren_operator ts x r e =
       let o = operator_ok at ts (x, r) e in
       ap (paren_expr sub n at) o.1 ∙ paren_closed o.0 r o.2 ∙ ap (λ (y : pure.ValueName). Some (pure.Value [] y, r)) (sym o.3)
 
-  pub paren_other : (ts : List Tok) → starts key.RightParen ts ≡ false → operator_at at ts ≡ None → paren_expr sub n at ts ≡ (sub wanted.Sequence ts >>= λ e. closed_by at e.0 e.1)
+  pub paren_other : (ts : List Tok) → starts key.RightParen ts ≡ false → operator_at at ts ≡ None
+      → paren_expr sub n at ts ≡ (sub wanted.Sequence ts >>= λ e. closed_by at e.0 e.1)
   unfolding paren_expr
   paren_other (fixed key.RightParen ∷ ts) h e = absurd cc
   paren_other (k ∷ fixed key.RightParen ∷ ts) h e = chosen (is_operator k) e
     where
-      chosen : (b : Bool) → cond {A = Option (pure.ValueName × List Tok)} b (Some (pure.OperatorName at k, ts)) None ≡ None → cond {A = Option (pure.Expr × List Tok)} b (Some (pure.Value [] (pure.OperatorName at k), ts)) (sub wanted.Sequence (k ∷ fixed key.RightParen ∷ ts) >>= λ p. closed_by at p.0 p.1) ≡ (sub wanted.Sequence (k ∷ fixed key.RightParen ∷ ts) >>= λ p. closed_by at p.0 p.1)
+      chosen : (b : Bool) → cond {A = Option (pure.ValueName × List Tok)} b (Some (pure.OperatorName at k, ts)) None ≡ None
+          → cond {A = Option (pure.Expr × List Tok)} b (Some (pure.Value [] (pure.OperatorName at k), ts))
+          (sub wanted.Sequence (k ∷ fixed key.RightParen ∷ ts) >>= λ p. closed_by at p.0 p.1)
+          ≡ (sub wanted.Sequence (k ∷ fixed key.RightParen ∷ ts) >>= λ p. closed_by at p.0 p.1)
       chosen true h = absurd cc
       chosen false h = refl
   paren_other _ h e = refl

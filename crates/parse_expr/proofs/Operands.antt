@@ -1,5 +1,6 @@
 -- Operands one after the other, each with whether more may follow.
-use Rattle.std.proofs.Common.{◌≡◌, ℕ, zero, suc, ◌-◌, ◌+◌, ◌<◌, List, [], ◌∷◌, ◌++◌, Bool, true, false, cond, ◌==◌, Option, Some, None, map, refl, sym, ap, ◌∙◌}
+use Rattle.std.proofs.Common.{◌≡◌, ℕ, zero, suc, ◌-◌, ◌+◌, ◌<◌, List, [], ◌∷◌, ◌++◌, Bool, true, false, cond, ◌==◌, Option, Some, None, map, refl}
+use Rattle.std.proofs.Common.{sym, ap, ◌∙◌}
 use Rattle.std.proofs.lemmas.Bool.{eqb-true}
 use Rattle.ml_syntax.specs.declared.word.Word.{Word}
 use Rattle.ml_syntax.specs.declared.expression.Expr.{Expr as Source}
@@ -35,29 +36,40 @@ module _ (part : Read (Tok × Expr × Bool)) {X : Type 0} (f : X → Tok × Expr
   same : (x : X) (b : Bool) → b ≡ true → ((f x).0, (f x).1, b) ≡ f x
   same x b h = ap (λ (c : Bool). ((f x).0, (f x).1, c)) (h ∙ sym (on x))
 
-  pub operand_on : (xs ys : List X) (x : X) (b : Bool) (n i : ℕ) (here after : List Tok) (whole : Links × List Tok) → ys ≡ xs ++ x ∷ [] → i < n → part here ≡ Some (((f x).0, (f x).1, b), after) → b ≡ true → Left no_link cons_operand goes part (map f xs) (n - i) here whole → Left no_link cons_operand goes part (map f ys) (n - (i + 1)) after whole
+  pub operand_on : (xs ys : List X) (x : X) (b : Bool) (n i : ℕ) (here after : List Tok) (whole : Links × List Tok) → ys ≡ xs ++ x ∷ [] → i < n
+      → part here ≡ Some (((f x).0, (f x).1, b), after) → b ≡ true → Left no_link cons_operand goes part (map f xs) (n - i) here whole
+      → Left no_link cons_operand goes part (map f ys) (n - (i + 1)) after whole
   operand_on xs ys x b n i here after whole p lt e h k =
-      pushed no_link cons_operand goes part f xs ys x n i here after whole p lt (e ∙ ap (λ (y : Tok × Expr × Bool). Some (y, after)) (same x b h)) (on x) k
+      pushed no_link cons_operand goes part f xs ys x n i here after whole p lt (e ∙ ap (λ (y : Tok × Expr × Bool). Some (y, after)) (same x b h))
+      (on x) k
 
-  pub operand_off : (xs ys : List X) (x : X) (b : Bool) (n i : ℕ) (here after : List Tok) (whole : Links × List Tok) → ys ≡ xs ++ x ∷ [] → i < n → part here ≡ Some (((f x).0, (f x).1, b), after) → b ≡ false → Left no_link cons_operand goes part (map f xs) (n - i) here whole → whole ≡ (before cons_operand (map f ys) no_link, after)
+  pub operand_off : (xs ys : List X) (x : X) (b : Bool) (n i : ℕ) (here after : List Tok) (whole : Links × List Tok) → ys ≡ xs ++ x ∷ [] → i < n
+      → part here ≡ Some (((f x).0, (f x).1, b), after) → b ≡ false → Left no_link cons_operand goes part (map f xs) (n - i) here whole
+      → whole ≡ (before cons_operand (map f ys) no_link, after)
   operand_off xs ys x b n i here after whole p lt e h k =
       let off = turn_off no_link cons_operand goes part (map f xs) ((f x).0, (f x).1, b) n i here after whole lt e h k in
-      let one : before cons_operand (map f xs ++ ((f x).0, (f x).1, b) ∷ []) no_link ≡ before cons_operand (map f xs ++ f x ∷ []) no_link = before_last cons_operand (map f xs) ((f x).0, (f x).1, b) no_link ∙ sym (before_last cons_operand (map f xs) (f x) no_link) in
+      let one : before cons_operand (map f xs ++ ((f x).0, (f x).1, b) ∷ []) no_link ≡ before cons_operand (map f xs ++ f x ∷ []) no_link =
+      before_last cons_operand (map f xs) ((f x).0, (f x).1, b) no_link ∙ sym (before_last cons_operand (map f xs) (f x) no_link) in
       off ∙ ap (λ (l : Links). (l, after)) (one ∙ ap (λ l. before cons_operand l no_link) (sym (ap (map f) p ∙ map_append f xs (x ∷ []))))
 
 -- ---- an operator, and what follows it
 
 module _ (d m : ℕ) (one : Read Expr) where
-  by_level : (b : Bool) (t : Tok) (ts : List Tok) → cond {A = Option ((Tok × Expr × Bool) × List Tok)} b (one ts >>= λ x. Some ((t, x.0, goes_on x.0 x.1), x.1)) None ≡ (cond {A = Option (Tok × List Tok)} b (Some (t, ts)) None >>= λ o. one o.1 >>= λ x. Some ((o.0, x.0, goes_on x.0 x.1), x.1))
+  by_level : (b : Bool) (t : Tok) (ts : List Tok)
+      → cond {A = Option ((Tok × Expr × Bool) × List Tok)} b (one ts >>= λ x. Some ((t, x.0, goes_on x.0 x.1), x.1)) None
+      ≡ (cond {A = Option (Tok × List Tok)} b (Some (t, ts)) None >>= λ o. one o.1 >>= λ x. Some ((o.0, x.0, goes_on x.0 x.1), x.1))
   by_level true t ts = refl
   by_level false t ts = refl
 
-  pub operator_by : (ts : List Tok) → operator_part (read_expr d) d m one ts ≡ (operator_of m ts >>= λ o. one o.1 >>= λ x. Some ((o.0, x.0, goes_on x.0 x.1), x.1))
+  pub operator_by : (ts : List Tok)
+      → operator_part (read_expr d) d m one ts ≡ (operator_of m ts >>= λ o. one o.1 >>= λ x. Some ((o.0, x.0, goes_on x.0 x.1), x.1))
   operator_by [] = refl
   operator_by (t ∷ ts) = by_level (op_level t == m) t ts
 
 module _ (d : ℕ) (one : Read Expr) where
-  by_comma : (t : Tok) (ts : List Tok) (b : Bool) → (op_level t == 4) ≡ b → operator_part (read_expr d) d 4 one (t ∷ ts) ≡ (expect key.Comma (t ∷ ts) >>= λ r. one r >>= λ x. Some ((fixed key.Comma, x.0, goes_on x.0 x.1), x.1))
+  by_comma : (t : Tok) (ts : List Tok) (b : Bool) → (op_level t == 4) ≡ b
+      → operator_part (read_expr d) d 4 one
+      (t ∷ ts) ≡ (expect key.Comma (t ∷ ts) >>= λ r. one r >>= λ x. Some ((fixed key.Comma, x.0, goes_on x.0 x.1), x.1))
   by_comma t ts true h = let k : t ≡ fixed key.Comma = comma_alone t (is_level h) in rw k refl
     where
       is_level : (op_level t == 4) ≡ true → op_level t ≡ 4
@@ -70,7 +82,8 @@ module _ (d : ℕ) (one : Read Expr) where
   by_comma (word class.Infix x) ts false h = rw h refl
   by_comma (word c x) ts false h = refl
 
-  pub comma_by : (ts : List Tok) → operator_part (read_expr d) d 4 one ts ≡ (expect key.Comma ts >>= λ r. one r >>= λ x. Some ((fixed key.Comma, x.0, goes_on x.0 x.1), x.1))
+  pub comma_by : (ts : List Tok)
+      → operator_part (read_expr d) d 4 one ts ≡ (expect key.Comma ts >>= λ r. one r >>= λ x. Some ((fixed key.Comma, x.0, goes_on x.0 x.1), x.1))
   comma_by [] = refl
   comma_by (t ∷ ts) = by_comma t ts (op_level t == 4) refl
 
@@ -89,9 +102,11 @@ module _ (d : ℕ) (ts : List Tok) where
   unfolding tier
   tier_first x h = h
 
-  tier_next : (m : ℕ) (e : Expr) (r : List Tok) (x : Expr × List Tok) → tier (read_expr d) d m ts ≡ Some (e, r) → Some (grown_tier d m e r) ≡ Some x → tier (read_expr d) d (suc m) ts ≡ Some x
+  tier_next : (m : ℕ) (e : Expr) (r : List Tok) (x : Expr × List Tok) → tier (read_expr d) d m ts ≡ Some (e, r) → Some (grown_tier d m e r) ≡ Some x
+      → tier (read_expr d) d (suc m) ts ≡ Some x
   unfolding tier
   tier_next m e r x h k = rw h k
 
-  pub tier_more : (m n : ℕ) (e : Expr) (r : List Tok) (x : Expr × List Tok) → n ≡ suc m → tier (read_expr d) d m ts ≡ Some (e, r) → Some (grown_tier d m e r) ≡ Some x → tier (read_expr d) d n ts ≡ Some x
+  pub tier_more : (m n : ℕ) (e : Expr) (r : List Tok) (x : Expr × List Tok) → n ≡ suc m → tier (read_expr d) d m ts ≡ Some (e, r)
+      → Some (grown_tier d m e r) ≡ Some x → tier (read_expr d) d n ts ≡ Some x
   tier_more m n e r x q h k = ap (λ i. tier (read_expr d) d i ts) q ∙ tier_next m e r x h k

@@ -38,29 +38,40 @@ map_last (y ∷ ys) x = ap (λ l. view_item y ∷ l) (map_last ys x)
 module _ (d : ℕ) where
   -- what was found, and what is still read
   abbrev pub LeftItems : List pure.Item → ℕ → Bool → List Tok → pure.Items × List Tok → Type 0
-  LeftItems found k fresh here whole = (before pure.more_item found (items_of (read_mod d) (read_type d) d k fresh here).0, (items_of (read_mod d) (read_type d) d k fresh here).1) ≡ whole
+  LeftItems found k fresh here whole =
+      (before pure.more_item found (items_of (read_mod d) (read_type d) d k fresh here).0, (items_of (read_mod d) (read_type d) d k fresh here).1)
+      ≡ whole
 
-  pub item_none : (found : List pure.Item) (n i : ℕ) (fresh : Bool) (here : List Tok) (whole : pure.Items × List Tok) → i < n → item_of (read_mod d) (read_type d) d fresh here ≡ None → LeftItems found (n - i) fresh here whole → whole ≡ (before pure.more_item found pure.no_item, here)
+  pub item_none : (found : List pure.Item) (n i : ℕ) (fresh : Bool) (here : List Tok) (whole : pure.Items × List Tok) → i < n
+      → item_of (read_mod d) (read_type d) d fresh here ≡ None → LeftItems found (n - i) fresh here whole
+      → whole ≡ (before pure.more_item found pure.no_item, here)
   unfolding items_of
   item_none found n i fresh here whole lt e k =
       let s : n - i ≡ suc (n - (i + 1)) = omega arith in
       let one : items_of (read_mod d) (read_type d) d (n - i) fresh here ≡ (pure.no_item, here) = rw (s, e) refl in
       sym k ∙ ap (λ (z : pure.Items × List Tok). (before pure.more_item found z.0, z.1)) one
 
-  pub items_end : (found : List pure.Item) (n i : ℕ) (fresh : Bool) (here : List Tok) (whole : pure.Items × List Tok) → n ≤ i → LeftItems found (n - i) fresh here whole → whole ≡ (before pure.more_item found pure.no_item, here)
+  pub items_end : (found : List pure.Item) (n i : ℕ) (fresh : Bool) (here : List Tok) (whole : pure.Items × List Tok) → n ≤ i
+      → LeftItems found (n - i) fresh here whole → whole ≡ (before pure.more_item found pure.no_item, here)
   unfolding items_of
   items_end found n i fresh here whole le k =
       let s : n - i ≡ 0 = omega arith in
       let one : items_of (read_mod d) (read_type d) d (n - i) fresh here ≡ (pure.no_item, here) = rw s refl in
       sym k ∙ ap (λ (z : pure.Items × List Tok). (before pure.more_item found z.0, z.1)) one
 
-  item_on : (found : List pure.Item) (x : pure.Item) (n i : ℕ) (fresh next : Bool) (here after : List Tok) (whole : pure.Items × List Tok) → i < n → item_of (read_mod d) (read_type d) d fresh here ≡ Some (x, after) → next ≡ is_separator x → LeftItems found (n - i) fresh here whole → LeftItems (found ++ x ∷ []) (n - (i + 1)) next after whole
+  item_on : (found : List pure.Item) (x : pure.Item) (n i : ℕ) (fresh next : Bool) (here after : List Tok) (whole : pure.Items × List Tok) → i < n
+      → item_of (read_mod d) (read_type d) d fresh here ≡ Some (x, after) → next ≡ is_separator x → LeftItems found (n - i) fresh here whole
+      → LeftItems (found ++ x ∷ []) (n - (i + 1)) next after whole
   unfolding items_of
   item_on found x n i fresh next here after whole lt e q k =
       let s : n - i ≡ suc (n - (i + 1)) = omega arith in
       let m = items_of (read_mod d) (read_type d) d (n - (i + 1)) next after in
       let one : items_of (read_mod d) (read_type d) d (n - i) fresh here ≡ (pure.more_item x m.0, m.1) = rw (s, e, q) refl in
-      ap (λ (l : pure.Items). (l, m.1)) (before_last pure.more_item found x m.0) ∙ sym (ap (λ (z : pure.Items × List Tok). (before pure.more_item found z.0, z.1)) one) ∙ k
+      ap (λ (l : pure.Items). (l, m.1)) (before_last pure.more_item found x m.0)
+      ∙ sym (ap (λ (z : pure.Items × List Tok). (before pure.more_item found z.0, z.1)) one) ∙ k
 
-  pub item_pushed : (xs ys : List Item) (x : Item) (n i : ℕ) (fresh next : Bool) (here after : List Tok) (whole : pure.Items × List Tok) → ys ≡ xs ++ x ∷ [] → i < n → item_of (read_mod d) (read_type d) d fresh here ≡ Some (view_item x, after) → next ≡ is_separator (view_item x) → LeftItems (map view_item xs) (n - i) fresh here whole → LeftItems (map view_item ys) (n - (i + 1)) next after whole
-  item_pushed xs ys x n i fresh next here after whole p lt e q k = rw (p, map_last xs x) (item_on (map view_item xs) (view_item x) n i fresh next here after whole lt e q k)
+  pub item_pushed : (xs ys : List Item) (x : Item) (n i : ℕ) (fresh next : Bool) (here after : List Tok) (whole : pure.Items × List Tok)
+      → ys ≡ xs ++ x ∷ [] → i < n → item_of (read_mod d) (read_type d) d fresh here ≡ Some (view_item x, after) → next ≡ is_separator (view_item x)
+      → LeftItems (map view_item xs) (n - i) fresh here whole → LeftItems (map view_item ys) (n - (i + 1)) next after whole
+  item_pushed xs ys x n i fresh next here after whole p lt e q k =
+      rw (p, map_last xs x) (item_on (map view_item xs) (view_item x) n i fresh next here after whole lt e q k)

@@ -26,13 +26,16 @@ one_file_reading (Face a is) (Body b js) k wa wb q = absurd k
 -- no body has these words
 pub body_none : (file n : ℕ) (ts : List Tok) → length ts ≤ n → read_body file n ts ≡ None → (is : Items) → WfItems true is → ts ≡ items_then is [] → ⊥
 body_none file n ts len h is w q =
-    let e : read_body file n ts ≡ Some (Body file is) = subst (λ k. read_body file n k ≡ Some (Body file is)) (sym q) (body_read file n is w (omega (arith, len, ap length q))) in
+    let e : read_body file n ts ≡ Some (Body file is) = subst (λ k. read_body file n k ≡ Some (Body file is)) (sym q)
+    (body_read file n is w (omega (arith, len, ap length q))) in
     let k : ◌≡◌ {A = Option FileTree} None (Some (Body file is)) = sym h ∙ e in
     absurd cc
 
 -- no interface has these words
-pub face_none : (file n : ℕ) (ts : List Tok) → length ts ≤ n → read_face file n ts ≡ None → (is : SigItems) → WfSigItems is → ts ≡ sig_items_then is [] → ⊥
+pub face_none : (file n : ℕ) (ts : List Tok) → length ts ≤ n → read_face file n ts ≡ None → (is : SigItems) → WfSigItems is
+    → ts ≡ sig_items_then is [] → ⊥
 face_none file n ts len h is w q =
-    let e : read_face file n ts ≡ Some (Face file is) = subst (λ k. read_face file n k ≡ Some (Face file is)) (sym q) (face_read file n is w (omega (arith, len, ap length q))) in
+    let e : read_face file n ts ≡ Some (Face file is) = subst (λ k. read_face file n k ≡ Some (Face file is)) (sym q)
+    (face_read file n is w (omega (arith, len, ap length q))) in
     let k : ◌≡◌ {A = Option FileTree} None (Some (Face file is)) = sym h ∙ e in
     absurd cc

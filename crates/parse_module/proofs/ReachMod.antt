@@ -1,5 +1,6 @@
 -- No module, module type, item or file is missed: each is read from its words.
-use Rattle.std.proofs.Common.{◌≡◌, ◌≢◌, ℕ, zero, suc, ◌<◌, ◌≤◌, List, [], ◌∷◌, ◌++◌, length, Bool, true, false, Option, Some, None, refl, sym, ap, subst, ◌∙◌, arith}
+use Rattle.std.proofs.Common.{◌≡◌, ◌≢◌, ℕ, zero, suc, ◌<◌, ◌≤◌, List, [], ◌∷◌, ◌++◌, length, Bool, true, false, Option, Some, None, refl, sym, ap}
+use Rattle.std.proofs.Common.{subst, ◌∙◌, arith}
 use Rattle.rotor_base.specs.declared.token.Class.TheVariants as class
 use Rattle.ml_syntax.specs.declared.fixed.Fixed.{Fixed}
 use Rattle.ml_syntax.specs.declared.fixed.Fixed.TheVariants as key
@@ -8,10 +9,25 @@ use Rattle.ml_syntax.specs.declared.word.Bracket.TheVariants as bracket
 use Rattle.ml_syntax.specs.Tok.{Name, Tok, fixed, placed, word}
 use Rattle.expr_reading.specs.declared.wanted.Wanted.TheVariants as wanted
 use Rattle.ml_syntax.specs.Runs.{bracketing, after_bracket, beside_type, in_type, in_declaration, is_type_run}
-use Rattle.ml_syntax.specs.Words.{links_then, arguments_then, parts_then, opening, truth, path_then, qualified_then, name_then, optional_then, bang_then, expr_then, binding_then, bindings_then, module_name_then, constraint_then, constraints_then, withs_then, texts_then, external_then, mod_then, mod_argument_then, mod_arguments_then, functor_param_then, functor_params_then, mod_type_then, signature_then, items_then, sig_item_then, sig_items_then}
+use Rattle.ml_syntax.specs.Words.{links_then, arguments_then, parts_then, opening, truth, path_then, qualified_then, name_then, optional_then}
+use Rattle.ml_syntax.specs.Words.{bang_then, expr_then, binding_then, bindings_then, module_name_then, constraint_then, constraints_then, withs_then}
+use Rattle.ml_syntax.specs.Words.{texts_then, external_then, mod_then, mod_argument_then, mod_arguments_then, functor_param_then, functor_params_then}
+use Rattle.ml_syntax.specs.Words.{mod_type_then, signature_then, items_then, sig_item_then, sig_items_then}
 use Rattle.ml_syntax.specs.Words.{item_then as item_then_words}
-use Rattle.ml_syntax.specs.WellFormed.{WfOpen, WfExternal, WfBinding, WfBindings, Wf, level, is_constraint_sign, WfConstraint, WfConstraints, WfWiths, is_functor, is_simple_mod, is_simple_type, is_separator, WfMod, WfModArgument, WfModArguments, WfFunctorParam, WfFunctorParams, WfModType, WfSignature, WfItem, WfItems, WfSigItem, WfSigItems}
-use Rattle.ml_syntax.specs.Tree.{LocalModule, ValueName, PlainName, OperatorName, Expr, Seq, Let, LetOpen, LetModule, Fun, Function, Match, Try, If, Chain, Minus, Apply, ConstrApply, TagApply, Assert, Lazy, Postfix, Prefixed, Literal, BoolExpr, Value, Constr, Tag, UnitExpr, Paren, Typed, Coerced, EmptyBegin, Begin, EmptyList, ListExpr, Record, Opened, While, For, Binding, Bindings, ModuleName, UpperName, AnyName, Constraint, ConstraintOf, WithClause, WithOf, ModExpr, ModPath, Struct, Functor, ModApply, ModParen, Sealed, ModArgument, ModuleArgument, SealedArgument, NoArgument, ModArguments, no_mod_argument, more_mod_argument, FunctorParam, NamedParam, NoParam, FunctorParams, no_functor_param, more_functor_param, ModType, TypePath, Sig, TypeOf, TypeParen, With, FunctorType, ParamArrow, Arrow, MaybeType, no_type, some_type, Item, ExprItem, SeparatorItem, ValueItem, ExternalItem, TypeItem, ExceptionItem, ModuleItem, ModuleTypeItem, OpenItem, IncludeItem, Items, no_item, more_item, SigItem, SeparatorSig, ValSig, ExternalSig, TypeSig, ExceptionSig, ModuleSig, AliasSig, ModuleTypeSig, OpenSig, IncludeSig, SigItems, no_sig_item, more_sig_item, Body, Face}
+use Rattle.ml_syntax.specs.WellFormed.{WfOpen, WfExternal, WfBinding, WfBindings, Wf, level, is_constraint_sign, WfConstraint, WfConstraints, WfWiths}
+use Rattle.ml_syntax.specs.WellFormed.{is_functor, is_simple_mod, is_simple_type, is_separator, WfMod, WfModArgument, WfModArguments, WfFunctorParam}
+use Rattle.ml_syntax.specs.WellFormed.{WfFunctorParams, WfModType, WfSignature, WfItem, WfItems, WfSigItem, WfSigItems}
+use Rattle.ml_syntax.specs.Tree.{LocalModule, ValueName, PlainName, OperatorName, Expr, Seq, Let, LetOpen, LetModule, Fun, Function, Match, Try, If}
+use Rattle.ml_syntax.specs.Tree.{Chain, Minus, Apply, ConstrApply, TagApply, Assert, Lazy, Postfix, Prefixed, Literal, BoolExpr, Value, Constr, Tag}
+use Rattle.ml_syntax.specs.Tree.{UnitExpr, Paren, Typed, Coerced, EmptyBegin, Begin, EmptyList, ListExpr, Record, Opened, While, For, Binding}
+use Rattle.ml_syntax.specs.Tree.{Bindings, ModuleName, UpperName, AnyName, Constraint, ConstraintOf, WithClause, WithOf, ModExpr, ModPath, Struct}
+use Rattle.ml_syntax.specs.Tree.{Functor, ModApply, ModParen, Sealed, ModArgument, ModuleArgument, SealedArgument, NoArgument, ModArguments}
+use Rattle.ml_syntax.specs.Tree.{no_mod_argument, more_mod_argument, FunctorParam, NamedParam, NoParam, FunctorParams, no_functor_param}
+use Rattle.ml_syntax.specs.Tree.{more_functor_param, ModType, TypePath, Sig, TypeOf, TypeParen, With, FunctorType, ParamArrow, Arrow, MaybeType}
+use Rattle.ml_syntax.specs.Tree.{no_type, some_type, Item, ExprItem, SeparatorItem, ValueItem, ExternalItem, TypeItem, ExceptionItem, ModuleItem}
+use Rattle.ml_syntax.specs.Tree.{ModuleTypeItem, OpenItem, IncludeItem, Items, no_item, more_item, SigItem, SeparatorSig, ValSig, ExternalSig}
+use Rattle.ml_syntax.specs.Tree.{TypeSig, ExceptionSig, ModuleSig, AliasSig, ModuleTypeSig, OpenSig, IncludeSig, SigItems, no_sig_item, more_sig_item}
+use Rattle.ml_syntax.specs.Tree.{Body, Face}
 use Rattle.parse_base.specs.Steps.{Read, ◌>>=◌, expect, many, always}
 use Rattle.parse_base.specs.Pieces.{dot_upper}
 use Rattle.parse_base.proofs.Stepping.{some_is, from_some}
@@ -26,9 +42,15 @@ use Rattle.expr_reading.proofs.GoesExpr.{grip, Holds, Begun, Headed, Goes, clash
 use Rattle.expr_reading.proofs.ReachParams.{path_read}
 use Rattle.expr_reading.proofs.ReachForms.{bang_read, bindings_reach, in_exact, binding_opens, last_value}
 use Rattle.expr_reading.proofs.ReachExpr.{expr_reach, binding_good, bindings_good}
-use Rattle.parse_module.specs.ModReading.{grown_mod, module_name, text_word, optional_private, constraint, next_constraint, more_constraints, with_clause, with_clauses, external_rest, open_rest, some_bindings, value_rest, named_param, functor_param, functor_params, signature_of, module_rest, plain_item, item_of, items_of, module_sig_rest, sig_item, sig_items, simple_mod, argument_closed, mod_argument, mod_arguments, mod_apply, mod_expr, simple_type, with_type, param_or, mod_type, read_mod, read_type, read_body, read_face}
-use Rattle.parse_module.proofs.LongerMod.{module_name_more, constraint_more, constraints_more, withs_more, texts_more, mod_more, mod_arguments_more, functor_params_more, mod_type_more, signature_more, item_more, items_more, sig_items_more}
-use Rattle.parse_module.proofs.FoundMod.{next_constraint_found, clause_found, simple_plain, functor_param_found, sig_item_found, mod_argument_found, mod_reads, type_reads}
+use Rattle.parse_module.specs.ModReading.{grown_mod, module_name, text_word, optional_private, constraint, next_constraint, more_constraints}
+use Rattle.parse_module.specs.ModReading.{with_clause, with_clauses, external_rest, open_rest, some_bindings, value_rest, named_param, functor_param}
+use Rattle.parse_module.specs.ModReading.{functor_params, signature_of, module_rest, plain_item, item_of, items_of, module_sig_rest, sig_item}
+use Rattle.parse_module.specs.ModReading.{sig_items, simple_mod, argument_closed, mod_argument, mod_arguments, mod_apply, mod_expr, simple_type}
+use Rattle.parse_module.specs.ModReading.{with_type, param_or, mod_type, read_mod, read_type, read_body, read_face}
+use Rattle.parse_module.proofs.LongerMod.{module_name_more, constraint_more, constraints_more, withs_more, texts_more, mod_more, mod_arguments_more}
+use Rattle.parse_module.proofs.LongerMod.{functor_params_more, mod_type_more, signature_more, item_more, items_more, sig_items_more}
+use Rattle.parse_module.proofs.FoundMod.{next_constraint_found, clause_found, simple_plain, functor_param_found, sig_item_found, mod_argument_found}
+use Rattle.parse_module.proofs.FoundMod.{mod_reads, type_reads}
 
 -- ---- what follows
 
@@ -337,8 +359,11 @@ let_is (Chain n e es) at ts k lv w q = absurd (subst NotLet (sym q) (not_let (Ch
 let_is e at ts k lv w q = absurd (subst NotLet (sym q) (not_let e k (omega arith) w))
 
 -- bindings behind an optional `rec` are read whole, if nothing goes on with them
-bindings_exact : (b : Binding) (bs : Bindings) → WfBinding b → WfBindings bs → (r : List Tok) → Follow r → (f : ℕ) → length (binding_then b (bindings_then bs r)) ≤ f → bindings (read_expr f) f (binding_then b (bindings_then bs r)) ≡ Some ((b, bs), r)
-bindings_exact b bs w ws r s f len = stop (λ h. h) (bindings_reach f ⊥ r (λ h. headed_item key.And r refl s.start h) b bs (binding_good b) (bindings_good bs) w ws (λ h. goes_stop 0 (last_value b bs) r s h) len)
+bindings_exact : (b : Binding) (bs : Bindings) → WfBinding b → WfBindings bs → (r : List Tok) → Follow r → (f : ℕ)
+    → length (binding_then b (bindings_then bs r)) ≤ f → bindings (read_expr f) f (binding_then b (bindings_then bs r)) ≡ Some ((b, bs), r)
+bindings_exact b bs w ws r s f len =
+    stop (λ h. h) (bindings_reach f ⊥ r (λ h. headed_item key.And r refl s.start h) b bs (binding_good b) (bindings_good bs) w ws
+    (λ h. goes_stop 0 (last_value b bs) r s h) len)
 
 opens_no_fixed : (k : Fixed) (ts us : List Tok) → Opens ts → ts ≡ fixed k ∷ us → ⊥
 opens_no_fixed k ts us o q = by o.first o.begins (head_is o.first (fixed k) o.rest us (sym o.is ∙ q))
@@ -352,7 +377,8 @@ opens_no_placed : (k : Fixed) (at : ℕ) (ts us : List Tok) → begins_pat (plac
 opens_no_placed k at ts us un o q = clash (subst (λ t. begins_pat t ≡ true) (head_is o.first (placed k at) o.rest us (sym o.is ∙ q)) o.begins) un
 
 -- the bindings of a `let` with `in` are not those of an item
-same_bindings : (b b' : Binding) (bs bs' : Bindings) (r k : List Tok) → WfBinding b → WfBindings bs → WfBinding b' → WfBindings bs' → Follow r → binding_then b (bindings_then bs r) ≡ binding_then b' (bindings_then bs' (fixed key.In ∷ k)) → ⊥
+same_bindings : (b b' : Binding) (bs bs' : Bindings) (r k : List Tok) → WfBinding b → WfBindings bs → WfBinding b' → WfBindings bs' → Follow r
+    → binding_then b (bindings_then bs r) ≡ binding_then b' (bindings_then bs' (fixed key.In ∷ k)) → ⊥
 same_bindings b b' bs bs' r k w ws w' ws' s q =
     let f = length (binding_then b (bindings_then bs r)) in
     let one = bindings_exact b bs w ws r s f (omega arith) in
@@ -363,23 +389,32 @@ same_bindings b b' bs bs' r k w ws w' ws' s q =
     by : (r : List Tok) → Follow r → r ≡ fixed key.In ∷ k → ⊥
     by r s e = let h : starts_item (fixed key.In) ≡ true = subst ItemStart e s.start in absurd cc
 
-value_not_begun : (at : ℕ) (recursive : Bool) (b : Binding) (bs : Bindings) (r : List Tok) → WfBinding b → WfBindings bs → Follow r → Begun (placed key.Let at ∷ optional_then key.Rec recursive (binding_then b (bindings_then bs r))) → ⊥
-value_not_begun at recursive b bs r w ws s g = by g.tree g.rest g.wf g.words (let_is g.tree at (optional_then key.Rec recursive (binding_then b (bindings_then bs r))) g.rest g.fits g.wf g.words)
+value_not_begun : (at : ℕ) (recursive : Bool) (b : Binding) (bs : Bindings) (r : List Tok) → WfBinding b → WfBindings bs → Follow r
+    → Begun (placed key.Let at ∷ optional_then key.Rec recursive (binding_then b (bindings_then bs r))) → ⊥
+value_not_begun at recursive b bs r w ws s g =
+    by g.tree g.rest g.wf g.words
+    (let_is g.tree at (optional_then key.Rec recursive (binding_then b (bindings_then bs r))) g.rest g.fits g.wf g.words)
   where
     first_opens : Opens (binding_then b (bindings_then bs r))
     first_opens = binding_opens b (bindings_then bs r) w
 
-    by_rec : (recursive recursive' : Bool) (b' : Binding) (bs' : Bindings) (k : List Tok) → WfBinding b' → WfBindings bs' → optional_then key.Rec recursive (binding_then b (bindings_then bs r)) ≡ optional_then key.Rec recursive' (binding_then b' (bindings_then bs' (fixed key.In ∷ k))) → ⊥
+    by_rec : (recursive recursive' : Bool) (b' : Binding) (bs' : Bindings) (k : List Tok) → WfBinding b' → WfBindings bs'
+        → optional_then key.Rec recursive (binding_then b (bindings_then bs r)) ≡ optional_then key.Rec recursive'
+        (binding_then b' (bindings_then bs' (fixed key.In ∷ k))) → ⊥
     by_rec true true b' bs' k w' ws' q = same_bindings b b' bs bs' r k w ws w' ws' s (tail_is (fixed key.Rec) (fixed key.Rec) _ _ q)
     by_rec false false b' bs' k w' ws' q = same_bindings b b' bs bs' r k w ws w' ws' s q
-    by_rec true false b' bs' k w' ws' q = opens_no_fixed key.Rec (binding_then b' (bindings_then bs' (fixed key.In ∷ k))) (binding_then b (bindings_then bs r)) (binding_opens b' (bindings_then bs' (fixed key.In ∷ k)) w') (sym q)
-    by_rec false true b' bs' k w' ws' q = opens_no_fixed key.Rec (binding_then b (bindings_then bs r)) (binding_then b' (bindings_then bs' (fixed key.In ∷ k))) first_opens q
+    by_rec true false b' bs' k w' ws' q = opens_no_fixed key.Rec (binding_then b' (bindings_then bs' (fixed key.In ∷ k)))
+        (binding_then b (bindings_then bs r)) (binding_opens b' (bindings_then bs' (fixed key.In ∷ k)) w') (sym q)
+    by_rec false true b' bs' k w' ws' q = opens_no_fixed key.Rec (binding_then b (bindings_then bs r))
+        (binding_then b' (bindings_then bs' (fixed key.In ∷ k))) first_opens q
 
-    by_open : (recursive : Bool) (k : Fixed) (at' : ℕ) (us : List Tok) → begins_pat (placed k at') ≡ false → optional_then key.Rec recursive (binding_then b (bindings_then bs r)) ≡ placed k at' ∷ us → ⊥
+    by_open : (recursive : Bool) (k : Fixed) (at' : ℕ) (us : List Tok) → begins_pat (placed k at') ≡ false
+        → optional_then key.Rec recursive (binding_then b (bindings_then bs r)) ≡ placed k at' ∷ us → ⊥
     by_open true k at' us un q = absurd cc
     by_open false k at' us un q = opens_no_placed k at' (binding_then b (bindings_then bs r)) us un first_opens q
 
-    by : (e : Expr) (k : List Tok) → Wf e → placed key.Let at ∷ optional_then key.Rec recursive (binding_then b (bindings_then bs r)) ≡ expr_then e k → IsLet e → ⊥
+    by : (e : Expr) (k : List Tok) → Wf e → placed key.Let at ∷ optional_then key.Rec recursive (binding_then b (bindings_then bs r)) ≡ expr_then e k
+        → IsLet e → ⊥
     by _ k we q (is_let at' recursive' b' bs' e) = by_rec recursive recursive' b' bs' (expr_then e k) we.0 we.1 (tail_is _ _ _ _ q)
     by _ k we q (is_let_open at' at'' bang path e) = by_open recursive key.Open at'' _ refl (tail_is _ _ _ _ q)
     by _ k we q (is_let_module at' at'' x y m e) = by_open recursive key.Module at'' _ refl (tail_is _ _ _ _ q)
@@ -419,12 +454,15 @@ data EndsItems : List Tok → Type 0 where
   at_word : (r : List Tok) → EndsItems (fixed key.End ∷ r)
 
 record GoodMod (m : ModExpr) : Type 0 where
-  lone : is_simple_mod m ≡ true → WfMod m → (f : ℕ) (r : List Tok) → dot_upper r ≡ None → length (mod_then m r) ≤ suc f → simple_mod_at f (mod_then m r) ≡ Some (m, r)
-  flat : is_functor m ≡ false → WfMod m → (f : ℕ) (r : List Tok) → Follows r → length (mod_then m r) ≤ suc f → mod_apply_at f (mod_then m r) ≡ Some (m, r)
+  lone : is_simple_mod m ≡ true → WfMod m → (f : ℕ) (r : List Tok) → dot_upper r ≡ None → length (mod_then m r) ≤ suc f
+      → simple_mod_at f (mod_then m r) ≡ Some (m, r)
+  flat : is_functor m ≡ false → WfMod m → (f : ℕ) (r : List Tok) → Follows r → length (mod_then m r) ≤ suc f
+      → mod_apply_at f (mod_then m r) ≡ Some (m, r)
   full : WfMod m → (f : ℕ) (r : List Tok) → Follows r → length (mod_then m r) ≤ suc f → mod_expr_at f (mod_then m r) ≡ Some (m, r)
 
 record GoodType (s : ModType) : Type 0 where
-  lone : is_simple_type s ≡ true → WfModType s → (f : ℕ) (r : List Tok) → Follows r → length (mod_type_then s r) ≤ suc f → simple_type_at f (mod_type_then s r) ≡ Some (s, r)
+  lone : is_simple_type s ≡ true → WfModType s → (f : ℕ) (r : List Tok) → Follows r → length (mod_type_then s r) ≤ suc f
+      → simple_type_at f (mod_type_then s r) ≡ Some (s, r)
   full : WfModType s → (f : ℕ) (r : List Tok) → Closed r → length (mod_type_then s r) ≤ suc f → mod_type_at f (mod_type_then s r) ≡ Some (s, r)
 
 abbrev GoodArgument : ModArgument → Type 0
@@ -476,10 +514,12 @@ mod_longer (Struct at is) k w = omega (arith, items_more is (fixed key.End ∷ k
 mod_longer (Functor at ps m) k w = omega (arith, functor_params_more ps (fixed key.Arrow ∷ mod_then m k), mod_more m k)
 mod_longer (ModApply m ms) k w = omega (arith, mod_longer m (mod_arguments_then ms k) w.1, mod_arguments_more ms k)
 mod_longer (ModParen at m) k w = omega (arith, mod_more m (fixed key.RightParen ∷ k))
-mod_longer (Sealed at m s) k w = omega (arith, mod_more m (fixed key.Colon ∷ mod_type_then s (fixed key.RightParen ∷ k)), mod_type_more s (fixed key.RightParen ∷ k))
+mod_longer (Sealed at m s) k w =
+    omega (arith, mod_more m (fixed key.Colon ∷ mod_type_then s (fixed key.RightParen ∷ k)), mod_type_more s (fixed key.RightParen ∷ k))
 
 param_longer : (p : FunctorParam) (k : List Tok) → length k < length (functor_param_then p k)
-param_longer (NamedParam at x s) k = omega (arith, module_name_more x (fixed key.Colon ∷ mod_type_then s (fixed key.RightParen ∷ k)), mod_type_more s (fixed key.RightParen ∷ k))
+param_longer (NamedParam at x s) k =
+    omega (arith, module_name_more x (fixed key.Colon ∷ mod_type_then s (fixed key.RightParen ∷ k)), mod_type_more s (fixed key.RightParen ∷ k))
 param_longer (NoParam at) k = omega arith
 
 type_longer : (s : ModType) (k : List Tok) → WfModType s → length k < length (mod_type_then s k)
@@ -494,20 +534,39 @@ type_longer (Arrow s s') k w = omega (arith, type_longer s (fixed key.Arrow ∷ 
 
 argument_longer : (a : ModArgument) (k : List Tok) → length k < length (mod_argument_then a k)
 argument_longer (ModuleArgument at m) k = omega (arith, mod_more m (fixed key.RightParen ∷ k))
-argument_longer (SealedArgument at m s) k = omega (arith, mod_more m (fixed key.Colon ∷ mod_type_then s (fixed key.RightParen ∷ k)), mod_type_more s (fixed key.RightParen ∷ k))
+argument_longer (SealedArgument at m s) k =
+    omega (arith, mod_more m (fixed key.Colon ∷ mod_type_then s (fixed key.RightParen ∷ k)), mod_type_more s (fixed key.RightParen ∷ k))
 argument_longer (NoArgument at) k = omega arith
 
 external_longer : (x : ValueName) (run : List Tok) (at : ℕ) (texts : List Name) (k : List Tok) → length k < length (external_then x run at texts k)
-external_longer x run at texts k = omega (arith, name_longer x (fixed key.Colon ∷ (run ++ (placed key.Equals at ∷ texts_then texts k))), run_longer run (placed key.Equals at ∷ texts_then texts k), texts_more texts k)
+external_longer x run at texts k =
+    omega (
+      arith,
+      name_longer x (fixed key.Colon ∷ (run ++ (placed key.Equals at ∷ texts_then texts k))),
+      run_longer run
+          (placed key.Equals at ∷ texts_then texts k),
+      texts_more texts k,
+    )
 
 item_longer : (fresh : Bool) (i : Item) (k : List Tok) → WfItem fresh i → length k < length (item_then_words i k)
 item_longer fresh (ExprItem e) k w = expr_longer e k w.1
 item_longer fresh SeparatorItem k w = omega arith
-item_longer fresh (ValueItem at recursive b bs) k w = omega (arith, optional_longer key.Rec recursive (binding_then b (bindings_then bs k)), binding_more b (bindings_then bs k), bindings_more bs k)
+item_longer fresh (ValueItem at recursive b bs) k w =
+    omega (arith, optional_longer key.Rec recursive (binding_then b (bindings_then bs k)), binding_more b (bindings_then bs k), bindings_more bs k)
 item_longer fresh (ExternalItem x run at texts) k w = external_longer x run at texts k
 item_longer fresh (TypeItem run) k w = omega (arith, run_longer run k)
 item_longer fresh (ExceptionItem at run) k w = omega (arith, run_longer run k)
-item_longer fresh (ModuleItem at x ps s q m) k w = omega (arith, item_more (ModuleItem at x ps s q m) k, module_name_more x (functor_params_then ps (signature_then s (placed key.Equals q ∷ mod_then m k))), functor_params_more ps (signature_then s (placed key.Equals q ∷ mod_then m k)), signature_more s (placed key.Equals q ∷ mod_then m k), mod_more m k)
+item_longer fresh (ModuleItem at x ps s q m) k w =
+    omega (
+      arith,
+      item_more (ModuleItem at x ps s q m) k,
+      module_name_more x
+          (functor_params_then ps (signature_then s (placed key.Equals q ∷ mod_then m k))),
+      functor_params_more ps
+          (signature_then s (placed key.Equals q ∷ mod_then m k)),
+      signature_more s (placed key.Equals q ∷ mod_then m k),
+      mod_more m k,
+    )
 item_longer fresh (ModuleTypeItem at x q s) k w = omega (arith, mod_type_more s k)
 item_longer fresh (OpenItem at bang path) k w = omega (arith, bang_more bang (path_then path k), path_longer path k)
 item_longer fresh (IncludeItem at m) k w = omega (arith, mod_more m k)
@@ -518,7 +577,14 @@ sig_item_longer (ValSig x run) k = omega (arith, name_longer x (fixed key.Colon 
 sig_item_longer (ExternalSig x run at texts) k = external_longer x run at texts k
 sig_item_longer (TypeSig run) k = omega (arith, run_longer run k)
 sig_item_longer (ExceptionSig at run) k = omega (arith, run_longer run k)
-sig_item_longer (ModuleSig at x ps s) k = omega (arith, module_name_more x (functor_params_then ps (fixed key.Colon ∷ mod_type_then s k)), functor_params_more ps (fixed key.Colon ∷ mod_type_then s k), mod_type_more s k)
+sig_item_longer (ModuleSig at x ps s) k =
+    omega (
+      arith,
+      module_name_more x (functor_params_then ps (fixed key.Colon ∷ mod_type_then s k)),
+      functor_params_more ps
+          (fixed key.Colon ∷ mod_type_then s k),
+      mod_type_more s k,
+    )
 sig_item_longer (AliasSig at x q path) k = omega (arith, path_longer path k)
 sig_item_longer (ModuleTypeSig at x q s) k = omega (arith, mod_type_more s k)
 sig_item_longer (OpenSig at bang path) k = omega (arith, bang_more bang (path_then path k), path_longer path k)
@@ -526,12 +592,14 @@ sig_item_longer (IncludeSig at s) k = omega (arith, mod_type_more s k)
 
 -- ---- through the knot
 
-sub_mod : (m : ModExpr) → GoodMod m → WfMod m → (f : ℕ) (r : List Tok) → Follows r → length (mod_then m r) ≤ f → read_mod f (mod_then m r) ≡ Some (m, r)
+sub_mod : (m : ModExpr) → GoodMod m → WfMod m → (f : ℕ) (r : List Tok) → Follows r → length (mod_then m r) ≤ f
+    → read_mod f (mod_then m r) ≡ Some (m, r)
 unfolding read_mod
 sub_mod m g w zero r s len = absurd (omega (arith, len, mod_longer m r w))
 sub_mod m g w (suc f) r s len = g.full w f r s len
 
-sub_type : (t : ModType) → GoodType t → WfModType t → (f : ℕ) (r : List Tok) → Closed r → length (mod_type_then t r) ≤ f → read_type f (mod_type_then t r) ≡ Some (t, r)
+sub_type : (t : ModType) → GoodType t → WfModType t → (f : ℕ) (r : List Tok) → Closed r → length (mod_type_then t r) ≤ f
+    → read_type f (mod_type_then t r) ≡ Some (t, r)
 unfolding read_type
 sub_type t g w zero r s len = absurd (omega (arith, len, type_longer t r w))
 sub_type t g w (suc f) r s len = g.full w f r s len
@@ -543,7 +611,8 @@ module _ (f : ℕ) where
   name_read_module (UpperName x) k = refl
   name_read_module (AnyName at) k = refl
 
-  named_is : (at : ℕ) (x : ModuleName) (k : List Tok) → param_at f (placed key.LeftParen at ∷ module_name_then x k) ≡ named_param (read_mod f) (read_type f) f at (module_name_then x k)
+  named_is : (at : ℕ) (x : ModuleName) (k : List Tok) → param_at f (placed key.LeftParen at ∷ module_name_then x k) ≡ named_param (read_mod f)
+      (read_type f) f at (module_name_then x k)
   unfolding functor_param
   named_is at (UpperName x) k = refl
   named_is at (AnyName at') k = refl
@@ -552,7 +621,8 @@ module _ (f : ℕ) where
   unfolding functor_param
   no_param_read at k = refl
 
-  param_read : (p : FunctorParam) → GoodParam p → WfFunctorParam p → (k : List Tok) → length (functor_param_then p k) ≤ suc f → param_at f (functor_param_then p k) ≡ Some (p, k)
+  param_read : (p : FunctorParam) → GoodParam p → WfFunctorParam p → (k : List Tok) → length (functor_param_then p k) ≤ suc f
+      → param_at f (functor_param_then p k) ≡ Some (p, k)
   param_read (NamedParam at x s) g w k len =
       let rest : List Tok = fixed key.Colon ∷ mod_type_then s (fixed key.RightParen ∷ k) in
       let l = module_name_more x rest in
@@ -561,7 +631,8 @@ module _ (f : ℕ) where
   param_read (NoParam at) g w k len = no_param_read at k
 
   param_shorter : (ts : List Tok) (x : FunctorParam × List Tok) → param_at f ts ≡ Some x → length x.1 < length ts
-  param_shorter ts x e = let p = functor_param_found (read_mod f) (read_type f) f (mod_reads f) (type_reads f) ts x e in omega (arith, ap length p.words, param_longer x.0 x.1)
+  param_shorter ts x e = let p = functor_param_found (read_mod f) (read_type f) f (mod_reads f) (type_reads f) ts x e in
+      omega (arith, ap length p.words, param_longer x.0 x.1)
 
   -- parameters end if no `(` follows
   abbrev NoParen : List Tok → Type 0
@@ -574,34 +645,44 @@ module _ (f : ℕ) where
   paren_none (placed key.LeftParen at ∷ r) h = absurd h
   paren_none (_ ∷ r) h = refl
 
-  params_reach : (ps : FunctorParams) → GoodParams ps → WfFunctorParams ps → (k : List Tok) → NoParen k → (n : ℕ) → length (functor_params_then ps k) ≤ n → n ≤ suc f → Reach ⊥ ps k (Some (many no_functor_param more_functor_param always (param_at f) n (functor_params_then ps k)))
-  params_reach no_functor_param g w k h n len le = no_turn no_functor_param more_functor_param always (param_at f) param_shorter ⊥ true k (length k) n (λ _ x e. let q = sym (paren_none k h) ∙ e in absurd cc)
+  params_reach : (ps : FunctorParams) → GoodParams ps → WfFunctorParams ps → (k : List Tok) → NoParen k → (n : ℕ)
+      → length (functor_params_then ps k) ≤ n → n ≤ suc f
+      → Reach ⊥ ps k (Some (many no_functor_param more_functor_param always (param_at f) n (functor_params_then ps k)))
+  params_reach no_functor_param g w k h n len le = no_turn no_functor_param more_functor_param always (param_at f) param_shorter ⊥ true k (length k) n
+      (λ _ x e. let q = sym (paren_none k h) ∙ e in absurd cc)
   params_reach (more_functor_param p ps) g w k h zero len le = absurd (omega (arith, len, param_longer p (functor_params_then ps k)))
   params_reach (more_functor_param p ps) g w k h (suc n) len le =
       let rest : List Tok = functor_params_then ps k in
-      more_turns no_functor_param more_functor_param always (param_at f) param_shorter ⊥ p ps k (functor_param_then p rest) rest (length k) n (param_read p g.0 w.0 rest (omega (arith, len, le))) refl
+      more_turns no_functor_param more_functor_param always (param_at f) param_shorter ⊥ p ps k (functor_param_then p rest) rest (length k) n
+      (param_read p g.0 w.0 rest (omega (arith, len, le))) refl
       (params_reach ps g.1 w.1 k h n (omega (arith, len, param_longer p rest)) (omega (arith, le)))
 
-  params_exact : (ps : FunctorParams) → GoodParams ps → WfFunctorParams ps → (k : List Tok) → NoParen k → length (functor_params_then ps k) ≤ f → functor_params (read_mod f) (read_type f) f (functor_params_then ps k) ≡ (ps, k)
+  params_exact : (ps : FunctorParams) → GoodParams ps → WfFunctorParams ps → (k : List Tok) → NoParen k → length (functor_params_then ps k) ≤ f
+      → functor_params (read_mod f) (read_type f) f (functor_params_then ps k) ≡ (ps, k)
   params_exact ps g w k h len = some_is (stop {C = ⊥} (λ c. c) (params_reach ps g w k h f len (omega arith)))
 
   -- ---- small parts of items
 
-  texts_reach : (xs : List Name) (k : List Tok) → ItemStart k → (n : ℕ) → length (texts_then xs k) ≤ n → Reach ⊥ xs k (Some (many [] ◌∷◌ always text_word n (texts_then xs k)))
-  texts_reach [] k h n len = no_turn [] ◌∷◌ always text_word text_shorter ⊥ true k (length k) n (λ _ x e. let q = sym (start_no_text k h) ∙ e in absurd cc)
+  texts_reach : (xs : List Name) (k : List Tok) → ItemStart k → (n : ℕ) → length (texts_then xs k) ≤ n
+      → Reach ⊥ xs k (Some (many [] ◌∷◌ always text_word n (texts_then xs k)))
+  texts_reach [] k h n len = no_turn [] ◌∷◌ always text_word text_shorter ⊥ true k (length k) n
+      (λ _ x e. let q = sym (start_no_text k h) ∙ e in absurd cc)
     where
       text_shorter : (ts : List Tok) (x : Name × List Tok) → text_word ts ≡ Some x → length x.1 < length ts
       text_shorter (word class.Text y ∷ ts) x e = from_some (λ (z : Name × List Tok). length z.1 < length (word class.Text y ∷ ts)) e (omega arith)
       text_shorter _ x e = absurd cc
   texts_reach (x ∷ xs) k h zero len = absurd (omega (arith, len))
-  texts_reach (x ∷ xs) k h (suc n) len = more_turns [] ◌∷◌ always text_word shorter ⊥ x xs k (word class.Text x ∷ texts_then xs k) (texts_then xs k) (length k) n refl refl (texts_reach xs k h n (omega (arith, len)))
+  texts_reach (x ∷ xs) k h (suc n) len = more_turns [] ◌∷◌ always text_word shorter ⊥ x xs k (word class.Text x ∷ texts_then xs k) (texts_then xs k)
+      (length k) n refl refl (texts_reach xs k h n (omega (arith, len)))
     where
       shorter : (ts : List Tok) (x : Name × List Tok) → text_word ts ≡ Some x → length x.1 < length ts
       shorter (word class.Text y ∷ ts) x e = from_some (λ (z : Name × List Tok). length z.1 < length (word class.Text y ∷ ts)) e (omega arith)
       shorter _ x e = absurd cc
 
-  external_read : (x : ValueName) (run : List Tok) (at : ℕ) (texts : List Name) (k : List Tok) → WfExternal x run texts → ItemStart k → length (external_then x run at texts k) ≤ suc f
-      → external_rest f (name_then x (fixed key.Colon ∷ (run ++ (placed key.Equals at ∷ texts_then texts k)))) ≡ Some (record { name = x; run = run; at = at; texts = texts }, k)
+  external_read : (x : ValueName) (run : List Tok) (at : ℕ) (texts : List Name) (k : List Tok) → WfExternal x run texts → ItemStart k
+      → length (external_then x run at texts k) ≤ suc f
+      → external_rest f (name_then x (fixed key.Colon ∷ (run ++ (placed key.Equals at ∷ texts_then texts k)))) ≡ Some
+      (record { name = x; run = run; at = at; texts = texts }, k)
   unfolding external_rest
   external_read x run at [] k w h len = absurd (w.2 refl)
   external_read x run at (y ∷ ys) k w h len =
@@ -614,7 +695,8 @@ module _ (f : ℕ) where
       let m = some_is (stop {C = ⊥} (λ c. c) (texts_reach (y ∷ ys) k h f (omega (arith, len, l, l2)))) in
       rw (n, t, m) refl
 
-  open_read : (bang : Option Name) (path : List Name) (k : List Tok) → WfOpen bang path → Follows k → length (path_then path k) ≤ suc f → open_rest f (bang_then bang (path_then path k)) ≡ Some ((bang, path), k)
+  open_read : (bang : Option Name) (path : List Name) (k : List Tok) → WfOpen bang path → Follows k → length (path_then path k) ≤ suc f
+      → open_rest f (bang_then bang (path_then path k)) ≡ Some ((bang, path), k)
   unfolding open_rest
   open_read bang path k w h len =
       let b = bang_read bang path k w.0 w.1 in
@@ -634,10 +716,13 @@ module _ (f : ℕ) where
   unfolding value_rest
   rec_is at ts = refl
 
-  value_read : (at : ℕ) (recursive : Bool) (b : Binding) (bs : Bindings) (k : List Tok) → WfBinding b → WfBindings bs → Follow k → length (optional_then key.Rec recursive (binding_then b (bindings_then bs k))) ≤ f
+  value_read : (at : ℕ) (recursive : Bool) (b : Binding) (bs : Bindings) (k : List Tok) → WfBinding b → WfBindings bs → Follow k
+      → length (optional_then key.Rec recursive (binding_then b (bindings_then bs k))) ≤ f
       → value_rest f at (optional_then key.Rec recursive (binding_then b (bindings_then bs k))) ≡ Some (ValueItem at recursive b bs, k)
-  value_read at true b bs k w ws s len = rec_is at (binding_then b (bindings_then bs k)) ∙ rw (bindings_exact b bs w ws k s f (omega (arith, len))) refl
-  value_read at false b bs k w ws s len = opens_plain at (binding_then b (bindings_then bs k)) (binding_opens b (bindings_then bs k) w) ∙ rw (bindings_exact b bs w ws k s f len) refl
+  value_read at true b bs k w ws s len = rec_is at (binding_then b (bindings_then bs k))
+      ∙ rw (bindings_exact b bs w ws k s f (omega (arith, len))) refl
+  value_read at false b bs k w ws s len = opens_plain at (binding_then b (bindings_then bs k)) (binding_opens b (bindings_then bs k) w)
+      ∙ rw (bindings_exact b bs w ws k s f len) refl
 
   -- ---- constraints
 
@@ -655,7 +740,8 @@ module _ (f : ℕ) where
   sign_ends (word class.Mark x) k h = refl
   sign_ends _ k h = absurd cc
 
-  private_run : (private : Bool) (b k : List Tok) → is_type_run b ≡ true → optional_private (optional_then key.Private private (b ++ k)) ≡ (private, b ++ k)
+  private_run : (private : Bool) (b k : List Tok) → is_type_run b ≡ true
+      → optional_private (optional_then key.Private private (b ++ k)) ≡ (private, b ++ k)
   private_run true b k h = refl
   private_run false b k h = run_no_private b k h
 
@@ -693,15 +779,19 @@ module _ (f : ℕ) where
   constraints_blocked [] r e = clause_blocked r e
   constraints_blocked (c ∷ cs) r e = refl
 
-  constraints_reach : (cs : List Constraint) (r : List Tok) → WfConstraints cs → EndsClause r → (n : ℕ) → length (constraints_then cs r) ≤ n → Reach ⊥ cs r (Some (more_constraints n (constraints_then cs r)))
-  constraints_reach [] r w h n len = no_turn [] ◌∷◌ always next_constraint next_shorter ⊥ true r (length r) n (λ _ x e. let q = sym (clause_no_and r h) ∙ e in absurd cc)
+  constraints_reach : (cs : List Constraint) (r : List Tok) → WfConstraints cs → EndsClause r → (n : ℕ) → length (constraints_then cs r) ≤ n
+      → Reach ⊥ cs r (Some (more_constraints n (constraints_then cs r)))
+  constraints_reach [] r w h n len = no_turn [] ◌∷◌ always next_constraint next_shorter ⊥ true r (length r) n
+      (λ _ x e. let q = sym (clause_no_and r h) ∙ e in absurd cc)
   constraints_reach (c ∷ cs) r w h zero len = absurd (omega (arith, len))
   constraints_reach (c ∷ cs) r w h (suc n) len =
       let rest : List Tok = constraints_then cs r in
-      more_turns [] ◌∷◌ always next_constraint next_shorter ⊥ c cs r (fixed key.And ∷ constraint_then c rest) rest (length r) n (constraint_read c rest w.0 (constraints_blocked cs r h)) refl
+      more_turns [] ◌∷◌ always next_constraint next_shorter ⊥ c cs r (fixed key.And ∷ constraint_then c rest) rest (length r) n
+      (constraint_read c rest w.0 (constraints_blocked cs r h)) refl
       (constraints_reach cs r w.1 h n (omega (arith, len, constraint_more c rest)))
 
-  clause_read : (c : Constraint) (cs : List Constraint) (r : List Tok) → WfConstraint c → WfConstraints cs → EndsClause r → length (constraints_then cs r) ≤ f → with_clause f (withs_then (WithOf c cs ∷ []) r) ≡ Some (WithOf c cs, r)
+  clause_read : (c : Constraint) (cs : List Constraint) (r : List Tok) → WfConstraint c → WfConstraints cs → EndsClause r
+      → length (constraints_then cs r) ≤ f → with_clause f (withs_then (WithOf c cs ∷ []) r) ≡ Some (WithOf c cs, r)
   unfolding with_clause
   clause_read c cs r w ws h len =
       let first = constraint_read c (constraints_then cs r) w (constraints_blocked cs r h) in
@@ -718,14 +808,17 @@ module _ (f : ℕ) where
   withs_end [] r h = at_close r h
   withs_end (WithOf c cs ∷ ws) r h = at_with (constraint_then c (constraints_then cs (withs_then ws r)))
 
-  withs_reach : (ws : List WithClause) (r : List Tok) → WfWiths ws → Closed r → (n : ℕ) → length (withs_then ws r) ≤ n → n ≤ suc f → Reach ⊥ ws r (Some (many [] ◌∷◌ always (with_clause f) n (withs_then ws r)))
-  withs_reach [] r w h n len le = no_turn [] ◌∷◌ always (with_clause f) clause_shorter ⊥ true r (length r) n (λ _ x e. let q = sym (closed_no_with f r h) ∙ e in absurd cc)
+  withs_reach : (ws : List WithClause) (r : List Tok) → WfWiths ws → Closed r → (n : ℕ) → length (withs_then ws r) ≤ n → n ≤ suc f
+      → Reach ⊥ ws r (Some (many [] ◌∷◌ always (with_clause f) n (withs_then ws r)))
+  withs_reach [] r w h n len le = no_turn [] ◌∷◌ always (with_clause f) clause_shorter ⊥ true r (length r) n
+      (λ _ x e. let q = sym (closed_no_with f r h) ∙ e in absurd cc)
   withs_reach (WithOf c cs ∷ ws) r w h zero len le = absurd (omega (arith, len))
   withs_reach (WithOf c cs ∷ ws) r w h (suc n) len le =
       let rest : List Tok = withs_then ws r in
       let l = constraint_more c (constraints_then cs rest) in
       let l2 = constraints_more cs rest in
-      more_turns [] ◌∷◌ always (with_clause f) clause_shorter ⊥ (WithOf c cs) ws r (withs_then (WithOf c cs ∷ ws) r) rest (length r) n (clause_read c cs rest w.0 w.1 (withs_end ws r h) (omega (arith, len, le, l))) refl
+      more_turns [] ◌∷◌ always (with_clause f) clause_shorter ⊥ (WithOf c cs) ws r (withs_then (WithOf c cs ∷ ws) r) rest (length r) n
+      (clause_read c cs rest w.0 w.1 (withs_end ws r h) (omega (arith, len, le, l))) refl
       (withs_reach ws r w.2 h n (omega (arith, len, l, l2)) (omega (arith, le)))
 
   -- ---- items
@@ -733,7 +826,8 @@ module _ (f : ℕ) where
   abbrev plain_at : Read Item
   plain_at = plain_item (read_mod f) (read_type f) f
 
-  signature_read : (s : MaybeType) (q : ℕ) (k : List Tok) → GoodMaybe s → WfSignature s → length (signature_then s (placed key.Equals q ∷ k)) ≤ f → signature_of (read_mod f) (read_type f) f (signature_then s (placed key.Equals q ∷ k)) ≡ Some (s, placed key.Equals q ∷ k)
+  signature_read : (s : MaybeType) (q : ℕ) (k : List Tok) → GoodMaybe s → WfSignature s → length (signature_then s (placed key.Equals q ∷ k)) ≤ f
+      → signature_of (read_mod f) (read_type f) f (signature_then s (placed key.Equals q ∷ k)) ≡ Some (s, placed key.Equals q ∷ k)
   signature_read no_type q k g w len = refl
   signature_read (some_type s) q k g w len = rw (sub_type s g w f (placed key.Equals q ∷ k) refl (omega (arith, len))) refl
 
@@ -741,12 +835,15 @@ module _ (f : ℕ) where
   signature_no_paren no_type q k = tt
   signature_no_paren (some_type s) q k = tt
 
-  module_is : (at : ℕ) (x : ModuleName) (k : List Tok) → plain_at (placed key.Module at ∷ module_name_then x k) ≡ module_rest (read_mod f) (read_type f) f at (module_name_then x k)
+  module_is : (at : ℕ) (x : ModuleName) (k : List Tok) → plain_at (placed key.Module at ∷ module_name_then x k) ≡ module_rest (read_mod f)
+      (read_type f) f at (module_name_then x k)
   unfolding plain_item
   module_is at (UpperName x) k = refl
   module_is at (AnyName at') k = refl
 
-  module_read : (at : ℕ) (x : ModuleName) (ps : FunctorParams) (s : MaybeType) (q : ℕ) (m : ModExpr) (k : List Tok) → GoodItem (ModuleItem at x ps s q m) → WfFunctorParams ps → WfSignature s → WfMod m → Follows k → length (item_then_words (ModuleItem at x ps s q m) k) ≤ suc f
+  module_read : (at : ℕ) (x : ModuleName) (ps : FunctorParams) (s : MaybeType) (q : ℕ) (m : ModExpr) (k : List Tok)
+      → GoodItem (ModuleItem at x ps s q m) → WfFunctorParams ps → WfSignature s → WfMod m → Follows k
+      → length (item_then_words (ModuleItem at x ps s q m) k) ≤ suc f
       → plain_at (item_then_words (ModuleItem at x ps s q m) k) ≡ Some (ModuleItem at x ps s q m, k)
   module_read at x ps s q m k g wp ws wm h len =
       let k1 : List Tok = placed key.Equals q ∷ mod_then m k in
@@ -760,7 +857,8 @@ module _ (f : ℕ) where
       let b = sub_mod m g.2 wm f k h (omega (arith, len, l0, l1, l2)) in
       module_is at x k3 ∙ rw (name_read_module x k3, p, t, b) refl
 
-  plain_read : (i : Item) → GoodItem i → WfItem false i → (k : List Tok) → Follow k → length (item_then_words i k) ≤ suc f → plain_at (item_then_words i k) ≡ Some (i, k)
+  plain_read : (i : Item) → GoodItem i → WfItem false i → (k : List Tok) → Follow k → length (item_then_words i k) ≤ suc f
+      → plain_at (item_then_words i k) ≡ Some (i, k)
   unfolding plain_item
   plain_read (ExprItem e) g w k s len = absurd cc
   plain_read SeparatorItem g w k s len = refl
@@ -770,7 +868,8 @@ module _ (f : ℕ) where
   plain_read (ExceptionItem at run) g w k s len = rw (declaration_run_read run k w (declaration_ends k s.start)) refl
   plain_read (ModuleItem at x ps t q m) g w k s len = module_read at x ps t q m k g w.0 w.1 w.2 (closed_follows k (start_closed k s.start)) len
   plain_read (ModuleTypeItem at x q t) g w k s len = rw (sub_type t g w f k (start_closed k s.start) (omega (arith, len))) refl
-  plain_read (OpenItem at bang path) g w k s len = rw (open_read bang path k w (closed_follows k (start_closed k s.start)) (omega (arith, len, bang_more bang (path_then path k)))) refl
+  plain_read (OpenItem at bang path) g w k s len =
+      rw (open_read bang path k w (closed_follows k (start_closed k s.start)) (omega (arith, len, bang_more bang (path_then path k)))) refl
   plain_read (IncludeItem at m) g w k s len = rw (sub_mod m g w f k (closed_follows k (start_closed k s.start)) (omega (arith, len))) refl
 
   -- a `;;` is read as an item, also if an expression may be read
@@ -843,7 +942,8 @@ items_follow : (is : Items) (r : List Tok) → WfItems false is → EndsItems r 
 items_follow no_item r w h = ends_follow r h
 items_follow (more_item SeparatorItem is) r w h = record { start = refl; none = fixed_begun key.DoubleSemicolon (items_then is r) }
 items_follow (more_item (ExprItem e) is) r w h = absurd (let q = w.0.0 in cc)
-items_follow (more_item (ValueItem at recursive b bs) is) r w h = let s = items_follow is r w.1 h in record { start = refl; none = value_not_begun at recursive b bs (items_then is r) w.0.0 w.0.1 s }
+items_follow (more_item (ValueItem at recursive b bs) is) r w h = let s = items_follow is r w.1 h in
+    record { start = refl; none = value_not_begun at recursive b bs (items_then is r) w.0.0 w.0.1 s }
 items_follow (more_item (ExternalItem x run at texts) is) r w h = record { start = refl; none = fixed_begun key.External _ }
 items_follow (more_item (TypeItem run) is) r w h = record { start = refl; none = fixed_begun key.Type _ }
 items_follow (more_item (ExceptionItem at run) is) r w h = record { start = refl; none = not_begun (placed key.Exception at) _ refl }
@@ -852,21 +952,29 @@ items_follow (more_item (ModuleTypeItem at x q t) is) r w h = record { start = r
 items_follow (more_item (OpenItem at bang path) is) r w h = record { start = refl; none = not_begun (placed key.Open at) _ refl }
 items_follow (more_item (IncludeItem at m) is) r w h = record { start = refl; none = not_begun (placed key.Include at) _ refl }
 
-plain_item_read : (f : ℕ) (fresh : Bool) (i : Item) → GoodItem i → WfItem false i → (k : List Tok) → Follow k → length (item_then_words i k) ≤ f → item_at f fresh (item_then_words i k) ≡ Some (i, k)
+plain_item_read : (f : ℕ) (fresh : Bool) (i : Item) → GoodItem i → WfItem false i → (k : List Tok) → Follow k → length (item_then_words i k) ≤ f
+    → item_at f fresh (item_then_words i k) ≡ Some (i, k)
 plain_item_read f true i g w k s len = fresh_is f (item_then_words i k) (item_not_begun f i w k s) ∙ plain_read f i g w k s (omega (arith, len))
 plain_item_read f false i g w k s len = plain_is f (item_then_words i k) ∙ plain_read f i g w k s (omega (arith, len))
 
-item_read : (f : ℕ) (fresh : Bool) (i : Item) (is : Items) (r : List Tok) → GoodItem i → WfItem fresh i → WfItems (is_separator i) is → EndsItems r → length (item_then_words i (items_then is r)) ≤ f → item_at f fresh (item_then_words i (items_then is r)) ≡ Some (i, items_then is r)
+item_read : (f : ℕ) (fresh : Bool) (i : Item) (is : Items) (r : List Tok) → GoodItem i → WfItem fresh i → WfItems (is_separator i) is → EndsItems r
+    → length (item_then_words i (items_then is r)) ≤ f → item_at f fresh (item_then_words i (items_then is r)) ≡ Some (i, items_then is r)
 item_read f fresh SeparatorItem is r g w ws h len = separator_read f fresh (items_then is r)
 item_read f true (ExprItem e) is r g w ws h len = expression_read f e (items_then is r) w.1 (items_follow is r ws h) len
 item_read f false (ExprItem e) is r g w ws h len = absurd (let q = w.0 in cc)
-item_read f fresh (ValueItem at recursive b bs) is r g w ws h len = plain_item_read f fresh (ValueItem at recursive b bs) g w (items_then is r) (items_follow is r ws h) len
-item_read f fresh (ExternalItem x run at texts) is r g w ws h len = plain_item_read f fresh (ExternalItem x run at texts) g w (items_then is r) (items_follow is r ws h) len
+item_read f fresh (ValueItem at recursive b bs) is r g w ws h len = plain_item_read f fresh (ValueItem at recursive b bs) g w (items_then is r)
+    (items_follow is r ws h) len
+item_read f fresh (ExternalItem x run at texts) is r g w ws h len = plain_item_read f fresh (ExternalItem x run at texts) g w (items_then is r)
+    (items_follow is r ws h) len
 item_read f fresh (TypeItem run) is r g w ws h len = plain_item_read f fresh (TypeItem run) g w (items_then is r) (items_follow is r ws h) len
-item_read f fresh (ExceptionItem at run) is r g w ws h len = plain_item_read f fresh (ExceptionItem at run) g w (items_then is r) (items_follow is r ws h) len
-item_read f fresh (ModuleItem at x ps t q m) is r g w ws h len = plain_item_read f fresh (ModuleItem at x ps t q m) g w (items_then is r) (items_follow is r ws h) len
-item_read f fresh (ModuleTypeItem at x q t) is r g w ws h len = plain_item_read f fresh (ModuleTypeItem at x q t) g w (items_then is r) (items_follow is r ws h) len
-item_read f fresh (OpenItem at bang path) is r g w ws h len = plain_item_read f fresh (OpenItem at bang path) g w (items_then is r) (items_follow is r ws h) len
+item_read f fresh (ExceptionItem at run) is r g w ws h len = plain_item_read f fresh (ExceptionItem at run) g w (items_then is r)
+    (items_follow is r ws h) len
+item_read f fresh (ModuleItem at x ps t q m) is r g w ws h len = plain_item_read f fresh (ModuleItem at x ps t q m) g w (items_then is r)
+    (items_follow is r ws h) len
+item_read f fresh (ModuleTypeItem at x q t) is r g w ws h len = plain_item_read f fresh (ModuleTypeItem at x q t) g w (items_then is r)
+    (items_follow is r ws h) len
+item_read f fresh (OpenItem at bang path) is r g w ws h len = plain_item_read f fresh (OpenItem at bang path) g w (items_then is r)
+    (items_follow is r ws h) len
 item_read f fresh (IncludeItem at m) is r g w ws h len = plain_item_read f fresh (IncludeItem at m) g w (items_then is r) (items_follow is r ws h) len
 
 end_none : (f : ℕ) (fresh : Bool) (r : List Tok) → EndsItems r → item_at f fresh r ≡ None
@@ -876,7 +984,8 @@ end_none f false _ at_end = refl
 end_none f true _ (at_word r) = rw (expr_none f (fixed key.End ∷ r) (fixed_begun key.End r)) refl
 end_none f false _ (at_word r) = refl
 
-items_read : (is : Items) → GoodItems is → (fresh : Bool) → WfItems fresh is → (f : ℕ) (r : List Tok) → EndsItems r → (k : ℕ) → length (items_then is r) ≤ k → length (items_then is r) ≤ f → items_at f k fresh (items_then is r) ≡ (is, r)
+items_read : (is : Items) → GoodItems is → (fresh : Bool) → WfItems fresh is → (f : ℕ) (r : List Tok) → EndsItems r → (k : ℕ)
+    → length (items_then is r) ≤ k → length (items_then is r) ≤ f → items_at f k fresh (items_then is r) ≡ (is, r)
 unfolding items_of
 items_read no_item g fresh w f r h zero len le = refl
 items_read no_item g fresh w f r h (suc k) len le = rw (end_none f fresh r h) refl
@@ -906,14 +1015,17 @@ sig_items_start no_sig_item _ at_end = tt
 sig_items_start no_sig_item _ (at_word r) = refl
 sig_items_start (more_sig_item i is) r h = sig_start i (sig_items_then is r)
 
-module_sig_is : (f at : ℕ) (x : ModuleName) (ps : FunctorParams) (k : List Tok) → sig_item_at f (placed key.Module at ∷ module_name_then x (functor_params_then ps (fixed key.Colon ∷ k))) ≡ module_sig_rest (read_mod f) (read_type f) f at (module_name_then x (functor_params_then ps (fixed key.Colon ∷ k)))
+module_sig_is : (f at : ℕ) (x : ModuleName) (ps : FunctorParams) (k : List Tok)
+    → sig_item_at f (placed key.Module at ∷ module_name_then x (functor_params_then ps (fixed key.Colon ∷ k))) ≡ module_sig_rest (read_mod f)
+    (read_type f) f at (module_name_then x (functor_params_then ps (fixed key.Colon ∷ k)))
 unfolding sig_item
 module_sig_is f at (AnyName at') ps k = refl
 module_sig_is f at (UpperName x) no_functor_param k = refl
 module_sig_is f at (UpperName x) (more_functor_param (NamedParam at' y s) ps) k = refl
 module_sig_is f at (UpperName x) (more_functor_param (NoParam at') ps) k = refl
 
-module_sig_read : (f at : ℕ) (x : ModuleName) (ps : FunctorParams) (s : ModType) (k : List Tok) → GoodParams ps → GoodType s → WfFunctorParams ps → WfModType s → Closed k → length (sig_item_then (ModuleSig at x ps s) k) ≤ suc f
+module_sig_read : (f at : ℕ) (x : ModuleName) (ps : FunctorParams) (s : ModType) (k : List Tok) → GoodParams ps → GoodType s → WfFunctorParams ps
+    → WfModType s → Closed k → length (sig_item_then (ModuleSig at x ps s) k) ≤ suc f
     → sig_item_at f (sig_item_then (ModuleSig at x ps s) k) ≡ Some (ModuleSig at x ps s, k)
 module_sig_read f at x ps s k g gs w ws h len =
     let k1 : List Tok = fixed key.Colon ∷ mod_type_then s k in
@@ -924,36 +1036,46 @@ module_sig_read f at x ps s k g gs w ws h len =
     let t = sub_type s gs ws f k h (omega (arith, len, l0, l1)) in
     module_sig_is f at x ps (mod_type_then s k) ∙ rw (name_read_module f x k2, p, t) refl
 
-sig_item_read : (f : ℕ) (i : SigItem) → GoodSigItem i → WfSigItem i → (k : List Tok) → ItemStart k → length (sig_item_then i k) ≤ suc f → sig_item_at f (sig_item_then i k) ≡ Some (i, k)
+sig_item_read : (f : ℕ) (i : SigItem) → GoodSigItem i → WfSigItem i → (k : List Tok) → ItemStart k → length (sig_item_then i k) ≤ suc f
+    → sig_item_at f (sig_item_then i k) ≡ Some (i, k)
 unfolding sig_item
 sig_item_read f SeparatorSig g w k s len = refl
-sig_item_read f (ValSig x run) g w k s len = rw (name_read x (fixed key.Colon ∷ (run ++ k)) w.0, type_run_read run k w.1 (type_ends k (start_closed k s))) refl
+sig_item_read f (ValSig x run) g w k s len =
+    rw (name_read x (fixed key.Colon ∷ (run ++ k)) w.0, type_run_read run k w.1 (type_ends k (start_closed k s))) refl
 sig_item_read f (ExternalSig x run at texts) g w k s len = rw (external_read f x run at texts k w s len) refl
 sig_item_read f (TypeSig run) g w k s len = rw (declaration_run_read run k w (declaration_ends k s)) refl
 sig_item_read f (ExceptionSig at run) g w k s len = rw (declaration_run_read run k w (declaration_ends k s)) refl
 sig_item_read f (ModuleSig at x ps t) g w k s len = module_sig_read f at x ps t k g.0 g.1 w.0 w.1 (start_closed k s) len
-sig_item_read f (AliasSig at x q path) g w k s len = rw (path_read f path k w (omega (arith, len)) (no_dot k (closed_follows k (start_closed k s)))) refl
+sig_item_read f (AliasSig at x q path) g w k s len =
+    rw (path_read f path k w (omega (arith, len)) (no_dot k (closed_follows k (start_closed k s)))) refl
 sig_item_read f (ModuleTypeSig at x q t) g w k s len = rw (sub_type t g w f k (start_closed k s) (omega (arith, len))) refl
-sig_item_read f (OpenSig at bang path) g w k s len = rw (open_read f bang path k w (closed_follows k (start_closed k s)) (omega (arith, len, bang_more bang (path_then path k)))) refl
+sig_item_read f (OpenSig at bang path) g w k s len =
+    rw (open_read f bang path k w (closed_follows k (start_closed k s)) (omega (arith, len, bang_more bang (path_then path k)))) refl
 sig_item_read f (IncludeSig at t) g w k s len = rw (sub_type t g w f k (start_closed k s) (omega (arith, len))) refl
 
 sig_shorter : (f : ℕ) (ts : List Tok) (x : SigItem × List Tok) → sig_item_at f ts ≡ Some x → length x.1 < length ts
-sig_shorter f ts x e = let p = sig_item_found (read_mod f) (read_type f) f (mod_reads f) (type_reads f) ts x e in omega (arith, ap length p.words, sig_item_longer x.0 x.1)
+sig_shorter f ts x e = let p = sig_item_found (read_mod f) (read_type f) f (mod_reads f) (type_reads f) ts x e in
+    omega (arith, ap length p.words, sig_item_longer x.0 x.1)
 
 sig_end_none : (f : ℕ) (r : List Tok) → EndsItems r → sig_item_at f r ≡ None
 unfolding sig_item
 sig_end_none f _ at_end = refl
 sig_end_none f _ (at_word r) = refl
 
-sig_items_reach : (f : ℕ) (is : SigItems) → GoodSigItems is → WfSigItems is → (r : List Tok) → EndsItems r → (n : ℕ) → length (sig_items_then is r) ≤ n → n ≤ suc f → Reach ⊥ is r (Some (many no_sig_item more_sig_item always (sig_item_at f) n (sig_items_then is r)))
-sig_items_reach f no_sig_item g w r h n len le = no_turn no_sig_item more_sig_item always (sig_item_at f) (sig_shorter f) ⊥ true r (length r) n (λ _ x e. let q = sym (sig_end_none f r h) ∙ e in absurd cc)
+sig_items_reach : (f : ℕ) (is : SigItems) → GoodSigItems is → WfSigItems is → (r : List Tok) → EndsItems r → (n : ℕ)
+    → length (sig_items_then is r) ≤ n → n ≤ suc f
+    → Reach ⊥ is r (Some (many no_sig_item more_sig_item always (sig_item_at f) n (sig_items_then is r)))
+sig_items_reach f no_sig_item g w r h n len le = no_turn no_sig_item more_sig_item always (sig_item_at f) (sig_shorter f) ⊥ true r (length r) n
+    (λ _ x e. let q = sym (sig_end_none f r h) ∙ e in absurd cc)
 sig_items_reach f (more_sig_item i is) g w r h zero len le = absurd (omega (arith, len, sig_item_longer i (sig_items_then is r)))
 sig_items_reach f (more_sig_item i is) g w r h (suc n) len le =
     let rest : List Tok = sig_items_then is r in
-    more_turns no_sig_item more_sig_item always (sig_item_at f) (sig_shorter f) ⊥ i is r (sig_item_then i rest) rest (length r) n (sig_item_read f i g.0 w.0 rest (sig_items_start is r h) (omega (arith, len, le))) refl
+    more_turns no_sig_item more_sig_item always (sig_item_at f) (sig_shorter f) ⊥ i is r (sig_item_then i rest) rest (length r) n
+    (sig_item_read f i g.0 w.0 rest (sig_items_start is r h) (omega (arith, len, le))) refl
     (sig_items_reach f is g.1 w.1 r h n (omega (arith, len, sig_item_longer i rest)) (omega (arith, le)))
 
-sig_items_read : (f : ℕ) (is : SigItems) → GoodSigItems is → WfSigItems is → (r : List Tok) → EndsItems r → length (sig_items_then is r) ≤ f → sig_items (read_mod f) (read_type f) f (sig_items_then is r) ≡ (is, r)
+sig_items_read : (f : ℕ) (is : SigItems) → GoodSigItems is → WfSigItems is → (r : List Tok) → EndsItems r → length (sig_items_then is r) ≤ f
+    → sig_items (read_mod f) (read_type f) f (sig_items_then is r) ≡ (is, r)
 sig_items_read f is g w r h len = some_is (stop {C = ⊥} (λ c. c) (sig_items_reach f is g w r h f len (omega arith)))
 
 -- ---- module expressions
@@ -977,7 +1099,8 @@ module _ (f : ℕ) where
   mod_no_close (ModParen at m) k w = tt
   mod_no_close (Sealed at m s) k w = tt
 
-  argument_is : (at : ℕ) (ts : List Tok) → NoClose ts → argument_at (placed key.LeftParen at ∷ ts) ≡ (read_mod f ts >>= λ m. argument_closed (read_mod f) (read_type f) f at m.0 m.1)
+  argument_is : (at : ℕ) (ts : List Tok) → NoClose ts
+      → argument_at (placed key.LeftParen at ∷ ts) ≡ (read_mod f ts >>= λ m. argument_closed (read_mod f) (read_type f) f at m.0 m.1)
   unfolding mod_argument
   argument_is at [] h = absurd h
   argument_is at (fixed x ∷ ts) h = absurd h
@@ -988,7 +1111,8 @@ module _ (f : ℕ) where
   unfolding mod_argument
   no_argument_read at k = refl
 
-  argument_read : (a : ModArgument) → GoodArgument a → WfModArgument a → (k : List Tok) → length (mod_argument_then a k) ≤ suc f → argument_at (mod_argument_then a k) ≡ Some (a, k)
+  argument_read : (a : ModArgument) → GoodArgument a → WfModArgument a → (k : List Tok) → length (mod_argument_then a k) ≤ suc f
+      → argument_at (mod_argument_then a k) ≡ Some (a, k)
   argument_read (ModuleArgument at m) g w k len =
       let inside = sub_mod m g w f (fixed key.RightParen ∷ k) refl (omega (arith, len)) in
       argument_is at (mod_then m (fixed key.RightParen ∷ k)) (mod_no_close m (fixed key.RightParen ∷ k) w) ∙ rw inside refl
@@ -1001,7 +1125,8 @@ module _ (f : ℕ) where
   argument_read (NoArgument at) g w k len = no_argument_read at k
 
   argument_shorter : (ts : List Tok) (x : ModArgument × List Tok) → argument_at ts ≡ Some x → length x.1 < length ts
-  argument_shorter ts x e = let p = mod_argument_found (read_mod f) (read_type f) f (mod_reads f) (type_reads f) ts x e in omega (arith, ap length p.words, argument_longer x.0 x.1)
+  argument_shorter ts x e = let p = mod_argument_found (read_mod f) (read_type f) f (mod_reads f) (type_reads f) ts x e in
+      omega (arith, ap length p.words, argument_longer x.0 x.1)
 
   no_argument : (r : List Tok) → Follows r → argument_at r ≡ None
   unfolding mod_argument
@@ -1009,31 +1134,40 @@ module _ (f : ℕ) where
   no_argument (placed key.LeftParen at ∷ r) h = absurd cc
   no_argument (_ ∷ r) h = refl
 
-  arguments_reach : (ms : ModArguments) → GoodArguments ms → WfModArguments ms → (r : List Tok) → Follows r → (n : ℕ) → length (mod_arguments_then ms r) ≤ n → n ≤ suc f → Reach ⊥ ms r (Some (many no_mod_argument more_mod_argument always argument_at n (mod_arguments_then ms r)))
-  arguments_reach no_mod_argument g w r h n len le = no_turn no_mod_argument more_mod_argument always argument_at argument_shorter ⊥ true r (length r) n (λ _ x e. let q = sym (no_argument r h) ∙ e in absurd cc)
+  arguments_reach : (ms : ModArguments) → GoodArguments ms → WfModArguments ms → (r : List Tok) → Follows r → (n : ℕ)
+      → length (mod_arguments_then ms r) ≤ n → n ≤ suc f
+      → Reach ⊥ ms r (Some (many no_mod_argument more_mod_argument always argument_at n (mod_arguments_then ms r)))
+  arguments_reach no_mod_argument g w r h n len le = no_turn no_mod_argument more_mod_argument always argument_at argument_shorter ⊥ true r
+      (length r) n (λ _ x e. let q = sym (no_argument r h) ∙ e in absurd cc)
   arguments_reach (more_mod_argument a ms) g w r h zero len le = absurd (omega (arith, len, argument_longer a (mod_arguments_then ms r)))
   arguments_reach (more_mod_argument a ms) g w r h (suc n) len le =
       let rest : List Tok = mod_arguments_then ms r in
-      more_turns no_mod_argument more_mod_argument always argument_at argument_shorter ⊥ a ms r (mod_argument_then a rest) rest (length r) n (argument_read a g.0 w.0 rest (omega (arith, len, le))) refl
+      more_turns no_mod_argument more_mod_argument always argument_at argument_shorter ⊥ a ms r (mod_argument_then a rest) rest (length r) n
+      (argument_read a g.0 w.0 rest (omega (arith, len, le))) refl
       (arguments_reach ms g.1 w.1 r h n (omega (arith, len, argument_longer a rest)) (omega (arith, le)))
 
-  arguments_exact : (ms : ModArguments) → GoodArguments ms → WfModArguments ms → (r : List Tok) → Follows r → length (mod_arguments_then ms r) ≤ f → mod_arguments (read_mod f) (read_type f) f (mod_arguments_then ms r) ≡ (ms, r)
+  arguments_exact : (ms : ModArguments) → GoodArguments ms → WfModArguments ms → (r : List Tok) → Follows r → length (mod_arguments_then ms r) ≤ f
+      → mod_arguments (read_mod f) (read_type f) f (mod_arguments_then ms r) ≡ (ms, r)
   arguments_exact ms g w r h len = some_is (stop {C = ⊥} (λ c. c) (arguments_reach ms g w r h f len (omega arith)))
 
-  path_mod_read : (path : List Name) (r : List Tok) → path ≢ [] → dot_upper r ≡ None → length (path_then path r) ≤ suc f → simple_mod_at f (path_then path r) ≡ Some (ModPath path, r)
+  path_mod_read : (path : List Name) (r : List Tok) → path ≢ [] → dot_upper r ≡ None → length (path_then path r) ≤ suc f
+      → simple_mod_at f (path_then path r) ≡ Some (ModPath path, r)
   unfolding simple_mod
   path_mod_read [] r w h len = absurd (w refl)
   path_mod_read (x ∷ xs) r w h len = ap (λ (o : Option (List Name × List Tok)). o >>= λ p. Some (ModPath p.0, p.1)) (path_read f (x ∷ xs) r w len h)
 
-  struct_read : (at : ℕ) (is : Items) (r : List Tok) → GoodItems is → WfItems true is → length (mod_then (Struct at is) r) ≤ suc f → simple_mod_at f (mod_then (Struct at is) r) ≡ Some (Struct at is, r)
+  struct_read : (at : ℕ) (is : Items) (r : List Tok) → GoodItems is → WfItems true is → length (mod_then (Struct at is) r) ≤ suc f
+      → simple_mod_at f (mod_then (Struct at is) r) ≡ Some (Struct at is, r)
   unfolding simple_mod
   struct_read at is r g w len = rw (items_read is g true w f (fixed key.End ∷ r) (at_word r) f (omega (arith, len)) (omega (arith, len))) refl
 
-  paren_mod_read : (at : ℕ) (m : ModExpr) (r : List Tok) → GoodMod m → WfMod m → length (mod_then (ModParen at m) r) ≤ suc f → simple_mod_at f (mod_then (ModParen at m) r) ≡ Some (ModParen at m, r)
+  paren_mod_read : (at : ℕ) (m : ModExpr) (r : List Tok) → GoodMod m → WfMod m → length (mod_then (ModParen at m) r) ≤ suc f
+      → simple_mod_at f (mod_then (ModParen at m) r) ≡ Some (ModParen at m, r)
   unfolding simple_mod
   paren_mod_read at m r g w len = rw (sub_mod m g w f (fixed key.RightParen ∷ r) refl (omega (arith, len))) refl
 
-  sealed_read : (at : ℕ) (m : ModExpr) (s : ModType) (r : List Tok) → GoodMod m → GoodType s → WfMod m → WfModType s → length (mod_then (Sealed at m s) r) ≤ suc f → simple_mod_at f (mod_then (Sealed at m s) r) ≡ Some (Sealed at m s, r)
+  sealed_read : (at : ℕ) (m : ModExpr) (s : ModType) (r : List Tok) → GoodMod m → GoodType s → WfMod m → WfModType s
+      → length (mod_then (Sealed at m s) r) ≤ suc f → simple_mod_at f (mod_then (Sealed at m s) r) ≡ Some (Sealed at m s, r)
   unfolding simple_mod
   sealed_read at m s r g gs w ws len =
       let rest : List Tok = fixed key.Colon ∷ mod_type_then s (fixed key.RightParen ∷ r) in
@@ -1048,7 +1182,9 @@ module _ (f : ℕ) where
   arguments_no_dot (more_mod_argument (SealedArgument at m s) ms) r h = refl
   arguments_no_dot (more_mod_argument (NoArgument at) ms) r h = refl
 
-  apply_read : (m : ModExpr) (ms : ModArguments) (r : List Tok) → GoodMod m → GoodArguments ms → is_simple_mod m ≡ true → WfMod m → WfModArguments ms → Follows r → length (mod_then m (mod_arguments_then ms r)) ≤ suc f → mod_apply_at f (mod_then m (mod_arguments_then ms r)) ≡ Some (grown_mod m ms, r)
+  apply_read : (m : ModExpr) (ms : ModArguments) (r : List Tok) → GoodMod m → GoodArguments ms → is_simple_mod m ≡ true → WfMod m → WfModArguments ms
+      → Follows r → length (mod_then m (mod_arguments_then ms r)) ≤ suc f → mod_apply_at f (mod_then m (mod_arguments_then ms r)) ≡ Some
+      (grown_mod m ms, r)
   unfolding mod_apply
   apply_read m ms r g gs p w ws h len =
       let first = g.lone p w f (mod_arguments_then ms r) (arguments_no_dot ms r h) len in
@@ -1056,7 +1192,8 @@ module _ (f : ℕ) where
       let more = arguments_exact ms gs ws r h (omega (arith, len, l)) in
       rw (first, more) refl
 
-  functor_read : (at : ℕ) (ps : FunctorParams) (m : ModExpr) (r : List Tok) → GoodParams ps → GoodMod m → WfMod (Functor at ps m) → Follows r → length (mod_then (Functor at ps m) r) ≤ suc f → mod_expr_at f (mod_then (Functor at ps m) r) ≡ Some (Functor at ps m, r)
+  functor_read : (at : ℕ) (ps : FunctorParams) (m : ModExpr) (r : List Tok) → GoodParams ps → GoodMod m → WfMod (Functor at ps m) → Follows r
+      → length (mod_then (Functor at ps m) r) ≤ suc f → mod_expr_at f (mod_then (Functor at ps m) r) ≡ Some (Functor at ps m, r)
   unfolding mod_expr
   functor_read at no_functor_param m r gs g w h len = absurd (w.0 refl)
   functor_read at (more_functor_param p ps) m r gs g w h len =
@@ -1083,33 +1220,43 @@ module _ (f : ℕ) where
   mod_plain (ModApply (ModParen at m) ms) k p w = refl
   mod_plain (ModApply (Sealed at m s) ms) k p w = refl
 
-flat_read : (f : ℕ) (m : ModExpr) (r : List Tok) → simple_mod_at f (mod_then m r) ≡ Some (m, r) → Follows r → WfMod m → length (mod_then m r) ≤ suc f → mod_apply_at f (mod_then m r) ≡ Some (m, r)
+flat_read : (f : ℕ) (m : ModExpr) (r : List Tok) → simple_mod_at f (mod_then m r) ≡ Some (m, r) → Follows r → WfMod m → length (mod_then m r) ≤ suc f
+    → mod_apply_at f (mod_then m r) ≡ Some (m, r)
 unfolding mod_apply
 flat_read f m r first s w len = rw (first, arguments_exact f no_mod_argument tt tt r s (omega (arith, len, mod_longer m r w))) refl
 
-lone_mod : (m : ModExpr) → is_simple_mod m ≡ true → (WfMod m → (f : ℕ) (r : List Tok) → dot_upper r ≡ None → length (mod_then m r) ≤ suc f → simple_mod_at f (mod_then m r) ≡ Some (m, r)) → GoodMod m
+lone_mod : (m : ModExpr) → is_simple_mod m ≡ true
+    → (WfMod m → (f : ℕ) (r : List Tok) → dot_upper r ≡ None → length (mod_then m r) ≤ suc f → simple_mod_at f (mod_then m r) ≡ Some (m, r))
+    → GoodMod m
 lone_mod m p h =
-    let lone : is_simple_mod m ≡ true → WfMod m → (f : ℕ) (r : List Tok) → dot_upper r ≡ None → length (mod_then m r) ≤ suc f → simple_mod_at f (mod_then m r) ≡ Some (m, r) = λ _. h in
-    let flat : is_functor m ≡ false → WfMod m → (f : ℕ) (r : List Tok) → Follows r → length (mod_then m r) ≤ suc f → mod_apply_at f (mod_then m r) ≡ Some (m, r) = λ _ w f r s len. flat_read f m r (h w f r (no_dot r s) len) s w len in
+    let lone : is_simple_mod m ≡ true → WfMod m → (f : ℕ) (r : List Tok) → dot_upper r ≡ None → length (mod_then m r) ≤ suc f
+    → simple_mod_at f (mod_then m r) ≡ Some (m, r) = λ _. h in
+    let flat : is_functor m ≡ false → WfMod m → (f : ℕ) (r : List Tok) → Follows r → length (mod_then m r) ≤ suc f
+    → mod_apply_at f (mod_then m r) ≡ Some (m, r) = λ _ w f r s len. flat_read f m r (h w f r (no_dot r s) len) s w len in
     record { lone = lone; flat = flat; full = λ w f r s len. mod_plain f m r (simple_plain m p) w ∙ flat (simple_plain m p) w f r s len }
 
 -- ---- module types
 
 module _ (f : ℕ) where
-  path_type_read : (path : List Name) (r : List Tok) → path ≢ [] → Follows r → length (path_then path r) ≤ suc f → simple_type_at f (path_then path r) ≡ Some (TypePath path, r)
+  path_type_read : (path : List Name) (r : List Tok) → path ≢ [] → Follows r → length (path_then path r) ≤ suc f
+      → simple_type_at f (path_then path r) ≡ Some (TypePath path, r)
   unfolding simple_type
   path_type_read [] r w h len = absurd (w refl)
-  path_type_read (x ∷ xs) r w h len = ap (λ (o : Option (List Name × List Tok)). o >>= λ p. Some (TypePath p.0, p.1)) (path_read f (x ∷ xs) r w len (no_dot r h))
+  path_type_read (x ∷ xs) r w h len = ap (λ (o : Option (List Name × List Tok)). o >>= λ p. Some (TypePath p.0, p.1))
+      (path_read f (x ∷ xs) r w len (no_dot r h))
 
-  sig_read : (at : ℕ) (is : SigItems) (r : List Tok) → GoodSigItems is → WfSigItems is → length (mod_type_then (Sig at is) r) ≤ suc f → simple_type_at f (mod_type_then (Sig at is) r) ≡ Some (Sig at is, r)
+  sig_read : (at : ℕ) (is : SigItems) (r : List Tok) → GoodSigItems is → WfSigItems is → length (mod_type_then (Sig at is) r) ≤ suc f
+      → simple_type_at f (mod_type_then (Sig at is) r) ≡ Some (Sig at is, r)
   unfolding simple_type
   sig_read at is r g w len = rw (sig_items_read f is g w (fixed key.End ∷ r) (at_word r) (omega (arith, len))) refl
 
-  type_of_read : (at : ℕ) (m : ModExpr) (r : List Tok) → GoodMod m → is_functor m ≡ false → WfMod m → Follows r → length (mod_type_then (TypeOf at m) r) ≤ suc f → simple_type_at f (mod_type_then (TypeOf at m) r) ≡ Some (TypeOf at m, r)
+  type_of_read : (at : ℕ) (m : ModExpr) (r : List Tok) → GoodMod m → is_functor m ≡ false → WfMod m → Follows r
+      → length (mod_type_then (TypeOf at m) r) ≤ suc f → simple_type_at f (mod_type_then (TypeOf at m) r) ≡ Some (TypeOf at m, r)
   unfolding simple_type
   type_of_read at m r g p w h len = rw (g.flat p w f r h (omega (arith, len))) refl
 
-  paren_type_read : (at : ℕ) (s : ModType) (r : List Tok) → GoodType s → WfModType s → length (mod_type_then (TypeParen at s) r) ≤ suc f → simple_type_at f (mod_type_then (TypeParen at s) r) ≡ Some (TypeParen at s, r)
+  paren_type_read : (at : ℕ) (s : ModType) (r : List Tok) → GoodType s → WfModType s → length (mod_type_then (TypeParen at s) r) ≤ suc f
+      → simple_type_at f (mod_type_then (TypeParen at s) r) ≡ Some (TypeParen at s, r)
   unfolding simple_type
   paren_type_read at s r g w len = rw (sub_type s g w f (fixed key.RightParen ∷ r) refl (omega (arith, len))) refl
 
@@ -1167,7 +1314,8 @@ module _ (f : ℕ) where
   type_plain (TypeParen at s) k p w = paren_is_with at (mod_type_then s (fixed key.RightParen ∷ k)) (no_name s (fixed key.RightParen ∷ k) w tt)
   type_plain _ k p w = absurd cc
 
-  with_read : (s : ModType) (ws : List WithClause) (r : List Tok) → GoodType s → WfModType (With s ws) → Closed r → length (mod_type_then (With s ws) r) ≤ suc f → mod_type_at f (mod_type_then (With s ws) r) ≡ Some (With s ws, r)
+  with_read : (s : ModType) (ws : List WithClause) (r : List Tok) → GoodType s → WfModType (With s ws) → Closed r
+      → length (mod_type_then (With s ws) r) ≤ suc f → mod_type_at f (mod_type_then (With s ws) r) ≡ Some (With s ws, r)
   with_read s [] r g w h len = absurd (w.2 refl)
   with_read s (WithOf c cs ∷ ws) r g w h len =
       let rest : List Tok = withs_then (WithOf c cs ∷ ws) r in
@@ -1177,16 +1325,19 @@ module _ (f : ℕ) where
       type_plain s rest w.0 w.1 ∙ rw (first, more) refl
 
   no_withs : (r : List Tok) → with_clause f r ≡ None → with_clauses f r ≡ ([], r)
-  no_withs r h = some_is (stop {C = ⊥} (λ c. c) (no_turn [] ◌∷◌ always (with_clause f) (clause_shorter f) ⊥ true r (length r) f (λ _ x e. let q = sym h ∙ e in absurd cc)))
+  no_withs r h = some_is (stop {C = ⊥} (λ c. c)
+      (no_turn [] ◌∷◌ always (with_clause f) (clause_shorter f) ⊥ true r (length r) f (λ _ x e. let q = sym h ∙ e in absurd cc)))
 
-  lone_type_read : (s : ModType) (r : List Tok) → is_simple_type s ≡ true → WfModType s → simple_type_at f (mod_type_then s r) ≡ Some (s, r) → Closed r → mod_type_at f (mod_type_then s r) ≡ Some (s, r)
+  lone_type_read : (s : ModType) (r : List Tok) → is_simple_type s ≡ true → WfModType s → simple_type_at f (mod_type_then s r) ≡ Some (s, r)
+      → Closed r → mod_type_at f (mod_type_then s r) ≡ Some (s, r)
   lone_type_read s r p w first h = type_plain s r p w ∙ rw (first, no_withs r (closed_no_with f r h), closed_no_arrow r h) refl
 
   arrow_no_with : (k : List Tok) → with_clause f (fixed key.Arrow ∷ k) ≡ None
   unfolding with_clause
   arrow_no_with k = refl
 
-  arrow_read : (s s' : ModType) (r : List Tok) → GoodType s → GoodType s' → WfModType (Arrow s s') → Closed r → length (mod_type_then (Arrow s s') r) ≤ suc f → mod_type_at f (mod_type_then (Arrow s s') r) ≡ Some (Arrow s s', r)
+  arrow_read : (s s' : ModType) (r : List Tok) → GoodType s → GoodType s' → WfModType (Arrow s s') → Closed r
+      → length (mod_type_then (Arrow s s') r) ≤ suc f → mod_type_at f (mod_type_then (Arrow s s') r) ≡ Some (Arrow s s', r)
   arrow_read s s' r g g' w h len =
       let rest : List Tok = fixed key.Arrow ∷ mod_type_then s' r in
       let l = type_longer s rest w.1 in
@@ -1194,12 +1345,14 @@ module _ (f : ℕ) where
       let inside = sub_type s' g' w.2 f r h (omega (arith, len, l)) in
       type_plain s rest w.0 w.1 ∙ rw (first, no_withs rest (arrow_no_with (mod_type_then s' r)), inside) refl
 
-  param_arrow_is : (p : FunctorParam) (k : List Tok) → mod_type_at f (functor_param_then p k) ≡ param_or (read_mod f) (read_type f) f (functor_param_then p k) (param_at f (functor_param_then p k))
+  param_arrow_is : (p : FunctorParam) (k : List Tok) → mod_type_at f (functor_param_then p k) ≡ param_or (read_mod f) (read_type f) f
+      (functor_param_then p k) (param_at f (functor_param_then p k))
   unfolding mod_type
   param_arrow_is (NamedParam at x s) k = refl
   param_arrow_is (NoParam at) k = refl
 
-  param_arrow_read : (p : FunctorParam) (s : ModType) (r : List Tok) → GoodParam p → GoodType s → WfModType (ParamArrow p s) → Closed r → length (mod_type_then (ParamArrow p s) r) ≤ suc f → mod_type_at f (mod_type_then (ParamArrow p s) r) ≡ Some (ParamArrow p s, r)
+  param_arrow_read : (p : FunctorParam) (s : ModType) (r : List Tok) → GoodParam p → GoodType s → WfModType (ParamArrow p s) → Closed r
+      → length (mod_type_then (ParamArrow p s) r) ≤ suc f → mod_type_at f (mod_type_then (ParamArrow p s) r) ≡ Some (ParamArrow p s, r)
   param_arrow_read p s r gp g w h len =
       let rest : List Tok = fixed key.Arrow ∷ mod_type_then s r in
       let l = param_longer p rest in
@@ -1207,7 +1360,9 @@ module _ (f : ℕ) where
       let inside = sub_type s g w.1 f r h (omega (arith, len, l)) in
       param_arrow_is p rest ∙ rw (first, inside) refl
 
-  functor_type_read : (at : ℕ) (ps : FunctorParams) (s : ModType) (r : List Tok) → GoodParams ps → GoodType s → WfModType (FunctorType at ps s) → Closed r → length (mod_type_then (FunctorType at ps s) r) ≤ suc f → mod_type_at f (mod_type_then (FunctorType at ps s) r) ≡ Some (FunctorType at ps s, r)
+  functor_type_read : (at : ℕ) (ps : FunctorParams) (s : ModType) (r : List Tok) → GoodParams ps → GoodType s → WfModType (FunctorType at ps s)
+      → Closed r → length (mod_type_then (FunctorType at ps s) r) ≤ suc f → mod_type_at f (mod_type_then (FunctorType at ps s) r) ≡ Some
+      (FunctorType at ps s, r)
   unfolding mod_type
   functor_type_read at no_functor_param s r gs g w h len = absurd (w.0 refl)
   functor_type_read at (more_functor_param p ps) s r gs g w h len =
@@ -1217,10 +1372,14 @@ module _ (f : ℕ) where
       let inside = sub_type s g w.2 f r h (omega (arith, len, l)) in
       rw (first, inside) refl
 
-lone_type : (s : ModType) → is_simple_type s ≡ true → (WfModType s → (f : ℕ) (r : List Tok) → Follows r → length (mod_type_then s r) ≤ suc f → simple_type_at f (mod_type_then s r) ≡ Some (s, r)) → GoodType s
+lone_type : (s : ModType) → is_simple_type s ≡ true
+    → (WfModType s → (f : ℕ) (r : List Tok) → Follows r → length (mod_type_then s r) ≤ suc f → simple_type_at f (mod_type_then s r) ≡ Some (s, r))
+    → GoodType s
 lone_type s p h = record { lone = λ _. h; full = λ w f r c len. lone_type_read f s r p w (h w f r (closed_follows r c) len) c }
 
-whole_type : (s : ModType) → is_simple_type s ≡ false → (WfModType s → (f : ℕ) (r : List Tok) → Closed r → length (mod_type_then s r) ≤ suc f → mod_type_at f (mod_type_then s r) ≡ Some (s, r)) → GoodType s
+whole_type : (s : ModType) → is_simple_type s ≡ false
+    → (WfModType s → (f : ℕ) (r : List Tok) → Closed r → length (mod_type_then s r) ≤ suc f → mod_type_at f (mod_type_then s r) ≡ Some (s, r))
+    → GoodType s
 whole_type s p h = record { lone = λ q. absurd (clash q p); full = h }
 
 -- ---- the induction
@@ -1237,7 +1396,8 @@ mutual
   mod_good : (m : ModExpr) → GoodMod m
   mod_good (ModPath path) = lone_mod (ModPath path) refl (λ w f r d len. path_mod_read f path r w d len)
   mod_good (Struct at is) = lone_mod (Struct at is) refl (λ w f r d len. struct_read f at is r (items_good is) w len)
-  mod_good (Functor at ps m) = record { lone = λ p. absurd cc; flat = λ p. absurd cc; full = λ w f r s len. functor_read f at ps m r (params_good ps) (mod_good m) w s len }
+  mod_good (Functor at ps m) =
+      record { lone = λ p. absurd cc; flat = λ p. absurd cc; full = λ w f r s len. functor_read f at ps m r (params_good ps) (mod_good m) w s len }
   mod_good (ModApply m ms) = apply_good m ms (mod_good m) (arguments_good ms)
   mod_good (ModParen at m) = lone_mod (ModParen at m) refl (λ w f r d len. paren_mod_read f at m r (mod_good m) w len)
   mod_good (Sealed at m s) = lone_mod (Sealed at m s) refl (λ w f r d len. sealed_read f at m s r (mod_good m) (type_good s) w.0 w.1 len)
@@ -1265,7 +1425,8 @@ mutual
   type_good (TypeOf at m) = lone_type (TypeOf at m) refl (λ w f r s len. type_of_read f at m r (mod_good m) w.0 w.1 s len)
   type_good (TypeParen at t) = lone_type (TypeParen at t) refl (λ w f r s len. paren_type_read f at t r (type_good t) w len)
   type_good (With t ws) = whole_type (With t ws) refl (λ w f r s len. with_read f t ws r (type_good t) w s len)
-  type_good (FunctorType at ps t) = whole_type (FunctorType at ps t) refl (λ w f r s len. functor_type_read f at ps t r (params_good ps) (type_good t) w s len)
+  type_good (FunctorType at ps t) =
+      whole_type (FunctorType at ps t) refl (λ w f r s len. functor_type_read f at ps t r (params_good ps) (type_good t) w s len)
   type_good (ParamArrow p t) = whole_type (ParamArrow p t) refl (λ w f r s len. param_arrow_read f p t r (param_good p) (type_good t) w s len)
   type_good (Arrow t t') = whole_type (Arrow t t') refl (λ w f r s len. arrow_read f t t' r (type_good t) (type_good t') w s len)
 
@@ -1307,10 +1468,12 @@ mutual
 
 -- ---- files
 
-pub body_read : (file n : ℕ) (is : Items) → WfItems true is → length (items_then is []) ≤ n → read_body file n (items_then is []) ≡ Some (Body file is)
+pub body_read : (file n : ℕ) (is : Items) → WfItems true is → length (items_then is []) ≤ n
+    → read_body file n (items_then is []) ≡ Some (Body file is)
 unfolding read_body
 body_read file n is w len = rw (items_read is (items_good is) true w n [] at_end n len len) refl
 
-pub face_read : (file n : ℕ) (is : SigItems) → WfSigItems is → length (sig_items_then is []) ≤ n → read_face file n (sig_items_then is []) ≡ Some (Face file is)
+pub face_read : (file n : ℕ) (is : SigItems) → WfSigItems is → length (sig_items_then is []) ≤ n
+    → read_face file n (sig_items_then is []) ≡ Some (Face file is)
 unfolding read_face
 face_read file n is w len = rw (sig_items_read n is (sig_items_good is) w [] at_end len) refl

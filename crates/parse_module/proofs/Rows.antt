@@ -19,11 +19,13 @@ use Rattle.parse_module.specs.Parts.{names_module, module_type_item, module_type
 
 -- ---- rows that have a part, or none
 
-pub external_none : (x : pure.ValueName) (run : List Tok) (at : ℕ) (xs : List Word) (ts : List Tok) → length xs ≡ 0 → r.external_end x run at (view_words xs, ts) ≡ None
+pub external_none : (x : pure.ValueName) (run : List Tok) (at : ℕ) (xs : List Word) (ts : List Tok) → length xs ≡ 0
+    → r.external_end x run at (view_words xs, ts) ≡ None
 external_none x run at [] ts h = refl
 external_none x run at (y ∷ ys) ts h = absurd (omega arith)
 
-pub external_some : (x : pure.ValueName) (run : List Tok) (at : ℕ) (xs : List Word) (ts : List Tok) → 0 < length xs → r.external_end x run at (view_words xs, ts) ≡ Some (record { name = x; run = run; at = at; texts = view_words xs }, ts)
+pub external_some : (x : pure.ValueName) (run : List Tok) (at : ℕ) (xs : List Word) (ts : List Tok) → 0 < length xs
+    → r.external_end x run at (view_words xs, ts) ≡ Some (record { name = x; run = run; at = at; texts = view_words xs }, ts)
 external_some x run at [] ts h = absurd (omega arith)
 external_some x run at (y ∷ ys) ts h = refl
 
@@ -53,57 +55,71 @@ pub ruleset signs = (sign_none, sign_some)
 module _ (d : ℕ) where
   -- ---- parameters behind `functor`
 
-  pub functor_none : (at : ℕ) (ps : List FunctorParam) (ts : List Tok) → length ps ≡ 0 → r.functor_end (read_mod d) (read_type d) d at (functor_params ps) ts ≡ None
+  pub functor_none : (at : ℕ) (ps : List FunctorParam) (ts : List Tok) → length ps ≡ 0
+      → r.functor_end (read_mod d) (read_type d) d at (functor_params ps) ts ≡ None
   functor_none at [] ts h = refl
   functor_none at (p ∷ ps) ts h = absurd (omega arith)
 
-  pub functor_some : (at : ℕ) (ps : List FunctorParam) (ts : List Tok) → 0 < length ps → r.functor_end (read_mod d) (read_type d) d at (functor_params ps) ts ≡ (expect key.Arrow ts >>= λ q. read_mod d q >>= λ m. Some (pure.Functor at (functor_params ps) m.0, m.1))
+  pub functor_some : (at : ℕ) (ps : List FunctorParam) (ts : List Tok) → 0 < length ps
+      → r.functor_end (read_mod d) (read_type d) d at (functor_params ps) ts
+      ≡ (expect key.Arrow ts >>= λ q. read_mod d q >>= λ m. Some (pure.Functor at (functor_params ps) m.0, m.1))
   functor_some at [] ts h = absurd (omega arith)
   functor_some at (p ∷ ps) ts h = refl
 
-  pub functor_type_none : (at : ℕ) (ps : List FunctorParam) (ts : List Tok) → length ps ≡ 0 → r.functor_type_end (read_mod d) (read_type d) d at (functor_params ps) ts ≡ None
+  pub functor_type_none : (at : ℕ) (ps : List FunctorParam) (ts : List Tok) → length ps ≡ 0
+      → r.functor_type_end (read_mod d) (read_type d) d at (functor_params ps) ts ≡ None
   functor_type_none at [] ts h = refl
   functor_type_none at (p ∷ ps) ts h = absurd (omega arith)
 
-  pub functor_type_some : (at : ℕ) (ps : List FunctorParam) (ts : List Tok) → 0 < length ps → r.functor_type_end (read_mod d) (read_type d) d at (functor_params ps) ts ≡ (expect key.Arrow ts >>= λ q. read_type d q >>= λ s. Some (pure.FunctorType at (functor_params ps) s.0, s.1))
+  pub functor_type_some : (at : ℕ) (ps : List FunctorParam) (ts : List Tok) → 0 < length ps
+      → r.functor_type_end (read_mod d) (read_type d) d at (functor_params ps) ts
+      ≡ (expect key.Arrow ts >>= λ q. read_type d q >>= λ s. Some (pure.FunctorType at (functor_params ps) s.0, s.1))
   functor_type_some at [] ts h = absurd (omega arith)
   functor_type_some at (p ∷ ps) ts h = refl
 
   -- ---- behind a module type
 
-  pub with_none : (s : pure.ModType) (ts : List Tok) (ws : List WithClause) (rest : List Tok) → length ws ≡ 0 → r.with_or (read_mod d) (read_type d) d s ts (map view_with ws, rest) ≡ r.arrow_or (read_mod d) (read_type d) d s ts (expect key.Arrow ts >>= read_type d)
+  pub with_none : (s : pure.ModType) (ts : List Tok) (ws : List WithClause) (rest : List Tok) → length ws ≡ 0
+      → r.with_or (read_mod d) (read_type d) d s ts (map view_with ws, rest) ≡ r.arrow_or (read_mod d) (read_type d) d s ts
+      (expect key.Arrow ts >>= read_type d)
   with_none s ts [] rest h = refl
   with_none s ts (w ∷ ws) rest h = absurd (omega arith)
 
-  pub with_some : (s : pure.ModType) (ts : List Tok) (ws : List WithClause) (rest : List Tok) → 0 < length ws → r.with_or (read_mod d) (read_type d) d s ts (map view_with ws, rest) ≡ (pure.With s (map view_with ws), rest)
+  pub with_some : (s : pure.ModType) (ts : List Tok) (ws : List WithClause) (rest : List Tok) → 0 < length ws
+      → r.with_or (read_mod d) (read_type d) d s ts (map view_with ws, rest) ≡ (pure.With s (map view_with ws), rest)
   with_some s ts [] rest h = absurd (omega arith)
   with_some s ts (w ∷ ws) rest h = refl
 
   -- ---- what a `module` begins
 
-  pub item_type : (at : ℕ) (ts : List Tok) → r.plain_item (read_mod d) (read_type d) d (placed key.Module at ∷ fixed key.Type ∷ ts) ≡ module_type_item d at ts
+  pub item_type : (at : ℕ) (ts : List Tok) → r.plain_item (read_mod d) (read_type d) d (placed key.Module at ∷ fixed key.Type ∷ ts)
+      ≡ module_type_item d at ts
   unfolding r.plain_item
   item_type at (word class.Upper x ∷ placed key.Equals q ∷ ts) = refl
   item_type at (word class.Upper x ∷ _) = refl
   item_type at _ = refl
 
-  pub item_rest : (at : ℕ) (ts : List Tok) → starts key.Type ts ≡ false → r.plain_item (read_mod d) (read_type d) d (placed key.Module at ∷ ts) ≡ r.module_rest (read_mod d) (read_type d) d at ts
+  pub item_rest : (at : ℕ) (ts : List Tok) → starts key.Type ts ≡ false
+      → r.plain_item (read_mod d) (read_type d) d (placed key.Module at ∷ ts) ≡ r.module_rest (read_mod d) (read_type d) d at ts
   unfolding r.plain_item
   item_rest at (fixed key.Type ∷ ts) h = absurd cc
   item_rest at _ h = refl
 
-  pub sig_type : (at : ℕ) (ts : List Tok) → r.sig_item (read_mod d) (read_type d) d (placed key.Module at ∷ fixed key.Type ∷ ts) ≡ module_type_sig d at ts
+  pub sig_type : (at : ℕ) (ts : List Tok) → r.sig_item (read_mod d) (read_type d) d (placed key.Module at ∷ fixed key.Type ∷ ts) ≡ module_type_sig d
+      at ts
   unfolding r.sig_item
   sig_type at (word class.Upper x ∷ placed key.Equals q ∷ ts) = refl
   sig_type at (word class.Upper x ∷ _) = refl
   sig_type at _ = refl
 
-  pub sig_alias : (at : ℕ) (ts : List Tok) → names_module ts ≡ true → r.sig_item (read_mod d) (read_type d) d (placed key.Module at ∷ ts) ≡ alias_sig d at ts
+  pub sig_alias : (at : ℕ) (ts : List Tok) → names_module ts ≡ true
+      → r.sig_item (read_mod d) (read_type d) d (placed key.Module at ∷ ts) ≡ alias_sig d at ts
   unfolding r.sig_item
   sig_alias at (word class.Upper x ∷ placed key.Equals q ∷ ts) h = refl
   sig_alias at _ h = absurd cc
 
-  pub sig_rest : (at : ℕ) (ts : List Tok) → starts key.Type ts ≡ false → names_module ts ≡ false → r.sig_item (read_mod d) (read_type d) d (placed key.Module at ∷ ts) ≡ r.module_sig_rest (read_mod d) (read_type d) d at ts
+  pub sig_rest : (at : ℕ) (ts : List Tok) → starts key.Type ts ≡ false → names_module ts ≡ false
+      → r.sig_item (read_mod d) (read_type d) d (placed key.Module at ∷ ts) ≡ r.module_sig_rest (read_mod d) (read_type d) d at ts
   unfolding r.sig_item
   sig_rest at (fixed key.Type ∷ ts) h k = absurd cc
   sig_rest at (word class.Upper x ∷ placed key.Equals q ∷ ts) h k = absurd cc
@@ -121,11 +137,13 @@ module _ (d : ℕ) where
 
   -- ---- how a module type begins
 
-  pub type_functor : (at : ℕ) (ts : List Tok) → r.mod_type (read_mod d) (read_type d) d (placed key.Functor at ∷ ts) ≡ r.functor_type_end (read_mod d) (read_type d) d at (r.functor_params (read_mod d) (read_type d) d ts).0 (r.functor_params (read_mod d) (read_type d) d ts).1
+  pub type_functor : (at : ℕ) (ts : List Tok) → r.mod_type (read_mod d) (read_type d) d (placed key.Functor at ∷ ts) ≡ r.functor_type_end (read_mod d)
+      (read_type d) d at (r.functor_params (read_mod d) (read_type d) d ts).0 (r.functor_params (read_mod d) (read_type d) d ts).1
   unfolding r.mod_type
   type_functor at ts = refl
 
-  pub type_other : (ts : List Tok) → starts key.Functor ts ≡ false → r.mod_type (read_mod d) (read_type d) d ts ≡ r.param_or (read_mod d) (read_type d) d ts (r.functor_param (read_mod d) (read_type d) d ts)
+  pub type_other : (ts : List Tok) → starts key.Functor ts ≡ false → r.mod_type (read_mod d) (read_type d) d ts ≡ r.param_or (read_mod d)
+      (read_type d) d ts (r.functor_param (read_mod d) (read_type d) d ts)
   unfolding r.mod_type
   type_other (placed key.Functor at ∷ ts) h = absurd cc
   type_other _ h = refl

@@ -31,19 +31,23 @@ face_all file is ts at le = rw (from_end ts at le) refl
 pub face_some : (file : ℕ) (is : SigItems) (ts : List Token) (at : ℕ) → at < length ts → whole_face file (is, from ts at) ≡ None
 face_some file is ts at lt = rw ((from_next ts at lt).1) refl
 
-pub body_cut : (file n : ℕ) (is : Items) (ts : List Token) (at : ℕ) → Some (items_of (read_mod n) (read_type n) n n true (from ts 0)) ≡ Some (is, from ts at) → at < length ts → read_body file n (from ts 0) ≡ None
+pub body_cut : (file n : ℕ) (is : Items) (ts : List Token) (at : ℕ) → Some (items_of (read_mod n) (read_type n) n n true (from ts 0)) ≡ Some
+    (is, from ts at) → at < length ts → read_body file n (from ts 0) ≡ None
 unfolding read_body
 body_cut file n is ts at h lt = ap (whole_body file) (some_is h) ∙ body_some file is ts at lt
 
-pub body_whole : (file n : ℕ) (is : Items) (ts : List Token) (at : ℕ) → Some (items_of (read_mod n) (read_type n) n n true (from ts 0)) ≡ Some (is, from ts at) → length ts ≤ at → read_body file n (from ts 0) ≡ Some (Body file is)
+pub body_whole : (file n : ℕ) (is : Items) (ts : List Token) (at : ℕ) → Some (items_of (read_mod n) (read_type n) n n true (from ts 0)) ≡ Some
+    (is, from ts at) → length ts ≤ at → read_body file n (from ts 0) ≡ Some (Body file is)
 unfolding read_body
 body_whole file n is ts at h le = ap (whole_body file) (some_is h) ∙ body_all file is ts at le
 
-pub face_cut : (file n : ℕ) (is : SigItems) (ts : List Token) (at : ℕ) → Some (sig_items (read_mod n) (read_type n) n (from ts 0)) ≡ Some (is, from ts at) → at < length ts → read_face file n (from ts 0) ≡ None
+pub face_cut : (file n : ℕ) (is : SigItems) (ts : List Token) (at : ℕ) → Some (sig_items (read_mod n) (read_type n) n (from ts 0)) ≡ Some
+    (is, from ts at) → at < length ts → read_face file n (from ts 0) ≡ None
 unfolding read_face
 face_cut file n is ts at h lt = ap (whole_face file) (some_is h) ∙ face_some file is ts at lt
 
-pub face_whole : (file n : ℕ) (is : SigItems) (ts : List Token) (at : ℕ) → Some (sig_items (read_mod n) (read_type n) n (from ts 0)) ≡ Some (is, from ts at) → length ts ≤ at → read_face file n (from ts 0) ≡ Some (Face file is)
+pub face_whole : (file n : ℕ) (is : SigItems) (ts : List Token) (at : ℕ) → Some (sig_items (read_mod n) (read_type n) n (from ts 0)) ≡ Some
+    (is, from ts at) → length ts ≤ at → read_face file n (from ts 0) ≡ Some (Face file is)
 unfolding read_face
 face_whole file n is ts at h le = ap (whole_face file) (some_is h) ∙ face_all file is ts at le
 
@@ -87,7 +91,8 @@ no_tree kind.Body file n ts len h (Face a is) p w q = absurd p
 no_tree kind.Face file n ts len h (Body a is) p w q = absurd p
 
 -- the same of the tokens of the code
-pub file_tree : (k : FileKind) (file : ℕ) (ts : List Token) (t : FileTree) → read_file k file (length ts + 1) (from ts 0) ≡ Some t → IsTreeOf k file (from ts 0) t
+pub file_tree : (k : FileKind) (file : ℕ) (ts : List Token) (t : FileTree) → read_file k file (length ts + 1) (from ts 0) ≡ Some t
+    → IsTreeOf k file (from ts 0) t
 file_tree k file ts t e = tree_of k file (length ts + 1) (from ts 0) t e
 
 pub no_file : (k : FileKind) (file : ℕ) (ts : List Token) → read_file k file (length ts + 1) (from ts 0) ≡ None → HasNoTree k file (from ts 0)

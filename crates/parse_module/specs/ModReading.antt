@@ -4,7 +4,14 @@ use Rattle.rotor_base.specs.declared.token.Class.TheVariants as class
 use Rattle.ml_syntax.specs.declared.fixed.Fixed.TheVariants as key
 use Rattle.ml_syntax.specs.Tok.{Name, Tok, fixed, placed, word}
 use Rattle.ml_syntax.specs.WellFormed.{is_separator, is_constraint_sign}
-use Rattle.ml_syntax.specs.Tree.{ValueName, Expr, ModuleName, UpperName, AnyName, Constraint, ConstraintOf, WithClause, WithOf, ModExpr, ModPath, Struct, Functor, ModApply, ModParen, Sealed, ModArgument, ModuleArgument, SealedArgument, NoArgument, ModArguments, no_mod_argument, more_mod_argument, FunctorParam, NamedParam, NoParam, FunctorParams, no_functor_param, more_functor_param, ModType, TypePath, Sig, TypeOf, TypeParen, With, FunctorType, ParamArrow, Arrow, MaybeType, no_type, some_type, Item, ExprItem, SeparatorItem, ValueItem, ExternalItem, TypeItem, ExceptionItem, ModuleItem, ModuleTypeItem, OpenItem, IncludeItem, Items, no_item, more_item, SigItem, SeparatorSig, ValSig, ExternalSig, TypeSig, ExceptionSig, ModuleSig, AliasSig, ModuleTypeSig, OpenSig, IncludeSig, SigItems, no_sig_item, more_sig_item, FileTree, Body, Face}
+use Rattle.ml_syntax.specs.Tree.{ValueName, Expr, ModuleName, UpperName, AnyName, Constraint, ConstraintOf, WithClause, WithOf, ModExpr, ModPath}
+use Rattle.ml_syntax.specs.Tree.{Struct, Functor, ModApply, ModParen, Sealed, ModArgument, ModuleArgument, SealedArgument, NoArgument, ModArguments}
+use Rattle.ml_syntax.specs.Tree.{no_mod_argument, more_mod_argument, FunctorParam, NamedParam, NoParam, FunctorParams, no_functor_param}
+use Rattle.ml_syntax.specs.Tree.{more_functor_param, ModType, TypePath, Sig, TypeOf, TypeParen, With, FunctorType, ParamArrow, Arrow, MaybeType}
+use Rattle.ml_syntax.specs.Tree.{no_type, some_type, Item, ExprItem, SeparatorItem, ValueItem, ExternalItem, TypeItem, ExceptionItem, ModuleItem}
+use Rattle.ml_syntax.specs.Tree.{ModuleTypeItem, OpenItem, IncludeItem, Items, no_item, more_item, SigItem, SeparatorSig, ValSig, ExternalSig}
+use Rattle.ml_syntax.specs.Tree.{TypeSig, ExceptionSig, ModuleSig, AliasSig, ModuleTypeSig, OpenSig, IncludeSig, SigItems, no_sig_item, more_sig_item}
+use Rattle.ml_syntax.specs.Tree.{FileTree, Body, Face}
 use Rattle.parse_base.specs.Steps.{Read, ◌>>=◌, expect, expect_at, many, always}
 use Rattle.parse_base.specs.Pieces.{value_name, type_run, declaration_run}
 use Rattle.expr_reading.specs.ExprReading.{optional_bang, upper_path, bindings, read_expr}
@@ -136,7 +143,8 @@ module _ (sub_mod : Read ModExpr) (sub_type : Read ModType) (n : ℕ) where
   plain_item (fixed key.External ∷ ts) = external_rest n ts >>= λ x. Some (ExternalItem x.0.name x.0.run x.0.at x.0.texts, x.1)
   plain_item (fixed key.Type ∷ ts) = declaration_run ts >>= λ run. Some (TypeItem run.0, run.1)
   plain_item (placed key.Exception at ∷ ts) = declaration_run ts >>= λ run. Some (ExceptionItem at run.0, run.1)
-  plain_item (placed key.Module at ∷ fixed key.Type ∷ word class.Upper x ∷ placed key.Equals q ∷ ts) = sub_type ts >>= λ s. Some (ModuleTypeItem at x q s.0, s.1)
+  plain_item (placed key.Module at ∷ fixed key.Type ∷ word class.Upper x ∷ placed key.Equals q ∷ ts) =
+      sub_type ts >>= λ s. Some (ModuleTypeItem at x q s.0, s.1)
   plain_item (placed key.Module at ∷ ts) = module_rest at ts
   plain_item (placed key.Open at ∷ ts) = open_rest n ts >>= λ x. Some (OpenItem at x.0.0 x.0.1, x.1)
   plain_item (placed key.Include at ∷ ts) = sub_mod ts >>= λ m. Some (IncludeItem at m.0, m.1)
@@ -184,7 +192,8 @@ module _ (sub_mod : Read ModExpr) (sub_type : Read ModType) (n : ℕ) where
   sig_item (fixed key.External ∷ ts) = external_rest n ts >>= λ x. Some (ExternalSig x.0.name x.0.run x.0.at x.0.texts, x.1)
   sig_item (fixed key.Type ∷ ts) = declaration_run ts >>= λ run. Some (TypeSig run.0, run.1)
   sig_item (placed key.Exception at ∷ ts) = declaration_run ts >>= λ run. Some (ExceptionSig at run.0, run.1)
-  sig_item (placed key.Module at ∷ fixed key.Type ∷ word class.Upper x ∷ placed key.Equals q ∷ ts) = sub_type ts >>= λ s. Some (ModuleTypeSig at x q s.0, s.1)
+  sig_item (placed key.Module at ∷ fixed key.Type ∷ word class.Upper x ∷ placed key.Equals q ∷ ts) =
+      sub_type ts >>= λ s. Some (ModuleTypeSig at x q s.0, s.1)
   sig_item (placed key.Module at ∷ word class.Upper x ∷ placed key.Equals q ∷ ts) = upper_path n ts >>= λ p. Some (AliasSig at x q p.0, p.1)
   sig_item (placed key.Module at ∷ ts) = module_sig_rest at ts
   sig_item (placed key.Open at ∷ ts) = open_rest n ts >>= λ x. Some (OpenSig at x.0.0 x.0.1, x.1)
@@ -257,7 +266,8 @@ module _ (sub_mod : Read ModExpr) (sub_type : Read ModType) (n : ℕ) where
 
   abbrev pub functor_type_end : ℕ → FunctorParams → Read ModType
   functor_type_end at no_functor_param r = None
-  functor_type_end at (more_functor_param p ps) r = expect key.Arrow r >>= λ r'. sub_type r' >>= λ s. Some (FunctorType at (more_functor_param p ps) s.0, s.1)
+  functor_type_end at (more_functor_param p ps) r =
+      expect key.Arrow r >>= λ r'. sub_type r' >>= λ s. Some (FunctorType at (more_functor_param p ps) s.0, s.1)
 
   -- a parameter and an arrow, or else a SimpleType
   abbrev pub param_or : List Tok → Option (FunctorParam × List Tok) → Option (ModType × List Tok)

@@ -11,12 +11,14 @@ use Rattle.parse_base.specs.declared.error.ReadError.{ReadError}
 use Rattle.parse_base.specs.Gives.{from, Gives}
 use Rattle.parse_module.specs.ModReading.{read_mod, read_type}
 
-pub record ReadsModules (depth : ℕ) (pre : Global → Bor (List Token) → ℕ → ℕ → ℕ → Type 0) (post : Global → Bor (List Token) → ℕ → ℕ → ℕ → Result (ModExpr × ℕ) ReadError → Type 0) : Type 0 where
+pub record ReadsModules (depth : ℕ) (pre : Global → Bor (List Token) → ℕ → ℕ → ℕ → Type 0)
+    (post : Global → Bor (List Token) → ℕ → ℕ → ℕ → Result (ModExpr × ℕ) ReadError → Type 0) : Type 0 where
   pub callable : (alloc : Global) (ts : Bor (List Token)) (levels at : ℕ) → length ts.now ≤ max_file_bytes → pre alloc ts depth levels at
   pub reads : (alloc : Global) (ts : Bor (List Token)) (levels at : ℕ) (r : Result (ModExpr × ℕ) ReadError) → post alloc ts depth levels at r
       → Gives (λ x. (view_mod x.0, from ts.now x.1)) r (read_mod depth (from ts.now at))
 
-pub record ReadsTypes (depth : ℕ) (pre : Global → Bor (List Token) → ℕ → ℕ → ℕ → Type 0) (post : Global → Bor (List Token) → ℕ → ℕ → ℕ → Result (ModType × ℕ) ReadError → Type 0) : Type 0 where
+pub record ReadsTypes (depth : ℕ) (pre : Global → Bor (List Token) → ℕ → ℕ → ℕ → Type 0)
+    (post : Global → Bor (List Token) → ℕ → ℕ → ℕ → Result (ModType × ℕ) ReadError → Type 0) : Type 0 where
   pub callable : (alloc : Global) (ts : Bor (List Token)) (levels at : ℕ) → length ts.now ≤ max_file_bytes → pre alloc ts depth levels at
   pub reads : (alloc : Global) (ts : Bor (List Token)) (levels at : ℕ) (r : Result (ModType × ℕ) ReadError) → post alloc ts depth levels at r
       → Gives (λ x. (view_mod_type x.0, from ts.now x.1)) r (read_type depth (from ts.now at))

@@ -1,8 +1,33 @@
 -- The heads of a respelled tree are the tree's: only names of values are respelled, and no path has them as its head.
 use Rattle.std.proofs.Common.{◌≡◌, ℕ, List, [], ◌∷◌, ◌++◌, Some, refl, ap, ◌∙◌}
-use Rattle.ml_syntax.specs.Respelled.{Spelling, spell_file, spell_argument, spell_arguments, spell_binding, spell_bindings, spell_case, spell_cases, spell_expr, spell_field, spell_fields, spell_functor_param, spell_functor_params, spell_item, spell_items, spell_links, spell_maybe_expr, spell_maybe_type, spell_mod_argument, spell_mod_arguments, spell_mod_expr, spell_mod_type, spell_param, spell_params, spell_part, spell_parts, spell_pat, spell_pat_field, spell_pat_fields, spell_pats, spell_sig_item, spell_sig_items, spell_tail}
-use Rattle.ml_syntax.specs.Tree.{FileTree, Body, Face, AliasSig, AnyPat, AppliedBinding, Apply, Argument, Arguments, Arrow, AsPat, Assert, AssignedField, Begin, Binding, Bindings, BoolExpr, BoolPat, Case, CaseOf, Cases, Chain, CharPart, Coerced, ConsPat, Constr, ConstrApply, ConstrApplyPat, ConstrPat, DefaultParam, EmptyBegin, EmptyList, EmptyPat, ExceptionItem, ExceptionPat, ExceptionSig, Expr, ExprItem, ExternalItem, ExternalSig, Field, FieldPun, Fields, For, Fun, Function, Functor, FunctorParam, FunctorParams, FunctorType, If, IncludeItem, IncludeSig, IndexPart, Item, Items, LabelParam, LabelPart, LabelPattern, LabelPun, Labelled, Lazy, LazyPat, Let, LetModule, LetOpen, Links, ListExpr, ListPat, Literal, LiteralPat, Match, MatchedField, MaybeExpr, MaybeType, Minus, ModApply, ModArgument, ModArguments, ModExpr, ModParen, ModPath, ModType, ModuleArgument, ModuleItem, ModuleSig, ModuleTypeItem, ModuleTypeSig, NamedParam, NegativePat, NoArgument, NoParam, OpenItem, OpenSig, Opened, OpenedPat, OrPat, Param, ParamArrow, Params, Paren, ParenPat, Part, Parts, Pat, PatField, PatFields, Pats, PatternParam, PlainBinding, Positional, Postfix, Prefixed, PunnedField, RangePat, Record, RecordPat, Sealed, SealedArgument, SeparatorItem, SeparatorSig, Seq, Sig, SigItem, SigItems, Struct, Tag, TagApply, TagApplyPat, TagPat, Tail, Try, TuplePat, TypeItem, TypeOf, TypeParen, TypePath, TypeSig, Typed, TypedPat, TypesParam, UnitExpr, UnitPat, ValSig, Value, ValueItem, ValuePat, While, With, WrappedDefault, WrappedParam, more_argument, more_binding, more_case, more_field, more_functor_param, more_item, more_link, more_mod_argument, more_param, more_part, more_pat, more_pat_field, more_sig_item, no_argument, no_binding, no_case, no_else, no_expr, no_field, no_functor_param, no_item, no_link, no_mod_argument, no_param, no_part, no_pat, no_pat_field, no_sig_item, no_type, or_else, or_if, some_expr, some_type}
-use Rattle.unit_order.specs.Heads.{file_heads, argument_heads, arguments_heads, binding_heads, bindings_heads, bound_by_item, bound_by_param, bound_by_params, bound_by_sig_item, case_heads, cases_heads, expr_heads, field_heads, fields_heads, functor_param_heads, functor_params_heads, item_heads, items_heads, links_heads, local_heads, maybe_heads, mod_argument_heads, mod_arguments_heads, mod_heads, mod_type_heads, module_head, param_heads, params_heads, part_heads, parts_heads, pat_field_heads, pat_fields_heads, pat_heads, pats_heads, prefix_head, sig_item_heads, sig_items_heads, signature_heads, tail_heads}
+use Rattle.ml_syntax.specs.Respelled.{Spelling, spell_file, spell_argument, spell_arguments, spell_binding, spell_bindings, spell_case, spell_cases}
+use Rattle.ml_syntax.specs.Respelled.{spell_expr, spell_field, spell_fields, spell_functor_param, spell_functor_params, spell_item, spell_items}
+use Rattle.ml_syntax.specs.Respelled.{spell_links, spell_maybe_expr, spell_maybe_type, spell_mod_argument, spell_mod_arguments, spell_mod_expr}
+use Rattle.ml_syntax.specs.Respelled.{spell_mod_type, spell_param, spell_params, spell_part, spell_parts, spell_pat, spell_pat_field}
+use Rattle.ml_syntax.specs.Respelled.{spell_pat_fields, spell_pats, spell_sig_item, spell_sig_items, spell_tail}
+use Rattle.ml_syntax.specs.Tree.{FileTree, Body, Face, AliasSig, AnyPat, AppliedBinding, Apply, Argument, Arguments, Arrow, AsPat, Assert}
+use Rattle.ml_syntax.specs.Tree.{AssignedField, Begin, Binding, Bindings, BoolExpr, BoolPat, Case, CaseOf, Cases, Chain, CharPart, Coerced, ConsPat}
+use Rattle.ml_syntax.specs.Tree.{Constr, ConstrApply, ConstrApplyPat, ConstrPat, DefaultParam, EmptyBegin, EmptyList, EmptyPat, ExceptionItem}
+use Rattle.ml_syntax.specs.Tree.{ExceptionPat, ExceptionSig, Expr, ExprItem, ExternalItem, ExternalSig, Field, FieldPun, Fields, For, Fun, Function}
+use Rattle.ml_syntax.specs.Tree.{Functor, FunctorParam, FunctorParams, FunctorType, If, IncludeItem, IncludeSig, IndexPart, Item, Items, LabelParam}
+use Rattle.ml_syntax.specs.Tree.{LabelPart, LabelPattern, LabelPun, Labelled, Lazy, LazyPat, Let, LetModule, LetOpen, Links, ListExpr, ListPat}
+use Rattle.ml_syntax.specs.Tree.{Literal, LiteralPat, Match, MatchedField, MaybeExpr, MaybeType, Minus, ModApply, ModArgument, ModArguments, ModExpr}
+use Rattle.ml_syntax.specs.Tree.{ModParen, ModPath, ModType, ModuleArgument, ModuleItem, ModuleSig, ModuleTypeItem, ModuleTypeSig, NamedParam}
+use Rattle.ml_syntax.specs.Tree.{NegativePat, NoArgument, NoParam, OpenItem, OpenSig, Opened, OpenedPat, OrPat, Param, ParamArrow, Params, Paren}
+use Rattle.ml_syntax.specs.Tree.{ParenPat, Part, Parts, Pat, PatField, PatFields, Pats, PatternParam, PlainBinding, Positional, Postfix, Prefixed}
+use Rattle.ml_syntax.specs.Tree.{PunnedField, RangePat, Record, RecordPat, Sealed, SealedArgument, SeparatorItem, SeparatorSig, Seq, Sig, SigItem}
+use Rattle.ml_syntax.specs.Tree.{SigItems, Struct, Tag, TagApply, TagApplyPat, TagPat, Tail, Try, TuplePat, TypeItem, TypeOf, TypeParen, TypePath}
+use Rattle.ml_syntax.specs.Tree.{TypeSig, Typed, TypedPat, TypesParam, UnitExpr, UnitPat, ValSig, Value, ValueItem, ValuePat, While, With}
+use Rattle.ml_syntax.specs.Tree.{WrappedDefault, WrappedParam, more_argument, more_binding, more_case, more_field, more_functor_param, more_item}
+use Rattle.ml_syntax.specs.Tree.{more_link, more_mod_argument, more_param, more_part, more_pat, more_pat_field, more_sig_item, no_argument}
+use Rattle.ml_syntax.specs.Tree.{no_binding, no_case, no_else, no_expr, no_field, no_functor_param, no_item, no_link, no_mod_argument, no_param}
+use Rattle.ml_syntax.specs.Tree.{no_part, no_pat, no_pat_field, no_sig_item, no_type, or_else, or_if, some_expr, some_type}
+use Rattle.unit_order.specs.Heads.{file_heads, argument_heads, arguments_heads, binding_heads, bindings_heads, bound_by_item, bound_by_param}
+use Rattle.unit_order.specs.Heads.{bound_by_params, bound_by_sig_item, case_heads, cases_heads, expr_heads, field_heads, fields_heads}
+use Rattle.unit_order.specs.Heads.{functor_param_heads, functor_params_heads, item_heads, items_heads, links_heads, local_heads, maybe_heads}
+use Rattle.unit_order.specs.Heads.{mod_argument_heads, mod_arguments_heads, mod_heads, mod_type_heads, module_head, param_heads, params_heads}
+use Rattle.unit_order.specs.Heads.{part_heads, parts_heads, pat_field_heads, pat_fields_heads, pat_heads, pats_heads, prefix_head, sig_item_heads}
+use Rattle.unit_order.specs.Heads.{sig_items_heads, signature_heads, tail_heads}
 
 -- ---- what is bound stays bound
 

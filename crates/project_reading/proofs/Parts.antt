@@ -16,7 +16,8 @@ use Rattle.ml_syntax.specs.Tree.{FileTree, UnitTree}
 use Rattle.unit_order.specs.Heads.{is_among}
 use Rattle.project_reading.specs.Units.{unit_names, part_of, unit_from, units_of}
 use Rattle.project_reading.specs.Gathered.{with_part, empty_unit, put_part}
-use Rattle.project_reading.proofs.Names.{IsBelow, same_name, below_too, apart_before, apart_behind, other_behind, not_among, among_insert, sorted_names}
+use Rattle.project_reading.proofs.Names.{IsBelow, same_name, below_too, apart_before, apart_behind, other_behind, not_among, among_insert}
+use Rattle.project_reading.proofs.Names.{sorted_names}
 
 pub none_left : (a b : Bool) → (a || b) ≡ false → a ≡ false
 none_left false b h = refl

@@ -11,7 +11,8 @@ use Rattle.rotor_base.specs.declared.token.FormKind.TheVariants as forms
 use Rattle.ml_lexer.specs.Lexed.{Lexeme}
 use Rattle.ml_lexer.specs.Lexed as lexed
 use Rattle.ml_lexer.specs.Numbers.{number_at, digits_length, base_of, fraction_length, exponent_length, float_part_length}
-use Rattle.ml_lexer.specs.Pieces.{piece_at, lexeme_at, word_at, word_class, marked_word_at, label_at, operator_of, operator_at, mark_length, begins_label, begins_operator, sign_at}
+use Rattle.ml_lexer.specs.Pieces.{piece_at, lexeme_at, word_at, word_class, marked_word_at, label_at, operator_of, operator_at, mark_length}
+use Rattle.ml_lexer.specs.Pieces.{begins_label, begins_operator, sign_at}
 use Rattle.ml_lexer.specs.Quotes.{char_length, text_end, opens_quoted, closes_quoted, quoted_end, quoted_length}
 use Rattle.ml_lexer.specs.Trivia.{plain_part, comment_part, level_end, comment_length, attribute_part, attribute_length}
 use Rattle.ml_syntax.specs.Tok.{Name}
@@ -107,7 +108,9 @@ stuck = record {
 
 -- no lexeme begins at the `\` of `x \`
 no_lexeme : FirstUnread 0 (file "a.ml" "x \\" ∷ []) (refusal.Lex 0 2)
-unfolding piece_at lexeme_at word_at word_class marked_word_at label_at operator_of operator_at mark_length begins_label begins_operator sign_at number_at digits_length base_of fraction_length exponent_length float_part_length char_length text_end opens_quoted closes_quoted quoted_end quoted_length plain_part comment_part level_end comment_length attribute_part attribute_length is_keyword_word
+unfolding piece_at lexeme_at word_at word_class marked_word_at label_at operator_of operator_at mark_length begins_label begins_operator sign_at
+    number_at digits_length base_of fraction_length exponent_length float_part_length char_length text_end opens_quoted closes_quoted quoted_end
+    quoted_length plain_part comment_part level_end comment_length attribute_part attribute_length is_keyword_word
 no_lexeme = inl (bad 2 (lexed.lexeme class.Lower (codes "x") (codes " \\") refl refl
     (lexed.trivia (codes " ") (codes "\\") refl refl (lexed.bad (λ e. cc) refl))))
 
@@ -118,7 +121,9 @@ lexemes =
     ∷ record { class = class.Keyword; start = 2; end = 7; bytes = codes "class" } ∷ []
 
 object : FirstUnread 0 (file "a.ml" "x class" ∷ []) (refusal.Form (place 0 2) forms.Object)
-unfolding piece_at lexeme_at word_at word_class marked_word_at label_at operator_of operator_at mark_length begins_label begins_operator sign_at number_at digits_length base_of fraction_length exponent_length float_part_length char_length text_end opens_quoted closes_quoted quoted_end quoted_length plain_part comment_part level_end comment_length attribute_part attribute_length is_keyword_word
+unfolding piece_at lexeme_at word_at word_class marked_word_at label_at operator_of operator_at mark_length begins_label begins_operator sign_at
+    number_at digits_length base_of fraction_length exponent_length float_part_length char_length text_end opens_quoted closes_quoted quoted_end
+    quoted_length plain_part comment_part level_end comment_length attribute_part attribute_length is_keyword_word
 object = inl (form lexemes 2 forms.Object
     (lexed.lexeme class.Lower (codes "x") (codes " class") refl refl
     (lexed.trivia (codes " ") (codes "class") refl refl (lexed.lexeme class.Keyword (codes "class") [] refl refl lexed.nothing))) refl)

@@ -1,5 +1,6 @@
 -- Units that are taken out of their list one by one, each position once.
-use Rattle.std.proofs.Common.{◌≡◌, ◌≢◌, ℕ, ◌<◌, List, [], ◌∷◌, ◌++◌, All, map, length, get_or, set, Option, Some, None, append_assoc, refl, ap, sym, ◌∙◌, arith, length-set}
+use Rattle.std.proofs.Common.{◌≡◌, ◌≢◌, ℕ, ◌<◌, List, [], ◌∷◌, ◌++◌, All, map, length, get_or, set, Option, Some, None, append_assoc, refl, ap, sym}
+use Rattle.std.proofs.Common.{◌∙◌, arith, length-set}
 use Rattle.std.proofs.lemmas.List.{map-append, get_or-map, get_or-set_other, get_or_default, length-map}
 use Rattle.std.proofs.lemmas.List.Elements.{All-head, All-tail}
 use Rattle.ml_syntax.specs.declared.module.UnitTree as trees

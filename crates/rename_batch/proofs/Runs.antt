@@ -1,5 +1,6 @@
 -- The run of a batch, step by step.
-use Rattle.std.proofs.Common.{◌≡◌, ◌∙◌, inl, inr, ℕ, suc, ◌+◌, ◌<◌, List, [], ◌∷◌, ◌++◌, length, take, drop, get_or, Ok, Err, take-append-drop, refl, sym, ap, subst, arith}
+use Rattle.std.proofs.Common.{◌≡◌, ◌∙◌, inl, inr, ℕ, suc, ◌+◌, ◌<◌, List, [], ◌∷◌, ◌++◌, length, take, drop, get_or, Ok, Err, take-append-drop, refl}
+use Rattle.std.proofs.Common.{sym, ap, subst, arith}
 use Rattle.std.proofs.lemmas.List.{drop_more, length-take-le, take_more}
 use Rattle.rotor_base.specs.declared.refusal.Refusal.{Refusal}
 use Rattle.rotor_base.specs.declared.report.Renamed.{Renamed}

@@ -1,5 +1,6 @@
 -- A renaming, judged.
-use Rattle.std.proofs.Common.{◌≡◌, ℕ, suc, inl, inr, List, [], ◌∷◌, Bool, true, false, cond, Option, Some, None, option_map, refl, ap, sym, subst, ◌∙◌}
+use Rattle.std.proofs.Common.{◌≡◌, ℕ, suc, inl, inr, List, [], ◌∷◌, Bool, true, false, cond, Option, Some, None, option_map, refl, ap, sym, subst}
+use Rattle.std.proofs.Common.{◌∙◌}
 use Rattle.std.specs.BTreeSet.{BTreeSet}
 use Rattle.rotor_base.specs.declared.place.Place.{Place}
 use Rattle.rotor_base.specs.declared.place.Foot.{Foot}
@@ -35,25 +36,29 @@ use Rattle.rename_files.specs.Steps.{LastRungs}
 pub watch_is : (us : List UnitTree) (d : Place) (w : Watch) → w.old ≡ name_of us d → w ≡ watch_of us d w.foot w.new
 watch_is us d w e = ap (λ o. record { old = o; new = w.new; foot = w.foot }) e
 
-pub first_refused : (us : List UnitTree) (d : Place) (foot : Foot) (new : Name) (sources : List SourceFile) (why : Refusal) → IsRefused us d foot new why → IsRefusedFor (refusals_of_binder sources us d foot new) why
+pub first_refused : (us : List UnitTree) (d : Place) (foot : Foot) (new : Name) (sources : List SourceFile) (why : Refusal)
+    → IsRefused us d foot new why → IsRefusedFor (refusals_of_binder sources us d foot new) why
 first_refused us d foot new sources why (inl h) = inl (h sources)
 first_refused us d foot new sources why (inr h) = inr h
 
-module _ (us : List UnitTree) (d : Place) (w : Watch) (sound : IsSound us) (is : IsFoot (facts us).links d w.foot) (b : IsBinder us d) (old : w.old ≡ name_of us d) (free : IsFree us d w.foot w.new) where
+module _ (us : List UnitTree) (d : Place) (w : Watch) (sound : IsSound us) (is : IsFoot (facts us).links d w.foot) (b : IsBinder us d)
+    (old : w.old ≡ name_of us d) (free : IsFree us d w.foot w.new) where
   same : w ≡ watch_of us d w.foot w.new
   same = watch_is us d w old
 
   pub is_watched : IsWatched us w
   is_watched = subst (IsWatched us) (sym same) (watched us d w.foot w.new sound is free b).0
 
-  module _ (set : BTreeSet Place) (has : HasPlaces (hits (facts us).refs w.foot) set) (entries sources : List SourceFile) (made : AreMade set w.new 0 entries sources) where
+  module _ (set : BTreeSet Place) (has : HasPlaces (hits (facts us).refs w.foot) set) (entries sources : List SourceFile)
+      (made : AreMade set w.new 0 entries sources) where
     respelled_here : AreRespelled (in_file (renamed_words us (watch_of us d w.foot w.new))) 0 entries sources
     respelled_here = all_made us d w.foot w.new sound (watched us d w.foot w.new sound is free b).1 set has 0 entries sources made
 
     pub are_respelled : AreRespelled (in_file (renamed_words us w)) 0 entries sources
     are_respelled = subst (λ v. AreRespelled (in_file (renamed_words us v)) 0 entries sources) (sym same) respelled_here
 
-    pub grown_refused : (file : ℕ) → Some file ≡ position_with are_over sources → IsRefusedFor (refusals_of_binder entries us d w.foot w.new) (refusal.Grown file)
+    pub grown_refused : (file : ℕ) → Some file ≡ position_with are_over sources → IsRefusedFor (refusals_of_binder entries us d w.foot w.new)
+        (refusal.Grown file)
     grown_refused file e = inl (past_six us d w.foot w.new entries (refusal.Grown file) free (inl (sources, respelled_here, sym e)))
 
     grown_free : position_with are_over sources ≡ None → IsMet (IsGrown entries us (watch_of us d w.foot w.new)) → ⊥
@@ -63,7 +68,8 @@ module _ (us : List UnitTree) (d : Place) (w : Watch) (sound : IsSound us) (is :
         absurd cc
     grown_free e (_, h) = h
 
-    pub fault_refused : (why : Refusal) → position_with are_over sources ≡ None → IsRefusedFor (LastRungs us w) why → IsRefusedFor (refusals_of_binder entries us d w.foot w.new) why
+    pub fault_refused : (why : Refusal) → position_with are_over sources ≡ None → IsRefusedFor (LastRungs us w) why
+        → IsRefusedFor (refusals_of_binder entries us d w.foot w.new) why
     fault_refused why e (inl h) = inl (past_six us d w.foot w.new entries why free (inr (grown_free e, subst (λ v. LastRungs us v why) same h)))
     fault_refused why e (inr h) = inr h
 
@@ -81,14 +87,16 @@ names_kept ws n [] (x ∷ news) h = absurd h
 names_kept ws n (o ∷ olds) [] h = absurd h
 names_kept ws n (o ∷ olds) (x ∷ news) h = ap (λ m. m ∷ names_of news) h.0.name ∙ ap (λ l. o.name ∷ l) (names_kept ws (suc n) olds news h.1)
 
-none_case : {X : Type 0} (x : X) (f : Option X) (b : Bool) (o : Option ℕ) → (o ≡ None → f ≡ None) → cond b (Some 0) (option_map suc o) ≡ None → cond b (Some x) f ≡ None
+none_case : {X : Type 0} (x : X) (f : Option X) (b : Bool) (o : Option ℕ) → (o ≡ None → f ≡ None) → cond b (Some 0) (option_map suc o) ≡ None
+    → cond b (Some x) f ≡ None
 none_case x f true o r k = let wrong : Some 0 ≡ None = k in absurd cc
 none_case x f false None r k = r refl
 none_case x f false (Some n) r k = let wrong : Some (suc n) ≡ None = k in absurd cc
 
 none_first : {X : Type 0} (test : List X → Bool) (xs : List X) → position_with test xs ≡ None → first_with test xs ≡ None
 none_first test [] e = refl
-none_first test (x ∷ xs) e = none_case x (first_with (λ front. test (x ∷ front)) xs) (test (x ∷ [])) (position_with (λ front. test (x ∷ front)) xs) (none_first (λ front. test (x ∷ front)) xs) e
+none_first test (x ∷ xs) e = none_case x (first_with (λ front. test (x ∷ front)) xs) (test (x ∷ [])) (position_with (λ front. test (x ∷ front)) xs)
+    (none_first (λ front. test (x ∷ front)) xs) e
 
 pub small_enough : (xs : List SourceFile) → position_with are_over xs ≡ None → too_large xs ≡ None
 unfolding too_large

@@ -29,7 +29,8 @@ rejects_one : (files : FileSet) (a b : Refusal) → Rejects files a → Rejects 
 rejects_one files a b (inl h) (inl k) = one_refusal files a b h k
 rejects_one files a b (inl h) (inr k) = absurd (read_or_refused files k.0 a k.1 h)
 rejects_one files a b (inr h) (inl k) = absurd (read_or_refused files h.0 b h.1 k)
-rejects_one files a b (inr h) (inr k) = projects_are_refused_once k.0 a b (subst (λ us. refusals_of_project us a) (same_project files h.0 k.0 h.1 k.1) h.2) k.2
+rejects_one files a b (inr h) (inr k) =
+    projects_are_refused_once k.0 a b (subst (λ us. refusals_of_project us a) (same_project files h.0 k.0 h.1 k.1) h.2) k.2
 
 not_both : (files : FileSet) (us : List UnitTree) (why : Refusal) → Accepts files us → Rejects files why → ⊥
 not_both files us why a (inl h) = read_or_refused files us why a.reads h
@@ -41,17 +42,20 @@ one_check files (Ok a) (Err b) h k = absurd (not_both files h.0 b h.1 k)
 one_check files (Err a) (Ok b) h k = absurd (not_both files k.0 a k.1 h)
 one_check files (Err a) (Err b) h k = ap Err (rejects_one files a b h k)
 
-no_target : (files : FileSet) (us : List UnitTree) (target : Target) (a b : Refusal) → HasNoTarget files us target a → HasNoTarget files us target b → a ≡ b
+no_target : (files : FileSet) (us : List UnitTree) (target : Target) (a b : Refusal) → HasNoTarget files us target a → HasNoTarget files us target b
+    → a ≡ b
 no_target files us target refusal.NoTarget refusal.NoTarget h k = refl
 no_target files us target refusal.NoTarget _ h k = absurd k
 no_target files us target _ _ h k = absurd h
 
-aimed : (files : FileSet) (us : List UnitTree) (target : Target) (d : Place) (why : Refusal) → Aims files us target d → HasNoTarget files us target why → ⊥
+aimed : (files : FileSet) (us : List UnitTree) (target : Target) (d : Place) (why : Refusal) → Aims files us target d
+    → HasNoTarget files us target why → ⊥
 aimed files us target d refusal.NoTarget a h = h d a
 aimed files us target d _ a h = h
 
 -- the binder and the footprint of two answers are one
-module _ (files : FileSet) (target : Target) (us vs : List UnitTree) (d e : Place) (f g : Foot) (same : us ≡ vs) (ad : Aims files us target d) (ae : Aims files vs target e) (fd : IsFoot (facts us).links d f) (ge : IsFoot (facts vs).links e g) where
+module _ (files : FileSet) (target : Target) (us vs : List UnitTree) (d e : Place) (f g : Foot) (same : us ≡ vs) (ad : Aims files us target d)
+    (ae : Aims files vs target e) (fd : IsFoot (facts us).links d f) (ge : IsFoot (facts vs).links e g) where
   binders : d ≡ e
   binders = targets_have_one_goal files vs target d e (subst (λ ws. Aims files ws target d) same ad) ae
 
@@ -69,10 +73,12 @@ one_footprint files target (Ok a) (Ok b) h k =
     ap Ok (h.report ∙ (shown_one h.project k.project h.binder k.binder h.foot k.foot i j l ∙ sym k.report))
 one_footprint files target (Ok a) (Err b) h (inl k) = absurd (not_both files h.project b h.accepts k)
 one_footprint files target (Ok a) (Err b) h (inr k) =
-    absurd (aimed files k.0 target h.binder b (subst (λ ws. Aims files ws target h.binder) (same_project files h.project k.0 h.accepts.reads k.1.reads) h.aims) k.2)
+    absurd (aimed files k.0 target h.binder b
+    (subst (λ ws. Aims files ws target h.binder) (same_project files h.project k.0 h.accepts.reads k.1.reads) h.aims) k.2)
 one_footprint files target (Err a) (Ok b) (inl h) k = absurd (not_both files k.project a k.accepts h)
 one_footprint files target (Err a) (Ok b) (inr h) k =
-    absurd (aimed files h.0 target k.binder a (subst (λ ws. Aims files ws target k.binder) (same_project files k.project h.0 k.accepts.reads h.1.reads) k.aims) h.2)
+    absurd (aimed files h.0 target k.binder a
+    (subst (λ ws. Aims files ws target k.binder) (same_project files k.project h.0 k.accepts.reads h.1.reads) k.aims) h.2)
 one_footprint files target (Err a) (Err b) (inl h) (inl k) = ap Err (rejects_one files a b h k)
 one_footprint files target (Err a) (Err b) (inl h) (inr k) = absurd (not_both files k.0 a k.1 h)
 one_footprint files target (Err a) (Err b) (inr h) (inl k) = absurd (not_both files h.0 b h.1 k)
@@ -80,9 +86,11 @@ one_footprint files target (Err a) (Err b) (inr h) (inr k) =
     ap Err (no_target files k.0 target a b (subst (λ ws. HasNoTarget files ws target a) (same_project files h.0 k.0 h.1.reads k.1.reads) h.2) k.2)
 
 -- two reports of one renaming
-done_one : (files : FileSet) (us : List UnitTree) (d : Place) (foot : Foot) (new : Name) (a b : Renamed) → IsRenaming files us d foot new a → IsRenaming files us d foot new b → a ≡ b
+done_one : (files : FileSet) (us : List UnitTree) (d : Place) (foot : Foot) (new : Name) (a b : Renamed) → IsRenaming files us d foot new a
+    → IsRenaming files us d foot new b → a ≡ b
 done_one files us d foot new a b h k =
-    let entries : a.files.entries ≡ b.files.entries = one_sources (renamed_words us (watch_of us d foot new)) 0 files.entries a.files.entries b.files.entries h.sources k.sources in
+    let entries : a.files.entries ≡ b.files.entries =
+    one_sources (renamed_words us (watch_of us d foot new)) 0 files.entries a.files.entries b.files.entries h.sources k.sources in
     let manifest : a.files.manifest ≡ b.files.manifest = h.manifest ∙ sym k.manifest in
     let changed : a.changed ≡ b.changed = h.changed ∙ sym k.changed in
     let old : a.old ≡ b.old = h.old_name ∙ sym k.old_name in
@@ -90,7 +98,8 @@ done_one files us d foot new a b h k =
     let feet : a.foot ≡ b.foot = h.footprint ∙ sym k.footprint in
     let refs : a.refs ≡ b.refs = h.references ∙ sym k.references in
     let at : a.undo_at ≡ b.undo_at = h.target ∙ sym k.target in
-    let all : a.files ≡ b.files = ap (λ es. record { entries = es; manifest = a.files.manifest }) entries ∙ ap (λ m. record { entries = b.files.entries; manifest = m }) manifest in
+    let all : a.files ≡ b.files = ap (λ es. record { entries = es; manifest = a.files.manifest }) entries
+    ∙ ap (λ m. record { entries = b.files.entries; manifest = m }) manifest in
     ap (λ x. record a { files = x }) all
     ∙ (ap (λ x. record a { files = b.files; changed = x }) changed
     ∙ (ap (λ x. record a { files = b.files; changed = b.changed; old = x }) old
@@ -99,9 +108,11 @@ done_one files us d foot new a b h k =
     ∙ (ap (λ x. record a { files = b.files; changed = b.changed; old = b.old; new = b.new; foot = b.foot; refs = x }) refs
     ∙ ap (λ x. record b { undo_at = x }) at)))))
 
-not_renamed : (files : FileSet) (target : Target) (new : Name) (done : Renamed) (vs : List UnitTree) (why : Refusal) → Accepted files target new done → Accepts files vs → refusals_of_renaming files vs target new why → ⊥
+not_renamed : (files : FileSet) (target : Target) (new : Name) (done : Renamed) (vs : List UnitTree) (why : Refusal) → Accepted files target new done
+    → Accepts files vs → refusals_of_renaming files vs target new why → ⊥
 not_renamed files target new done vs why h a (inl n) =
-    aimed files vs target h.binder why (subst (λ ws. Aims files ws target h.binder) (same_project files h.project vs h.accepts.reads a.reads) h.aims) n
+    aimed files vs target h.binder why (subst (λ ws. Aims files ws target h.binder) (same_project files h.project vs h.accepts.reads a.reads) h.aims)
+    n
 not_renamed files target new done vs why h a (inr n) =
     let t = n.1 in
     let i = same_project files vs h.project a.reads h.accepts.reads in
@@ -120,7 +131,8 @@ one_renaming files target new (Ok a) (Ok b) h k =
     let j = binders files target h.project k.project h.binder k.binder h.foot k.foot i h.aims k.aims h.is_foot k.is_foot in
     let l = foots files target h.project k.project h.binder k.binder h.foot k.foot i h.aims k.aims h.is_foot k.is_foot in
     ap Ok (done_one files k.project k.binder k.foot new a b
-    (subst (λ f. IsRenaming files k.project k.binder f new a) l (subst (λ p. IsRenaming files k.project p h.foot new a) j (subst (λ ws. IsRenaming files ws h.binder h.foot new a) i h.renaming))) k.renaming)
+    (subst (λ f. IsRenaming files k.project k.binder f new a) l
+    (subst (λ p. IsRenaming files k.project p h.foot new a) j (subst (λ ws. IsRenaming files ws h.binder h.foot new a) i h.renaming))) k.renaming)
 one_renaming files target new (Ok a) (Err b) h (inl k) = absurd (not_both files h.project b h.accepts k)
 one_renaming files target new (Ok a) (Err b) h (inr k) = absurd (not_renamed files target new a k.0 b h k.1 k.2)
 one_renaming files target new (Err a) (Ok b) (inl h) k = absurd (not_both files k.project a k.accepts h)
@@ -129,4 +141,5 @@ one_renaming files target new (Err a) (Err b) (inl h) (inl k) = ap Err (rejects_
 one_renaming files target new (Err a) (Err b) (inl h) (inr k) = absurd (not_both files k.0 a k.1 h)
 one_renaming files target new (Err a) (Err b) (inr h) (inl k) = absurd (not_both files h.0 b h.1 k)
 one_renaming files target new (Err a) (Err b) (inr h) (inr k) =
-    ap Err (renamings_are_refused_once files k.0 target new a b (subst (λ ws. refusals_of_renaming files ws target new a) (same_project files h.0 k.0 h.1.reads k.1.reads) h.2) k.2)
+    ap Err (renamings_are_refused_once files k.0 target new a b
+    (subst (λ ws. refusals_of_renaming files ws target new a) (same_project files h.0 k.0 h.1.reads k.1.reads) h.2) k.2)

@@ -17,11 +17,13 @@ use Rattle.rename_model.specs.Renaming.{HasNoTarget, refusals_of_binder}
 use Rattle.rename_files.specs.Answer.{Rejects, Renames}
 use Rattle.rename_project.specs.Steps.{IsRefusedFor, IsFreeOf}
 
-pub not_renamed : (files : FileSet) (target : Target) (new : Name) (e : Refusal) → IsRefusedFor (Rejects files) e → IsRefusedFor (λ why. Renames files target new (Err why)) e
+pub not_renamed : (files : FileSet) (target : Target) (new : Name) (e : Refusal) → IsRefusedFor (Rejects files) e
+    → IsRefusedFor (λ why. Renames files target new (Err why)) e
 not_renamed files target new e (inl h) = inl (inl h)
 not_renamed files target new e (inr h) = inr h
 
-pub no_target_renamed : (files : FileSet) (us : List UnitTree) (target : Target) (new : Name) (e : Refusal) → Reads files us → IsFreeOf (refusals_of_project us) → IsRefusedFor (HasNoTarget files us target) e
+pub no_target_renamed : (files : FileSet) (us : List UnitTree) (target : Target) (new : Name) (e : Refusal) → Reads files us
+    → IsFreeOf (refusals_of_project us) → IsRefusedFor (HasNoTarget files us target) e
     → IsRefusedFor (λ why. Renames files target new (Err why)) e
 no_target_renamed files us target new e reads free (inl h) = inl (inr (us, record { reads = reads; none = free }, inl h))
 no_target_renamed files us target new e reads free (inr h) = inr h
@@ -30,8 +32,13 @@ aimed : (files : FileSet) (us : List UnitTree) (target : Target) (d : Place) →
 aimed files us target d a (refusal.NoTarget, h) = h d a
 aimed files us target d a (_, h) = h
 
-pub judged_renamed : (files : FileSet) (us : List UnitTree) (target : Target) (new : Name) (d : Place) (foot : Foot) (e : Refusal) → Reads files us → IsFreeOf (refusals_of_project us) → Aims files us target d → IsTheFoot us d foot
+pub judged_renamed : (files : FileSet) (us : List UnitTree) (target : Target) (new : Name) (d : Place) (foot : Foot) (e : Refusal) → Reads files us
+    → IsFreeOf (refusals_of_project us) → Aims files us target d → IsTheFoot us d foot
     → IsRefusedFor (refusals_of_binder files.entries us d foot new) e → IsRefusedFor (λ why. Renames files target new (Err why)) e
 judged_renamed files us target new d foot e reads free aims is (inl h) =
-    inl (inr (us, record { reads = reads; none = free }, inr (aimed files us target d aims, record { binder = d; foot = foot; aims = aims; is_foot = is; holds = h })))
+    inl (inr (
+      us,
+      record { reads = reads; none = free },
+      inr (aimed files us target d aims, record { binder = d; foot = foot; aims = aims; is_foot = is; holds = h }),
+    ))
 judged_renamed files us target new d foot e reads free aims is (inr h) = inr h

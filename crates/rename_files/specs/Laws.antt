@@ -16,4 +16,5 @@ abbrev pub OneFootprint : Type 0
 OneFootprint = (files : FileSet) (target : Target) (a b : Result FootReport Refusal) → Shows files target a → Shows files target b → a ≡ b
 
 abbrev pub OneRenaming : Type 0
-OneRenaming = (files : FileSet) (target : Target) (new : Name) (a b : Result Renamed Refusal) → Renames files target new a → Renames files target new b → a ≡ b
+OneRenaming = (files : FileSet) (target : Target) (new : Name) (a b : Result Renamed Refusal) → Renames files target new a
+    → Renames files target new b → a ≡ b

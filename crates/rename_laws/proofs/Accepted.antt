@@ -20,13 +20,15 @@ use Rattle.rename_model.specs.Foot.{hits}
 use Rattle.rename_model.specs.Renaming.{watch_of, renamed}
 use Rattle.rename_files.specs.Answer.{Accepted}
 use Rattle.renamed_sources.proofs.Unhit.{sources_without_hits_stay}
-use Rattle.rename_laws.specs.Laws.{new_names, ChangesAreListed, RenamingsRewrite, RenamingsAreValid, RenamingsKeepFacts, RenamingsKeepRuns, FootprintsAreLeast}
+use Rattle.rename_laws.specs.Laws.{new_names, ChangesAreListed, RenamingsRewrite, RenamingsAreValid, RenamingsKeepFacts, RenamingsKeepRuns}
+use Rattle.rename_laws.specs.Laws.{FootprintsAreLeast}
 use Rattle.rename_laws.proofs.Ordered.{hits_rise}
 use Rattle.rename_laws.proofs.Kept.{IsRenamable, same_facts, same_runs, still, valid, names, taken}
 
 pub renamable : (files : FileSet) (target : Target) (new : Name) (done : Renamed) → IsProject files → (a : Accepted files target new done)
     → IsRenamable files a.project a.binder a.foot new
-renamable files target new done p a = record { files_are = p; reads = a.accepts.reads; project = a.accepts.none; binder = a.aims.1; is = a.is_foot; none = a.none }
+renamable files target new done p a =
+    record { files_are = p; reads = a.accepts.reads; project = a.accepts.none; binder = a.aims.1; is = a.is_foot; none = a.none }
 
 pub renamings_rewrite : RenamingsRewrite
 renamings_rewrite files target new done p a =
@@ -46,7 +48,8 @@ pub changes_are_listed : ChangesAreListed
 changes_are_listed files target new done p a =
     let w = renamings_rewrite files target new done p a in
     let count : length done.files.entries ≡ length files.entries =
-    sym (length-map done.files.entries (λ file. file.name)) ∙ ap (λ (ns : List Name). length ns) w.names ∙ length-map files.entries (λ file. file.name) in
+    sym (length-map done.files.entries (λ file. file.name)) ∙ ap (λ (ns : List Name). length ns) w.names
+    ∙ length-map files.entries (λ file. file.name) in
     let rise = hits_rise (hits (facts a.project).refs a.foot) files.entries in
     record {
       ordered = subst (IsStrictlySortedBy nat_cmp) (sym a.renaming.changed) rise.0;
@@ -64,7 +67,8 @@ renamings_are_valid files target new done p a =
       project = us;
       reads = a.accepts.reads;
       valid = subst (λ (r : Renaming). IsValid us r) is (valid files us a.binder a.foot new h done.files a.renaming.sources a.renaming.manifest);
-      respelled = subst (λ (r : Renaming). Reads done.files (respell us r)) is (still files us a.binder a.foot new h done.files a.renaming.sources a.renaming.manifest);
+      respelled = subst (λ (r : Renaming). Reads done.files (respell us r)) is
+          (still files us a.binder a.foot new h done.files a.renaming.sources a.renaming.manifest);
     }
 
 pub renamings_keep_facts : RenamingsKeepFacts
@@ -82,7 +86,8 @@ pub footprints_are_least : FootprintsAreLeast
 footprints_are_least files target new done p a = record {
   project = a.project;
   reads = a.accepts.reads;
-  whole = λ r m y valid c changes b. changes_whole_foot a.project r a.binder done.foot (read_is_sound files a.project p a.accepts.reads) valid a.aims.1 (subst (λ foot. IsFoot (facts a.project).links a.binder foot) (sym a.renaming.footprint) a.is_foot) m y c changes b;
+  whole = λ r m y valid c changes b. changes_whole_foot a.project r a.binder done.foot (read_is_sound files a.project p a.accepts.reads) valid
+      a.aims.1 (subst (λ foot. IsFoot (facts a.project).links a.binder foot) (sym a.renaming.footprint) a.is_foot) m y c changes b;
 }
 
 pub renamings_keep_runs : RenamingsKeepRuns

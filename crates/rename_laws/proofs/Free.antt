@@ -17,7 +17,8 @@ use Rattle.group_laws.specs.Laws.{HasNoRepeat}
 use Rattle.rename_model.specs.Ladder.{no_more}
 use Rattle.rename_model.specs.Foot.{IsHit}
 use Rattle.rename_model.specs.Project.{IsDuplicate, IsHeavy, IsUnmatched, refusals_of_project}
-use Rattle.rename_model.specs.Renaming.{IsOperator, IsBadName, IsSameName, IsOutside, IsPun, IsPunAt, IsBlurred, IsBlurredAt, IsGrown, IsClash, IsCapture, IsMislink, watch_of, renamed, refusals_of_binder}
+use Rattle.rename_model.specs.Renaming.{IsOperator, IsBadName, IsSameName, IsOutside, IsPun, IsPunAt, IsBlurred, IsBlurredAt, IsGrown, IsClash}
+use Rattle.rename_model.specs.Renaming.{IsCapture, IsMislink, watch_of, renamed, refusals_of_binder}
 use Rattle.rename_steps.specs.Findings.{IsFree}
 use Rattle.rename_laws.proofs.Ladder.{not_first, not_rest}
 use Rattle.rename_laws.proofs.Leasts.{no_least_is_none}
@@ -44,7 +45,8 @@ module _ (us : List UnitTree) (none : IsMet (refusals_of_project us) → ⊥) wh
   none_unmatched = by (unmatched us) refl where
     by : (o : Option Place) → unmatched us ≡ o → o ≡ None
     by None e = refl
-    by (Some at) e = absurd (not_first (IsUnmatched us) no_more (not_rest (IsHeavy us) (before (IsUnmatched us) no_more) later) (refusal.Unmatched at, e))
+    by (Some at) e = absurd (not_first (IsUnmatched us) no_more (not_rest (IsHeavy us) (before (IsUnmatched us) no_more) later)
+        (refusal.Unmatched at, e))
 
 -- ---- the renaming
 
@@ -55,7 +57,8 @@ pub record IsLasting (sources : List SourceFile) (us : List UnitTree) (d : Place
   pub capture : IsMet (IsCapture us (renamed us (watch_of us d foot new))) → ⊥
   pub mislink : IsMet (IsMislink us (renamed us (watch_of us d foot new))) → ⊥
 
-module _ (sources : List SourceFile) (us : List UnitTree) (d : Place) (foot : Foot) (new : Name) (none : IsMet (refusals_of_binder sources us d foot new) → ⊥) where
+module _ (sources : List SourceFile) (us : List UnitTree) (d : Place) (foot : Foot) (new : Name)
+    (none : IsMet (refusals_of_binder sources us d foot new) → ⊥) where
   abbrev From10 : Refusal → Type 0
   From10 = before (IsMislink us (renamed us (watch_of us d foot new))) no_more
 

@@ -113,7 +113,8 @@ module _ (files : FileSet) (us : List UnitTree) (d : Place) (foot : Foot) (new :
   pub gives : GivesValueNames us (renaming W)
   gives = watches_give_value_names us W both.0 free.valid (λ a c. ((both.1 a c).0, (both.1 a c).1))
 
-  module _ (out : FileSet) (sources : AreRespelled (in_file (renamed_words us W)) 0 files.entries out.entries) (manifest : out.manifest ≡ files.manifest) where
+  module _ (out : FileSet) (sources : AreRespelled (in_file (renamed_words us W)) 0 files.entries out.entries)
+      (manifest : out.manifest ≡ files.manifest) where
     pub still : Reads out vs
     still = renamed_files_are_read respelling_keeps_the_reading us (renaming W) files out h.files_are h.reads gives
         (record { sources = sources; manifest = manifest })
@@ -128,7 +129,8 @@ module _ (files : FileSet) (us : List UnitTree) (d : Place) (foot : Foot) (new :
       by (Some file) e = absurd (last.grown (refusal.Grown file, (out.entries, sources, e)))
 
     pub taken : load_refusal out.entries out.manifest ≡ None
-    taken = subst (λ m. load_refusal out.entries m ≡ None) (sym manifest) (small_is_taken files.entries out.entries files.manifest names small h.files_are.taken)
+    taken = subst (λ m. load_refusal out.entries m ≡ None) (sym manifest)
+        (small_is_taken files.entries out.entries files.manifest names small h.files_are.taken)
 
     pub out_is : IsProject out
     out_is = record {

@@ -36,7 +36,8 @@ module _ (P : Place → Type 0) (none : (at : Place) → IsLeast P at → ⊥) w
 
   below_all : (f : ℕ) → Below f
   below_all zero p h l = omega (arith, l)
-  below_all (suc f) p h l = elim (below_next p.file f l) [ inl x ↦ below_all f p h x | inr x ↦ in_file f (below_all f) (suc p.token) p h x (omega arith) ]
+  below_all (suc f) p h l =
+      elim (below_next p.file f l) [ inl x ↦ below_all f p h x | inr x ↦ in_file f (below_all f) (suc p.token) p h x (omega arith) ]
 
   pub no_least_is_none : (p : Place) → P p → ⊥
   no_least_is_none p h = below_all (suc p.file) p h (omega arith)

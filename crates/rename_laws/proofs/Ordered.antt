@@ -38,11 +38,13 @@ one_more n end ns l h = record {
 rises : (ps : List Place) (n end : ℕ) (files : List SourceFile) → n + length files ≤ end → Rises n end (hit_files ps n files)
 rises ps n end [] l = none n end
 rises ps n end (file ∷ files) l = by (list_any (λ p. p.file == n) ps) (rises ps (suc n) end files (omega (arith, l))) where
-  by : (b : Bool) → Rises (suc n) end (hit_files ps (suc n) files) → Rises n end (cond b (n ∷ hit_files ps (suc n) files) (hit_files ps (suc n) files))
+  by : (b : Bool) → Rises (suc n) end (hit_files ps (suc n) files)
+      → Rises n end (cond b (n ∷ hit_files ps (suc n) files) (hit_files ps (suc n) files))
   by true h = one_more n end (hit_files ps (suc n) files) (omega (arith, l)) h
   by false h = later n end (hit_files ps (suc n) files) h
 
-pub hits_rise : (ps : List Place) (files : List SourceFile) → IsStrictlySortedBy nat_cmp (hit_files ps 0 files) × All (λ n. n < length files) (hit_files ps 0 files)
+pub hits_rise : (ps : List Place) (files : List SourceFile) → IsStrictlySortedBy nat_cmp (hit_files ps 0 files)
+    × All (λ n. n < length files) (hit_files ps 0 files)
 hits_rise ps files =
     let h = rises ps 0 (length files) files (omega arith) in
     (h.sorted, All-from_recursion (λ n. n < length files) (hit_files ps 0 files) h.below)

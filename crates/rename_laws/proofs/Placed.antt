@@ -1,5 +1,6 @@
 -- The place of a binder is the place of a token of a source, and the source's name gives its file.
-use Rattle.std.proofs.Common.{◌≡◌, ◌⊎◌, inl, inr, ℕ, zero, suc, ◌+◌, ◌<◌, ◌≤◌, ◌&&◌, List, [], ◌∷◌, ◌++◌, Bool, true, false, cond, length, get_or, Option, Some, None, option_map, Contains, refl, ap, sym, subst, ◌∙◌, slice_get, bytes_eq, arith}
+use Rattle.std.proofs.Common.{◌≡◌, ◌⊎◌, inl, inr, ℕ, zero, suc, ◌+◌, ◌<◌, ◌≤◌, ◌&&◌, List, [], ◌∷◌, ◌++◌, Bool, true, false, cond, length, get_or}
+use Rattle.std.proofs.Common.{Option, Some, None, option_map, Contains, refl, ap, sym, subst, ◌∙◌, slice_get, bytes_eq, arith}
 use Rattle.std.specs.List.{list_all}
 use Rattle.std.specs.Cmp.Lexicographic.{slice_cmp}
 use Rattle.std.specs.List.Sorted.{IsStrictlySortedBy}
@@ -44,7 +45,8 @@ pub number_at : (fs : List SourceFile) → IsStrictlySortedBy (slice_cmp nat_cmp
     → number_of fs s.name ≡ Some k
 unfolding IsStrictlySortedBy
 number_at [] h k s e = cc
-number_at (x ∷ fs) h zero s e = ap (λ b. cond b (Some 0) (option_map suc (number_of fs s.name))) ((bytes_eq-Decides x.name s.name).1 (ap (λ (y : SourceFile). y.name) (some_is x s e)))
+number_at (x ∷ fs) h zero s e = ap (λ b. cond b (Some 0) (option_map suc (number_of fs s.name)))
+    ((bytes_eq-Decides x.name s.name).1 (ap (λ (y : SourceFile). y.name) (some_is x s e)))
 number_at (x ∷ fs) h (suc k) s e = by (bytes_eq x.name s.name) refl (number_at fs h.1 k s e) where
   by : (b : Bool) → bytes_eq x.name s.name ≡ b → number_of fs s.name ≡ Some k → cond b (Some 0) (option_map suc (number_of fs s.name)) ≡ Some (suc k)
   by true t r = absurd (not_named x.name fs k s h.0 e ((bytes_eq-Decides x.name s.name).0 t))
@@ -156,7 +158,8 @@ placed files us d x project reads at operator pun =
     let c = subst (λ (ts : List Tok). Contains ts (word class.Lower y)) (sym same) own in
     let at_is : x.at ≡ 1 + c.0 = token_at 1 r.lexemes y c.0 c.1 c.2 in
     let unit : IsSoundUnit u = subst IsSoundUnit has.1.1.2 ((read_is_sound files us project reads).0 has.1.1.0 u has.1.1.1) in
-    let few : length (words t) ≤ 1048576 = elim has.1.2 [ inl e ↦ body_length t (subst IsBodyPart e unit.0) | inr e ↦ face_length t (subst IsFacePart e unit.1) ] in
+    let few : length (words t) ≤ 1048576 =
+    elim has.1.2 [ inl e ↦ body_length t (subst IsBodyPart e unit.0) | inr e ↦ face_length t (subst IsFacePart e unit.1) ] in
     let less : c.0 < length (words t) = subst (λ (ts : List Tok). c.0 < length ts) same c.1 in
     record {
       source = from.1;

@@ -1,5 +1,6 @@
 -- An accepted renaming is undone by the renaming back.
-use Rattle.std.proofs.Common.{◌<◌, ◌≤◌, ◌≡◌, ◌⊎◌, inl, inr, ◌||◌, ℕ, suc, List, [], ◌∷◌, ◌++◌, Bool, true, false, true≢false, map, length, Option, Some, None, Contains, refl, ap, sym, subst, ◌∙◌, slice_get}
+use Rattle.std.proofs.Common.{◌<◌, ◌≤◌, ◌≡◌, ◌⊎◌, inl, inr, ◌||◌, ℕ, suc, List, [], ◌∷◌, ◌++◌, Bool, true, false, true≢false, map, length, Option}
+use Rattle.std.proofs.Common.{Some, None, Contains, refl, ap, sym, subst, ◌∙◌, slice_get}
 use Rattle.std.specs.Prelude.{IsTrue}
 use Rattle.rotor_base.specs.Name.{is_value_name}
 use Rattle.rotor_base.specs.declared.place.Place.{Place}
@@ -82,7 +83,8 @@ cuts n [] (t ∷ ts) h = absurd h
 cuts n (s ∷ ss) [] h = absurd h
 cuts n (s ∷ ss) (t ∷ ts) h = let r = cuts (suc n) ss ts h.1 in (h.0.lexemes ∷ r.0, (h.0.plain.cut, r.1))
 
-module _ {A : Type 0} (make : Place → Goal → A) (one : (p : Place) (g k : Goal) → make p g ≡ make p k → g ≡ k) (olds news : List A) (same : olds ≡ news) where
+module _ {A : Type 0} (make : Place → Goal → A) (one : (p : Place) (g k : Goal) → make p g ≡ make p k → g ≡ k) (olds news : List A)
+    (same : olds ≡ news) where
   none_differ : (p : Place) (g k : Goal) → IsFirstDiffering make olds news p g k → ⊥
   none_differ p g k h =
       let both : Some (make p g) ≡ Some (make p k) = sym h.differs.old_one ∙ (ap (λ l. slice_get l h.number) same ∙ h.differs.new_one) in
@@ -95,7 +97,9 @@ ref_goal p g k e = ap (λ (r : Ref). r.goal) e
 link_goal : (p : Place) (g k : Goal) → of_link p g ≡ of_link p k → g ≡ k
 link_goal p g k e = ap (λ (l : Link). l.source) e
 
-module _ (files : FileSet) (us : List UnitTree) (d : Place) (foot : Foot) (new : Name) (h : IsRenamable files us d foot new) (out : FileSet) (sources : AreRespelled (in_file (renamed_words us (watch_of us d foot new))) 0 files.entries out.entries) (manifest : out.manifest ≡ files.manifest) where
+module _ (files : FileSet) (us : List UnitTree) (d : Place) (foot : Foot) (new : Name) (h : IsRenamable files us d foot new) (out : FileSet)
+    (sources : AreRespelled (in_file (renamed_words us (watch_of us d foot new))) 0 files.entries out.entries)
+    (manifest : out.manifest ≡ files.manifest) where
   abbrev W : Watch
   W = watch_of us d foot new
 
@@ -135,8 +139,10 @@ module _ (files : FileSet) (us : List UnitTree) (d : Place) (foot : Foot) (new :
   undone_is : (news : List SourceFile) → AreRespelled (in_file (renamed_words vs B)) 0 out.entries news → news ≡ files.entries
   undone_is news s =
       let undone : FileSet = record { entries = news; manifest = out.manifest } in
-      let words : AreRespelled (in_file (renamed_words vs (back W))) 0 out.entries news = subst (λ (w : Watch). AreRespelled (in_file (renamed_words vs w)) 0 out.entries news) back_is s in
-      ap (λ (f : FileSet). f.entries) (renamed_back_are_the_files us (renaming W) (renaming (back W)) files out undone h.files_are h.reads (kept.gives files us d foot new h)
+      let words : AreRespelled (in_file (renamed_words vs (back W))) 0 out.entries news =
+      subst (λ (w : Watch). AreRespelled (in_file (renamed_words vs w)) 0 out.entries news) back_is s in
+      ap (λ (f : FileSet). f.entries)
+      (renamed_back_are_the_files us (renaming W) (renaming (back W)) files out undone h.files_are h.reads (kept.gives files us d foot new h)
       (record { sources = sources; manifest = manifest })
       (record { sources = words; manifest = refl })
       (kept.undone files us d foot new h out sources manifest))
@@ -174,20 +180,26 @@ module _ (files : FileSet) (us : List UnitTree) (d : Place) (foot : Foot) (new :
   R = (facts vs).refs
 
   hit_cases : (p : Place) → IsHit vs foot p → IsIn foot p ⊎ ((r : Ref) × Contains R r × (r.at ≡ p) × (leads_in foot r.goal ≡ true))
-  hit_cases p c = elim (has_split (λ q. q ≡ p) foot.decls (map (λ r. r.at) (refs_to foot R)) (has_contained (λ q. q ≡ p) (foot.decls ++ map (λ r. r.at) (refs_to foot R)) p c refl)) [
-    | inl a ↦ (let z = contained_has (λ q. q ≡ p) foot.decls a in inl (subst (IsIn foot) z.2 z.1))
-    | inr b ↦ (let z = contained_has (λ (r : Ref). (r.at ≡ p) × (leads_in foot r.goal ≡ true)) R (has_unfiltered (λ r. leads_in foot r.goal) (λ (r : Ref). r.at ≡ p) R (has_unmapped (λ (r : Ref). r.at) (λ q. q ≡ p) (refs_to foot R) b)) in inr (z.0, z.1, z.2.0, z.2.1))
-  ]
+  hit_cases p c = elim (has_split (λ q. q ≡ p) foot.decls (map (λ r. r.at) (refs_to foot R))
+      (has_contained (λ q. q ≡ p) (foot.decls ++ map (λ r. r.at) (refs_to foot R)) p c refl)) [
+        | inl a ↦ (let z = contained_has (λ q. q ≡ p) foot.decls a in inl (subst (IsIn foot) z.2 z.1))
+        | inr b ↦ (let z = contained_has (λ (r : Ref). (r.at ≡ p) × (leads_in foot r.goal ≡ true)) R
+            (has_unfiltered (λ r. leads_in foot r.goal) (λ (r : Ref). r.at ≡ p) R (has_unmapped (λ (r : Ref). r.at) (λ q. q ≡ p) (refs_to foot R) b))
+            in
+            inr (z.0, z.1, z.2.0, z.2.1))
+      ]
 
   not_fixed : (p : Place) → IsHit vs foot p → IsFixedSite (at_place (places vs) p) → ⊥
   not_fixed p c k = elim (hit_cases p c) [
     | inl a ↦ (can.watched.free p a).word k
-    | inr r ↦ (let l = leads foot r.0.goal r.3 in (can.watched.free l.0 l.2).uses r.0 r.1 l.1 (subst (λ q. IsFixedSite (at_place (places vs) q)) (sym r.2) k))
+    | inr r ↦ (let l = leads foot r.0.goal r.3 in
+        (can.watched.free l.0 l.2).uses r.0 r.1 l.1 (subst (λ q. IsFixedSite (at_place (places vs) q)) (sym r.2) k))
   ]
 
   own_hit : IsHit us foot d
   own_hit =
-      let z = contained_has (λ q. q ≡ d) (foot.decls ++ map (λ r. r.at) (refs_to foot (facts us).refs)) (has_left (λ q. q ≡ d) foot.decls (map (λ r. r.at) (refs_to foot (facts us).refs)) (has_contained (λ q. q ≡ d) foot.decls d inside refl)) in
+      let z = contained_has (λ q. q ≡ d) (foot.decls ++ map (λ r. r.at) (refs_to foot (facts us).refs))
+      (has_left (λ q. q ≡ d) foot.decls (map (λ r. r.at) (refs_to foot (facts us).refs)) (has_contained (λ q. q ≡ d) foot.decls d inside refl)) in
       subst (IsHit us foot) z.2 z.1
 
   free : IsFree us d foot new
@@ -200,7 +212,8 @@ module _ (files : FileSet) (us : List UnitTree) (d : Place) (foot : Foot) (new :
   pun = not_true h.binder.0.pun (λ e. free.plain d own_hit (h.binder.0, h.binder.1, e))
 
   pub old_name : IsTrue (is_value_name old)
-  old_name = subst (λ n. IsTrue (is_value_name n)) (sym (ap site_name h.binder.1)) (names_are_value_names files us d h.binder.0 h.files_are h.reads h.binder.1 operator pun)
+  old_name = subst (λ n. IsTrue (is_value_name n)) (sym (ap site_name h.binder.1))
+      (names_are_value_names files us d h.binder.0 h.files_are h.reads h.binder.1 operator pun)
 
   pub own_place : IsPlaced files d
   own_place = placed files us d h.binder.0 h.files_are h.reads h.binder.1 operator pun
@@ -220,29 +233,35 @@ module _ (files : FileSet) (us : List UnitTree) (d : Place) (foot : Foot) (new :
 
   not_grown : IsMet (IsGrown out.entries vs B) → ⊥
   not_grown (refusal.Grown file, k) =
-      let none : position_with are_over k.0 ≡ None = ap (position_with are_over) (undone_is k.0 k.1) ∙ nothing_is_over files.entries files.manifest h.files_are.taken in
+      let none : position_with are_over k.0 ≡ None = ap (position_with are_over) (undone_is k.0 k.1)
+      ∙ nothing_is_over files.entries files.manifest h.files_are.taken in
       let wrong : None ≡ Some file = sym none ∙ k.2 in cc
   not_grown (_, k) = k
 
   no_clash : IsMet (IsClash vs (renamed vs B)) → ⊥
-  no_clash (refusal.Clash first again, k) = none_repeats us h.project first again (subst (λ (z : List UnitTree). IsLeastRepeat (name_of z) (facts z).groups first again) renamed_back k)
+  no_clash (refusal.Clash first again, k) =
+      none_repeats us h.project first again (subst (λ (z : List UnitTree). IsLeastRepeat (name_of z) (facts z).groups first again) renamed_back k)
   no_clash (_, k) = k
 
   facts_back : facts vs ≡ facts (renamed vs B)
   facts_back = same ∙ ap facts (sym renamed_back)
 
   no_capture : IsMet (IsCapture vs (renamed vs B)) → ⊥
-  no_capture (refusal.Capture at was would, k) = none_differ of_ref ref_goal (facts vs).refs (facts (renamed vs B)).refs (ap (λ (f : Facts). f.refs) facts_back) at was would k
+  no_capture (refusal.Capture at was would, k) = none_differ of_ref ref_goal (facts vs).refs (facts (renamed vs B)).refs
+      (ap (λ (f : Facts). f.refs) facts_back) at was would k
   no_capture (_, k) = k
 
   no_mislink : IsMet (IsMislink vs (renamed vs B)) → ⊥
-  no_mislink (refusal.Mislink (Decl item) was would, k) = none_differ of_link link_goal (facts vs).links (facts (renamed vs B)).links (ap (λ (f : Facts). f.links) facts_back) item was would k
+  no_mislink (refusal.Mislink (Decl item) was would, k) = none_differ of_link link_goal (facts vs).links (facts (renamed vs B)).links
+      (ap (λ (f : Facts). f.links) facts_back) item was would k
   no_mislink (_, k) = k
 
   rest_free : IsMet (Rest vs d foot old out.entries) → ⊥
-  rest_free = none_met (IsGrown out.entries vs B) (before (IsClash vs (renamed vs B)) (before (IsCapture vs (renamed vs B)) (before (IsMislink vs (renamed vs B)) no_more))) not_grown
+  rest_free = none_met (IsGrown out.entries vs B)
+      (before (IsClash vs (renamed vs B)) (before (IsCapture vs (renamed vs B)) (before (IsMislink vs (renamed vs B)) no_more))) not_grown
       (none_met (IsClash vs (renamed vs B)) (before (IsCapture vs (renamed vs B)) (before (IsMislink vs (renamed vs B)) no_more)) no_clash
-      (none_met (IsCapture vs (renamed vs B)) (before (IsMislink vs (renamed vs B)) no_more) no_capture (none_met (IsMislink vs (renamed vs B)) no_more no_mislink nothing_more)))
+      (none_met (IsCapture vs (renamed vs B)) (before (IsMislink vs (renamed vs B)) no_more) no_capture
+      (none_met (IsMislink vs (renamed vs B)) no_more no_mislink nothing_more)))
 
   binder_free : IsMet (refusals_of_binder out.entries vs d foot old) → ⊥
   binder_free m = rungs.none_met vs d foot old out.entries free_back rest_free m.0 m.1
@@ -292,7 +311,8 @@ renamings_are_undone files target new done p a source e =
     let there : number_of done.files.entries source ≡ Some d.file = e ∙ ap (λ (q : Place). Some q.file) a.renaming.target in
     let accepted = accepted_back files us d a.foot new h done.files a.renaming.sources a.renaming.manifest source there in
     let back = undoing files us d a.foot new h done.files a.renaming.sources a.renaming.manifest in
-    let at : Accepted done.files (At source done.undo_at.token) (name_of us d) back = subst (λ (q : Place). Accepted done.files (At source q.token) (name_of us d) back) (sym a.renaming.target) accepted in
+    let at : Accepted done.files (At source done.undo_at.token) (name_of us d) back =
+    subst (λ (q : Place). Accepted done.files (At source q.token) (name_of us d) back) (sym a.renaming.target) accepted in
     (back, subst (λ (old : Name). Accepted done.files (At source done.undo_at.token) old back) (sym a.renaming.old_name) at, refl)
 
 pub undos_have_places : UndosHavePlaces

@@ -79,23 +79,28 @@ pub record IsUndoPlace (files : FileSet) (done : Renamed) : Type 0 where
 
 -- Law: a renaming that is accepted rewrites sources, and nothing else
 abbrev pub RenamingsRewrite : Type 0
-RenamingsRewrite = (files : FileSet) (target : Target) (new : Name) (done : Renamed) → IsProject files → Renames files target new (Ok done) → Rewrites files done
+RenamingsRewrite = (files : FileSet) (target : Target) (new : Name) (done : Renamed) → IsProject files → Renames files target new (Ok done)
+    → Rewrites files done
 
 -- Law: it lists the sources that it changed
 abbrev pub ChangesAreListed : Type 0
-ChangesAreListed = (files : FileSet) (target : Target) (new : Name) (done : Renamed) → IsProject files → Renames files target new (Ok done) → ListsChanges done
+ChangesAreListed = (files : FileSet) (target : Target) (new : Name) (done : Renamed) → IsProject files → Renames files target new (Ok done)
+    → ListsChanges done
 
 -- Law: it is valid, and respells the declarations of the footprint and the references to them, and nothing else
 abbrev pub RenamingsAreValid : Type 0
-RenamingsAreValid = (files : FileSet) (target : Target) (new : Name) (done : Renamed) → IsProject files → Renames files target new (Ok done) → IsValidFor files done
+RenamingsAreValid = (files : FileSet) (target : Target) (new : Name) (done : Renamed) → IsProject files → Renames files target new (Ok done)
+    → IsValidFor files done
 
 -- Law: it keeps the facts
 abbrev pub RenamingsKeepFacts : Type 0
-RenamingsKeepFacts = (files : FileSet) (target : Target) (new : Name) (done : Renamed) → IsProject files → Renames files target new (Ok done) → KeepsFacts files done.files
+RenamingsKeepFacts = (files : FileSet) (target : Target) (new : Name) (done : Renamed) → IsProject files → Renames files target new (Ok done)
+    → KeepsFacts files done.files
 
 -- Law: and the bounded runs
 abbrev pub RenamingsKeepRuns : Type 0
-RenamingsKeepRuns = (files : FileSet) (target : Target) (new : Name) (done : Renamed) → IsProject files → Renames files target new (Ok done) → KeepsRuns files done.files
+RenamingsKeepRuns = (files : FileSet) (target : Target) (new : Name) (done : Renamed) → IsProject files → Renames files target new (Ok done)
+    → KeepsRuns files done.files
 
 -- Law: runs that are kept from files to others, and from these to further ones, are kept from the first to the last
 abbrev pub KeptRunsGoOn : Type 0
@@ -103,7 +108,8 @@ KeptRunsGoOn = (first middle last : FileSet) → KeepsRuns first middle → Keep
 
 -- Law: and the declarations that it changes are a least footprint
 abbrev pub FootprintsAreLeast : Type 0
-FootprintsAreLeast = (files : FileSet) (target : Target) (new : Name) (done : Renamed) → IsProject files → Renames files target new (Ok done) → IsLeastFor files done.foot.decls
+FootprintsAreLeast = (files : FileSet) (target : Target) (new : Name) (done : Renamed) → IsProject files → Renames files target new (Ok done)
+    → IsLeastFor files done.foot.decls
 
 -- Law: and it is undone. If a source's name gives the target's file, the renaming back of the target's place is
 -- accepted, and gives the old files
@@ -115,4 +121,5 @@ RenamingsAreUndone =
 
 -- Law: there is such a name
 abbrev pub UndosHavePlaces : Type 0
-UndosHavePlaces = (files : FileSet) (target : Target) (new : Name) (done : Renamed) → IsProject files → Renames files target new (Ok done) → IsUndoPlace files done
+UndosHavePlaces = (files : FileSet) (target : Target) (new : Name) (done : Renamed) → IsProject files → Renames files target new (Ok done)
+    → IsUndoPlace files done

@@ -37,7 +37,8 @@ use Rattle.ml_syntax.specs.RespelledFile.{new_words}
 use Rattle.binding_model.specs.Renaming.{in_file, name_of}
 use Rattle.rename_model.specs.Foot.{IsHit}
 use Rattle.rename_model.specs.Bytes.{position_with}
-use Rattle.rename_model.specs.Renaming.{watch_of, renamed, renamed_words, IsPunAt, IsBlurredAt, IsOperator, IsBadName, IsSameName, IsOutside, IsPun, IsBlurred, IsGrown, IsClash, IsCapture, IsMislink, HasNoTarget, refusals_of_binder, ForTarget}
+use Rattle.rename_model.specs.Renaming.{watch_of, renamed, renamed_words, IsPunAt, IsBlurredAt, IsOperator, IsBadName, IsSameName, IsOutside, IsPun}
+use Rattle.rename_model.specs.Renaming.{IsBlurred, IsGrown, IsClash, IsCapture, IsMislink, HasNoTarget, refusals_of_binder, ForTarget}
 use Rattle.rename_model.specs.Laws.{ProjectsAreRefusedOnce, TargetsHaveOneGoal, RenamingsAreRefusedOnce}
 
 -- ---- ladders
@@ -64,7 +65,8 @@ upto_both p q (inr a) (inr b) = absurd (not_both p q a b)
 pub one_least : (P : Place → Type 0) (p q : Place) → IsLeast P p → IsLeast P q → p ≡ q
 one_least P p q h k = upto_both p q (h.least q k.there) (k.least p h.there)
 
-one_repeat : (names : NamesOf) (groups : List (List Place)) (f a g b : Place) → IsLeastRepeat names groups f a → IsLeastRepeat names groups g b → (f ≡ g) × (a ≡ b)
+one_repeat : (names : NamesOf) (groups : List (List Place)) (f a g b : Place) → IsLeastRepeat names groups f a → IsLeastRepeat names groups g b
+    → (f ≡ g) × (a ≡ b)
 one_repeat names groups f a g b h k = by (h.least g b k.repeats) (k.least f a h.repeats) where
   by : IsBefore a b ⊎ ((a ≡ b) × Upto f g) → IsBefore b a ⊎ ((b ≡ a) × Upto g f) → (f ≡ g) × (a ≡ b)
   by (inl x) (inl y) = absurd (not_both a b x y)
@@ -76,7 +78,8 @@ module _ {A : Type 0} (make : Place → Goal → A) (keeps : (p q : Place) (g h 
   goal_is : (xs : List A) (m n : ℕ) (p q : Place) (g h : Goal) → m ≡ n → slice_get xs m ≡ Some (make p g) → slice_get xs n ≡ Some (make q h) → g ≡ h
   goal_is xs m n p q g h e i j = keeps p q g h (some_is (make p g) (make q h) (sym i ∙ (ap (slice_get xs) e ∙ j)))
 
-  one_differing : (p q : Place) (w v x y : Goal) → IsFirstDiffering make old new p w v → IsFirstDiffering make old new q x y → (p ≡ q) × (w ≡ x) × (v ≡ y)
+  one_differing : (p q : Place) (w v x y : Goal) → IsFirstDiffering make old new p w v → IsFirstDiffering make old new q x y
+      → (p ≡ q) × (w ≡ x) × (v ≡ y)
   one_differing p q w v x y h k = by (h.least k.number q x y k.differs) (k.least h.number p w v h.differs) where
     by : IsBefore p q ⊎ ((p ≡ q) × (h.number ≤ k.number)) → IsBefore q p ⊎ ((q ≡ p) × (k.number ≤ h.number)) → (p ≡ q) × (w ≡ x) × (v ≡ y)
     by (inl a) (inl b) = absurd (not_both p q a b)
@@ -85,8 +88,12 @@ module _ {A : Type 0} (make : Place → Goal → A) (keeps : (p q : Place) (g h 
     by (inr a) (inr b) =
         let le : h.number ≤ k.number = a.1 in
         let ge : k.number ≤ h.number = b.1 in
-        let e : h.number ≡ k.number = omega (arith, le, ge) in
-        (a.0, goal_is old h.number k.number p q w x e h.differs.old_one k.differs.old_one, goal_is new h.number k.number p q v y e h.differs.new_one k.differs.new_one)
+        let e : h.number ≡ k.number = omega (arith, le, ge) in (
+          a.0,
+          goal_is old h.number k.number p q w x e h.differs.old_one k.differs.old_one,
+          goal_is new h.number k.number p q v y e h.differs.new_one
+              k.differs.new_one,
+        )
 
 ref_goal : (p q : Place) (g h : Goal) → of_ref p g ≡ of_ref q h → g ≡ h
 ref_goal p q g h e = ap (λ (r : Ref). r.goal) e
@@ -103,7 +110,8 @@ three f a a' b b' c c' p q r = ap (λ x. f x b c) p ∙ (ap (λ x. f a' x c) q �
 -- ---- the refusals of a project
 
 one_duplicate : (us : List UnitTree) → GivesOne (IsDuplicate us)
-one_duplicate us (refusal.Duplicate f a) (refusal.Duplicate g b) h k = let e = one_repeat (name_of us) (facts us).groups f a g b h k in two refusal.Duplicate f g a b e.0 e.1
+one_duplicate us (refusal.Duplicate f a) (refusal.Duplicate g b) h k = let e = one_repeat (name_of us) (facts us).groups f a g b h k in
+    two refusal.Duplicate f g a b e.0 e.1
 one_duplicate us (refusal.Duplicate f a) _ h k = absurd k
 one_duplicate us _ _ h k = absurd h
 
@@ -130,12 +138,15 @@ one_spot files name spot p q h k =
     let f : p.file ≡ q.file = both_some (number_of files name) p.file q.file h.number k.number in
     let s : h.source ≡ k.source = some_is h.source k.source (sym h.here ∙ (ap (slice_get files) f ∙ k.here)) in
     let x : h.lexemes ≡ k.lexemes = one_lexed h.cut (subst (λ (z : SourceFile). Lexed z.bytes k.lexemes) (sym s) k.cut) in
-    let t : p.token ≡ q.token = some_is p.token q.token (sym h.token ∙ (two (λ (z : SourceFile) (xs : List Lexeme). token_over spot z.bytes xs) h.source k.source h.lexemes k.lexemes s x ∙ k.token)) in
+    let t : p.token ≡ q.token =
+    some_is p.token q.token (sym h.token
+    ∙ (two (λ (z : SourceFile) (xs : List Lexeme). token_over spot z.bytes xs) h.source k.source h.lexemes k.lexemes s x ∙ k.token)) in
     two (λ m n. record { file = m; token = n }) p.file q.file p.token q.token f t
 
 pub one_name : (files : FileSet) (us : List UnitTree) (target : Target) → GivesOne (Names files us target)
 one_name files us (At file token) p q h k =
-    two (λ m n. record { file = m; token = n }) p.file q.file p.token q.token (both_some (number_of files.entries file) p.file q.file h.0 k.0) (sym h.1 ∙ k.1)
+    two (λ m n. record { file = m; token = n }) p.file q.file p.token q.token (both_some (number_of files.entries file) p.file q.file h.0 k.0)
+    (sym h.1 ∙ k.1)
 one_name files us (Spot file line column) p q h k = one_spot files.entries file (line, column) p q h k
 one_name files us (Dotted path) p q h k = both_some (dotted (after_units none us) path) p q h k
 
@@ -185,18 +196,21 @@ one_pun us foot (refusal.Pun p) _ h k = absurd k
 one_pun us foot _ _ h k = absurd h
 
 one_blurred : (us : List UnitTree) (foot : Foot) → GivesOne (IsBlurred us foot)
-one_blurred us foot (refusal.Blurred p) (refusal.Blurred q) h k = ap (λ (x : Place). refusal.Blurred x) (one_least (IsBlurredAt (facts us) foot) p q h k)
+one_blurred us foot (refusal.Blurred p) (refusal.Blurred q) h k =
+    ap (λ (x : Place). refusal.Blurred x) (one_least (IsBlurredAt (facts us) foot) p q h k)
 one_blurred us foot (refusal.Blurred p) _ h k = absurd k
 one_blurred us foot _ _ h k = absurd h
 
 one_grown : (sources : List SourceFile) (us : List UnitTree) (w : Watch) → GivesOne (IsGrown sources us w)
 one_grown sources us w (refusal.Grown m) (refusal.Grown n) h k =
-    ap (λ (x : ℕ). refusal.Grown x) (some_is m n (sym h.2 ∙ (ap (position_with are_over) (one_sources (renamed_words us w) 0 sources h.0 k.0 h.1 k.1) ∙ k.2)))
+    ap (λ (x : ℕ). refusal.Grown x)
+    (some_is m n (sym h.2 ∙ (ap (position_with are_over) (one_sources (renamed_words us w) 0 sources h.0 k.0 h.1 k.1) ∙ k.2)))
 one_grown sources us w (refusal.Grown m) _ h k = absurd k
 one_grown sources us w _ _ h k = absurd h
 
 one_clash : (us vs : List UnitTree) → GivesOne (IsClash us vs)
-one_clash us vs (refusal.Clash f a) (refusal.Clash g b) h k = let e = one_repeat (name_of vs) (facts vs).groups f a g b h k in two refusal.Clash f g a b e.0 e.1
+one_clash us vs (refusal.Clash f a) (refusal.Clash g b) h k = let e = one_repeat (name_of vs) (facts vs).groups f a g b h k in
+    two refusal.Clash f g a b e.0 e.1
 one_clash us vs (refusal.Clash f a) _ h k = absurd k
 one_clash us vs _ _ h k = absurd h
 
@@ -208,7 +222,8 @@ one_capture us vs _ _ h k = absurd h
 
 one_mislink : (us vs : List UnitTree) → GivesOne (IsMislink us vs)
 one_mislink us vs (refusal.Mislink (Decl p) w v) (refusal.Mislink (Decl q) x y) h k =
-    let e = one_differing of_link link_goal (facts us).links (facts vs).links p q w v x y h k in three (λ (a : Place) (b c : Goal). refusal.Mislink (Decl a) b c) p q w x v y e.0 e.1 e.2
+    let e = one_differing of_link link_goal (facts us).links (facts vs).links p q w v x y h k in
+    three (λ (a : Place) (b c : Goal). refusal.Mislink (Decl a) b c) p q w x v y e.0 e.1 e.2
 one_mislink us vs (refusal.Mislink (Decl p) w v) (refusal.Mislink _ x y) h k = absurd k
 one_mislink us vs (refusal.Mislink (Decl p) w v) _ h k = absurd k
 one_mislink us vs (refusal.Mislink _ w v) _ h k = absurd h
@@ -219,7 +234,8 @@ one_no_target files us target refusal.NoTarget refusal.NoTarget h k = refl
 one_no_target files us target refusal.NoTarget _ h k = absurd k
 one_no_target files us target _ _ h k = absurd h
 
-pub one_binder : (sources : List SourceFile) (us : List UnitTree) (d : Place) (foot : Foot) (new : Name) → GivesOne (refusals_of_binder sources us d foot new)
+pub one_binder : (sources : List SourceFile) (us : List UnitTree) (d : Place) (foot : Foot) (new : Name)
+    → GivesOne (refusals_of_binder sources us d foot new)
 one_binder sources us d foot new =
     let w = watch_of us d foot new in
     let vs = renamed us w in
@@ -238,7 +254,8 @@ one_binder sources us d foot new =
     rung : (c : Refusal → Type 0) {d : Refusal → Type 0} → GivesOne c → GivesOne d → GivesOne (before c d)
     rung c {d} oc od = one_before c d oc od
 
-one_for_target : (files : FileSet) (us : List UnitTree) (target : Target) (c : Place → Foot → Refusal → Type 0) → ((d : Place) (foot : Foot) → GivesOne (c d foot)) → GivesOne (ForTarget files us target c)
+one_for_target : (files : FileSet) (us : List UnitTree) (target : Target) (c : Place → Foot → Refusal → Type 0)
+    → ((d : Place) (foot : Foot) → GivesOne (c d foot)) → GivesOne (ForTarget files us target c)
 one_for_target files us target c one a b h k =
     let e : h.binder ≡ k.binder = targets_have_one_goal files us target h.binder k.binder h.aims k.aims in
     let foot_at : IsFoot (facts us).links h.binder k.foot = subst (λ d. IsFoot (facts us).links d k.foot) (sym e) k.is_foot in

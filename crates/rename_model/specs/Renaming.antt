@@ -91,7 +91,8 @@ IsBlurred us foot _ = ⊥
 
 -- 17: a new source is over the limit on bytes, or all new sources up to it are; the first one
 abbrev pub IsGrown : List SourceFile → List UnitTree → Watch → Refusal → Type 0
-IsGrown sources us w (refusal.Grown file) = (news : List SourceFile) × AreRespelled (in_file (renamed_words us w)) 0 sources news × (position_with are_over news ≡ Some file)
+IsGrown sources us w (refusal.Grown file) = (news : List SourceFile) × AreRespelled (in_file (renamed_words us w)) 0 sources news
+    × (position_with are_over news ≡ Some file)
 IsGrown sources us w _ = ⊥
 
 -- 18: a group of the new project has a name twice; the least place that repeats one, and the least place of that name

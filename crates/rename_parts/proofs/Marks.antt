@@ -1,5 +1,6 @@
 -- The binders of a project, file by file.
-use Rattle.std.proofs.Common.{◌≡◌, ◌≢◌, ℕ, zero, suc, ◌<◌, ◌==◌, ◌&&◌, List, [], ◌∷◌, ◌++◌, Bool, true, false, true≢false, cond, Option, Some, None, option_map, map, length, get_or, refl, ap, sym, ◌∙◌, arith, append_assoc}
+use Rattle.std.proofs.Common.{◌≡◌, ◌≢◌, ℕ, zero, suc, ◌<◌, ◌==◌, ◌&&◌, List, [], ◌∷◌, ◌++◌, Bool, true, false, true≢false, cond, Option, Some, None}
+use Rattle.std.proofs.Common.{option_map, map, length, get_or, refl, ap, sym, ◌∙◌, arith, append_assoc}
 use Rattle.std.specs.List.{filter}
 use Rattle.rotor_base.specs.declared.place.Place.{Place}
 use Rattle.rotor_base.specs.Place.{same_place}
@@ -36,40 +37,47 @@ else_assoc None b c = refl
 
 at_append : (xs ys : List (Place × Site)) (p : Place) → at_place (xs ++ ys) p ≡ or_else (at_place xs p) (at_place ys p)
 at_append [] ys p = refl
-at_append (e ∷ xs) ys p = ap (or_else (some_if (same_place e.0 p) e.1)) (at_append xs ys p) ∙ sym (else_assoc (some_if (same_place e.0 p) e.1) (at_place xs p) (at_place ys p))
+at_append (e ∷ xs) ys p = ap (or_else (some_if (same_place e.0 p) e.1)) (at_append xs ys p)
+    ∙ sym (else_assoc (some_if (same_place e.0 p) e.1) (at_place xs p) (at_place ys p))
 
 over_else : (a b : Option Site) → over mark (or_else a b) ≡ or_else (over mark a) (over mark b)
 over_else (Some x) b = refl
 over_else None b = refl
 
 pub mark_append : (xs ys : List (Place × Site)) (p : Place) → mark_at (xs ++ ys) p ≡ or_else (mark_at xs p) (mark_at ys p)
-mark_append xs ys p = ap (λ l. over mark (at_place l p)) (binding_append xs ys) ∙ (ap (over mark) (at_append (binding xs) (binding ys) p) ∙ over_else (at_place (binding xs) p) (at_place (binding ys) p))
+mark_append xs ys p = ap (λ l. over mark (at_place l p)) (binding_append xs ys)
+    ∙ (ap (over mark) (at_append (binding xs) (binding ys) p) ∙ over_else (at_place (binding xs) p) (at_place (binding ys) p))
 
 -- a unit before others
-pub unit_mark : (u : UnitTree) (us : List UnitTree) (p : Place) (a b o : Option Mark) → a ≡ mark_at (file_places u.body) p → b ≡ mark_at (file_places u.face) p → mark_at (places (u ∷ us)) p ≡ o
+pub unit_mark : (u : UnitTree) (us : List UnitTree) (p : Place) (a b o : Option Mark) → a ≡ mark_at (file_places u.body) p
+    → b ≡ mark_at (file_places u.face) p → mark_at (places (u ∷ us)) p ≡ o
     → or_else a (or_else b (mark_at (places us) p)) ≡ o
 unit_mark u us p a b o e f h =
     ap (λ x. or_else x (or_else b (mark_at (places us) p))) e
     ∙ (ap (λ x. or_else (mark_at (file_places u.body) p) (or_else x (mark_at (places us) p))) f
-    ∙ (ap (or_else (mark_at (file_places u.body) p)) (sym (mark_append (file_places u.face) (places us) p)) ∙ (sym (mark_append (file_places u.body) (file_places u.face ++ places us) p) ∙ h)))
+    ∙ (ap (or_else (mark_at (file_places u.body) p)) (sym (mark_append (file_places u.face) (places us) p))
+    ∙ (sym (mark_append (file_places u.body) (file_places u.face ++ places us) p) ∙ h)))
 
 abbrev pub spots_of : List (Place × Site) → List Place
 spots_of ps = map (λ e. e.0) (binding ps)
 
-map_append : (xs ys : List (Place × Site)) → map (λ (e : Place × Site). e.0) (xs ++ ys) ≡ map (λ (e : Place × Site). e.0) xs ++ map (λ (e : Place × Site). e.0) ys
+map_append : (xs ys : List (Place × Site)) → map (λ (e : Place × Site). e.0) (xs ++ ys) ≡ map (λ (e : Place × Site). e.0) xs ++ map
+    (λ (e : Place × Site). e.0) ys
 map_append [] ys = refl
 map_append (e ∷ xs) ys = ap (λ l. e.0 ∷ l) (map_append xs ys)
 
 pub spots_append : (xs ys : List (Place × Site)) → spots_of (xs ++ ys) ≡ spots_of xs ++ spots_of ys
 spots_append xs ys = ap (map (λ (e : Place × Site). e.0)) (binding_append xs ys) ∙ map_append (binding xs) (binding ys)
 
-pub unit_spots : (u : UnitTree) (us : List UnitTree) (old mid new all : List Place) → mid ≡ old ++ spots_of (file_places u.body) → new ≡ mid ++ spots_of (file_places u.face)
+pub unit_spots : (u : UnitTree) (us : List UnitTree) (old mid new all : List Place) → mid ≡ old ++ spots_of (file_places u.body)
+    → new ≡ mid ++ spots_of (file_places u.face)
     → old ++ spots_of (places (u ∷ us)) ≡ all → new ++ spots_of (places us) ≡ all
 unit_spots u us old mid new all e f h =
     let B = spots_of (file_places u.body) in
     let F = spots_of (file_places u.face) in
     let R = spots_of (places us) in
-    let whole : spots_of (places (u ∷ us)) ≡ B ++ (F ++ R) = spots_append (file_places u.body) (file_places u.face ++ places us) ∙ ap (λ l. B ++ l) (spots_append (file_places u.face) (places us)) in
+    let whole : spots_of (places (u ∷ us)) ≡ B ++ (F ++ R) = spots_append (file_places u.body) (file_places u.face ++ places us)
+    ∙ ap (λ l. B ++ l) (spots_append (file_places u.face) (places us)) in
     ap (λ l. l ++ R) (f ∙ ap (λ l. l ++ F) e)
     ∙ (append_assoc (old ++ B) F R ∙ (append_assoc old B (F ++ R) ∙ (ap (λ l. old ++ l) (sym whole) ∙ h)))
 
@@ -93,7 +101,8 @@ placed_spots : (f : ℕ) (xs : List Site) → map (λ (e : Place × Site). e.0) 
 placed_spots f [] = refl
 placed_spots f (x ∷ xs) = ap (λ l. here f x.at ∷ l) (placed_spots f xs)
 
-pub file_spots : (t : FileTree) (f : ℕ) (marks : List Mark) → f ≡ number_of t → marks ≡ map mark (binder_sites t) → map (λ (m : Mark). here f m.token) marks ≡ spots_of (file_places (Some t))
+pub file_spots : (t : FileTree) (f : ℕ) (marks : List Mark) → f ≡ number_of t → marks ≡ map mark (binder_sites t)
+    → map (λ (m : Mark). here f m.token) marks ≡ spots_of (file_places (Some t))
 file_spots t f marks e m =
     ap (λ n. map (λ (x : Mark). here n x.token) marks) e
     ∙ (ap (map (λ (x : Mark). here (number_of t) x.token)) m
@@ -125,12 +134,15 @@ moved_on m ms (Some i) = refl
 same_file : (f n : ℕ) → f ≡ n → (f == n) ≡ true
 same_file f n e = grind arith
 
-picked_case : (f : ℕ) (p : Place) (x : Site) (xs : List Site) (b : Bool) → over mark (at_place (placed_sites f xs) p) ≡ picked (map mark xs) (first_at (λ m. m.token == p.token) (map mark xs))
-    → over mark (or_else (some_if b x) (at_place (placed_sites f xs) p)) ≡ picked (mark x ∷ map mark xs) (cond b (Some 0) (option_map suc (first_at (λ m. m.token == p.token) (map mark xs))))
+picked_case : (f : ℕ) (p : Place) (x : Site) (xs : List Site) (b : Bool) → over mark (at_place (placed_sites f xs) p) ≡ picked (map mark xs)
+    (first_at (λ m. m.token == p.token) (map mark xs))
+    → over mark (or_else (some_if b x) (at_place (placed_sites f xs) p)) ≡ picked (mark x ∷ map mark xs)
+    (cond b (Some 0) (option_map suc (first_at (λ m. m.token == p.token) (map mark xs))))
 picked_case f p x xs true h = refl
 picked_case f p x xs false h = h ∙ sym (moved_on (mark x) (map mark xs) (first_at (λ m. m.token == p.token) (map mark xs)))
 
-mark_picked : (f : ℕ) (p : Place) (xs : List Site) → (f == p.file) ≡ true → over mark (at_place (placed_sites f xs) p) ≡ picked (map mark xs) (first_at (λ m. m.token == p.token) (map mark xs))
+mark_picked : (f : ℕ) (p : Place) (xs : List Site) → (f == p.file) ≡ true → over mark (at_place (placed_sites f xs) p) ≡ picked (map mark xs)
+    (first_at (λ m. m.token == p.token) (map mark xs))
 mark_picked f p [] e = refl
 mark_picked f p (x ∷ xs) e =
     ap (λ b. over mark (or_else (some_if (b && (x.at == p.token)) x) (at_place (placed_sites f xs) p))) e
@@ -140,12 +152,15 @@ pub found_mark : (t : FileTree) (f : ℕ) (p : Place) (marks : List Mark) → f 
     → mark_at (file_places (Some t)) p ≡ picked marks (first_at (λ m. m.token == p.token) marks)
 found_mark t f p marks e g m =
     ap (λ l. over mark (at_place l p)) (file_binding t)
-    ∙ (mark_picked (number_of t) p (binder_sites t) (same_file (number_of t) p.file (sym e ∙ g)) ∙ ap (λ ms. picked ms (first_at (λ x. x.token == p.token) ms)) (sym m))
+    ∙ (mark_picked (number_of t) p (binder_sites t) (same_file (number_of t) p.file (sym e ∙ g))
+    ∙ ap (λ ms. picked ms (first_at (λ x. x.token == p.token) ms)) (sym m))
 
 -- ---- in a sound project
 
-found_case : (e : Place × Site) (p : Place) (x : Site) (rest : List (Place × Site)) (b c : Bool) → e.1.binds ≡ c → or_else (some_if b e.1) (at_place rest p) ≡ Some x → x.binds ≡ true
-    → (at_place rest p ≡ Some x → at_place (binding rest) p ≡ Some x) → same_place e.0 p ≡ b → at_place (cond c (e ∷ binding rest) (binding rest)) p ≡ Some x
+found_case : (e : Place × Site) (p : Place) (x : Site) (rest : List (Place × Site)) (b c : Bool) → e.1.binds ≡ c
+    → or_else (some_if b e.1) (at_place rest p) ≡ Some x → x.binds ≡ true
+    → (at_place rest p ≡ Some x → at_place (binding rest) p ≡ Some x) → same_place e.0 p ≡ b
+    → at_place (cond c (e ∷ binding rest) (binding rest)) p ≡ Some x
 found_case e p x rest true true k h w f s = ap (λ b. or_else (some_if b e.1) (at_place (binding rest) p)) s ∙ h
 found_case e p x rest true false k h w f s = let z : e.1 ≡ x = cc in absurd (true≢false (sym w ∙ (ap (λ (y : Site). y.binds) (sym z) ∙ k)))
 found_case e p x rest false true k h w f s = ap (λ b. or_else (some_if b e.1) (at_place (binding rest) p)) s ∙ f h
@@ -155,7 +170,8 @@ found_binding : (L : List (Place × Site)) (p : Place) (x : Site) → at_place L
 found_binding [] p x h w = h
 found_binding (e ∷ L) p x h w = found_case e p x L (same_place e.0 p) e.1.binds refl h w (λ k. found_binding L p x k w) refl
 
-binding_of : (P : Place × Site → Type 0) (e : Place × Site) (ps : List (Place × Site)) (b : Bool) → e.1.binds ≡ b → P e → Each (λ z. P z × (z.1.binds ≡ true)) ps
+binding_of : (P : Place × Site → Type 0) (e : Place × Site) (ps : List (Place × Site)) (b : Bool) → e.1.binds ≡ b → P e
+    → Each (λ z. P z × (z.1.binds ≡ true)) ps
     → Each (λ z. P z × (z.1.binds ≡ true)) (cond b (e ∷ ps) ps)
 binding_of P e ps true k h r = ((h, k), r)
 binding_of P e ps false k h r = r
@@ -181,7 +197,8 @@ mark_is us s p None e = λ b.
 mark_is us s p (Some m) e =
     let x = some_mark (at_place (binding (places us)) p) m e in
     let L = places us in
-    let k = place_in (λ z. (at_place L z.0 ≡ Some z.1) × (z.1.binds ≡ true)) (binding L) p x.0 (each_binding (λ z. at_place L z.0 ≡ Some z.1) L (found_all L (apart_of us s))) x.1 in
+    let k = place_in (λ z. (at_place L z.0 ≡ Some z.1) × (z.1.binds ≡ true)) (binding L) p x.0
+    (each_binding (λ z. at_place L z.0 ≡ Some z.1) L (found_all L (apart_of us s))) x.1 in
     (x.0, k.0, k.1, x.2)
 
 -- the item at a position does not depend on a default

@@ -39,7 +39,8 @@ abbrev pub Gathers : List Place → ℕ → BTreeSet Place → Type 0
 Gathers ds i set = (p : Place) → (contains place_cmp set p || list_any (same_place p) (drop i ds)) ≡ list_any (same_place p) ds
 
 pub gathers_more : (ds : List Place) (i : ℕ) (d : Place) (old new : BTreeSet Place) → i < length ds
-    → ((q : Place) → contains place_cmp new q ≡ cond (is_at (place_cmp (get_or ds i d)) q) true (contains place_cmp old q)) → Gathers ds i old → Gathers ds (i + 1) new
+    → ((q : Place) → contains place_cmp new q ≡ cond (is_at (place_cmp (get_or ds i d)) q) true (contains place_cmp old q)) → Gathers ds i old
+    → Gathers ds (i + 1) new
 gathers_more ds i d old new w put h p =
     let x = get_or ds i d in
     let rest = list_any (same_place p) (drop (i + 1) ds) in

@@ -18,7 +18,9 @@ hit_of e = record { place = e.0; pun = e.1.pun; operator = e.1.operator }
 
 -- the places of a file that are in a set: its binders, and then its uses
 abbrev pub hits_in : BTreeSet Place → List (Place × Site) → List Hit
-hits_in set ps = map hit_of (filter (λ e. contains place_cmp set e.0) (filter (λ e. e.1.binds) ps) ++ filter (λ e. contains place_cmp set e.0) (filter (λ e. not e.1.binds) ps))
+hits_in set ps = map hit_of
+    (filter (λ e. contains place_cmp set e.0) (filter (λ e. e.1.binds) ps) ++ filter (λ e. contains place_cmp set e.0)
+    (filter (λ e. not e.1.binds) ps))
 
 -- of all files
 abbrev pub all_hits : BTreeSet Place → List UnitTree → List Hit
@@ -32,4 +34,5 @@ is_lower _ = false
 
 abbrev pub hit_words : BTreeSet Place → ℕ → List ℕ → ℕ → List Lexeme → List (List ℕ)
 hit_words set file new n [] = []
-hit_words set file new n (x ∷ xs) = (if is_lower x.class && contains place_cmp set (here file n) then new else x.bytes) ∷ hit_words set file new (suc n) xs
+hit_words set file new n (x ∷ xs) = (if is_lower x.class && contains place_cmp set (here file n) then new else x.bytes) ∷ hit_words set file new
+    (suc n) xs

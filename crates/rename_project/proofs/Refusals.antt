@@ -30,6 +30,7 @@ pub duplicate_free : (us : List UnitTree) → ((f a : Place) → Repeats (name_o
 duplicate_free us none (refusal.Duplicate f a) h = none f a h.repeats
 duplicate_free us none _ h = h
 
-pub unmatched_is : (us : List UnitTree) (e : Refusal) → IsFreeOf (IsDuplicate us) → heavy us ≡ None → (item : Place) × (unmatched us ≡ Some item) × (e ≡ refusal.Unmatched item)
+pub unmatched_is : (us : List UnitTree) (e : Refusal) → IsFreeOf (IsDuplicate us) → heavy us ≡ None → (item : Place) × (unmatched us ≡ Some item)
+    × (e ≡ refusal.Unmatched item)
     → IsRefusedFor (refusals_of_project us) e
 unmatched_is us e d h m = subst (IsRefusedFor (refusals_of_project us)) (sym m.2) (inl (inr (d, inr ((λ met. heavy_free us h met.0 met.1), inl m.1))))

@@ -63,9 +63,11 @@ text_same w w' class.Mark text h = h text
 texts_same : (v v' : Spelling) → ((at : ℕ) (x : Name) → v at x ≡ v' at x) → (at : ℕ) (xs : List Lexeme) → new_texts v at xs ≡ new_texts v' at xs
 texts_same v v' h at [] = refl
 texts_same v v' h at (x ∷ xs) =
-    ap (λ t. t ∷ new_texts v (suc at) xs) (text_same (v at) (v' at) x.class x.bytes (h at)) ∙ ap (λ l. new_text (v' at) x.class x.bytes ∷ l) (texts_same v v' h (suc at) xs)
+    ap (λ t. t ∷ new_texts v (suc at) xs) (text_same (v at) (v' at) x.class x.bytes (h at))
+    ∙ ap (λ l. new_text (v' at) x.class x.bytes ∷ l) (texts_same v v' h (suc at) xs)
 
-pub bytes_same : (w w' : Words) → ((p : Place) (x : Name) → w p x ≡ w' p x) → (n : ℕ) (olds : List SourceFile) (news : List (List ℕ)) → AreRespelledBytes w n olds news → AreRespelledBytes w' n olds news
+pub bytes_same : (w w' : Words) → ((p : Place) (x : Name) → w p x ≡ w' p x) → (n : ℕ) (olds : List SourceFile) (news : List (List ℕ))
+    → AreRespelledBytes w n olds news → AreRespelledBytes w' n olds news
 bytes_same w w' h n [] [] k = k
 bytes_same w w' h n [] (new ∷ news) k = k
 bytes_same w w' h n (old ∷ olds) [] k = k
@@ -73,7 +75,8 @@ bytes_same w w' h n (old ∷ olds) (new ∷ news) k = (
   record {
     lexemes = k.0.lexemes;
     cut = k.0.cut;
-    bytes = k.0.bytes ∙ ap (respelled old.bytes k.0.lexemes) (texts_same (in_file w n) (in_file w' n) (λ at x. h (record { file = n; token = at }) x) 1 k.0.lexemes);
+    bytes = k.0.bytes ∙ ap (respelled old.bytes k.0.lexemes)
+        (texts_same (in_file w n) (in_file w' n) (λ at x. h (record { file = n; token = at }) x) 1 k.0.lexemes);
   },
   bytes_same w w' h (suc n) olds news k.1,
 )
@@ -83,7 +86,8 @@ bytes_same w w' h n (old ∷ olds) (new ∷ news) k = (
 filter_case : (e : Place × Name) (a b : Bool) (xs ys : Renaming) → a ≡ b → xs ≡ ys → cond a (e ∷ xs) xs ≡ cond b (e ∷ ys) ys
 filter_case e a b xs ys h k = ap (λ t. cond t (e ∷ xs) xs) h ∙ ap (λ l. cond b (e ∷ l) l) k
 
-pub changed_is : (us : List UnitTree) → IsSound us → (table : BTreeMap Place (List ℕ)) → IsTableOf us table → (r : Renaming) → Each (λ e. IsBinder us e.0) r → changed_from (named table) r ≡ changed us r
+pub changed_is : (us : List UnitTree) → IsSound us → (table : BTreeMap Place (List ℕ)) → IsTableOf us table → (r : Renaming)
+    → Each (λ e. IsBinder us e.0) r → changed_from (named table) r ≡ changed us r
 changed_is us sound table t [] h = refl
 changed_is us sound table t (e ∷ r) h =
     filter_case e _ _ (changed_from (named table) r) (changed us r)

@@ -1,5 +1,6 @@
 -- A label and its word.
-use Rattle.std.proofs.Common.{◌≡◌, ℕ, ◌-◌, ◌≤◌, List, [], ◌∷◌, ◌++◌, Bool, true, false, cond, length, take, drop, Option, Some, None, refl, ap, sym, ◌∙◌, arith}
+use Rattle.std.proofs.Common.{◌≡◌, ℕ, ◌-◌, ◌≤◌, List, [], ◌∷◌, ◌++◌, Bool, true, false, cond, length, take, drop, Option, Some, None, refl, ap, sym}
+use Rattle.std.proofs.Common.{◌∙◌, arith}
 use Rattle.std.proofs.lemmas.List.{take-append-drop, length-take-le, drop_all, append-nil}
 use Rattle.rotor_base.specs.declared.token.Class.{Class}
 use Rattle.rotor_base.specs.declared.token.Class.TheVariants as class
@@ -19,7 +20,8 @@ front_whole : (text : List ℕ) → without_colon text ++ drop (length (without_
 front_whole text = front_case text _
 
 short_case : (text : List ℕ) (b : Bool) → length (cond b (take (length text - 1) text) text) ≤ length text
-short_case text true = let e : length (take (length text - 1) text) ≡ length text - 1 = length-take-le (length text - 1) text (omega arith) in omega (arith, e)
+short_case text true = let e : length (take (length text - 1) text) ≡ length text - 1 = length-take-le (length text - 1) text (omega arith) in
+    omega (arith, e)
 short_case text false = omega arith
 
 pub word_within : (c : ℕ) (text : List ℕ) → length (label_name (c ∷ text)) ≤ length text

@@ -15,7 +15,8 @@ abbrev pub view : Vec Token → List Lexeme
 view list = view_tokens list.items
 
 -- the tokens of a source cut it
-pub cut_of : (ss : List SourceFile) (ls : List (Vec Token)) (n : ℕ) (s : SourceFile) (t : Vec Token) (bytes : List ℕ) (ts : List Token) → AreCut ss (map view ls) → n < length ss
+pub cut_of : (ss : List SourceFile) (ls : List (Vec Token)) (n : ℕ) (s : SourceFile) (t : Vec Token) (bytes : List ℕ) (ts : List Token)
+    → AreCut ss (map view ls) → n < length ss
     → s ≡ get_or ss n s → t ≡ get_or ls n t → bytes ≡ s.bytes → ts ≡ t.items → Lexed bytes (view_tokens ts)
 cut_of ss ls n s t bytes ts cut less is_s is_t is_bytes is_ts =
     let whole : Lexed (get_or ss n s).bytes (view (get_or ls n t)) = lexed_at view ss ls cut n s t less in
@@ -27,7 +28,8 @@ mapped_push [] x = refl
 mapped_push (y ∷ xs) x = ap (λ l. y.items ∷ l) (mapped_push xs x)
 
 module _ (w : Words) where
-  push : (k m : ℕ) (front : List SourceFile) (outs : List (List ℕ)) (x : SourceFile) (out : List ℕ) → m ≡ k + length front → AreRespelledBytes w k front outs → IsRespelledBytes w m x.bytes out
+  push : (k m : ℕ) (front : List SourceFile) (outs : List (List ℕ)) (x : SourceFile) (out : List ℕ) → m ≡ k + length front
+      → AreRespelledBytes w k front outs → IsRespelledBytes w m x.bytes out
       → AreRespelledBytes w k (front ++ x ∷ []) (outs ++ out ∷ [])
   push k m [] [] x out e h i = (subst (λ n. IsRespelledBytes w n x.bytes out) (let z : m ≡ k = omega (arith, e) in z) i, tt)
   push k m [] (o ∷ outs) x out e h i = absurd h
@@ -35,7 +37,8 @@ module _ (w : Words) where
   push k m (a ∷ front) (o ∷ outs) x out e h i = (h.0, push (suc k) m front outs x out (omega (arith, e)) h.1 i)
 
   -- one more
-  pub bytes_more : (xs : List SourceFile) (n : ℕ) (d : SourceFile) (outs all : List (List ℕ)) (out : List ℕ) → n < length xs → AreRespelledBytes w 0 (take n xs) outs → IsRespelledBytes w n (get_or xs n d).bytes out
+  pub bytes_more : (xs : List SourceFile) (n : ℕ) (d : SourceFile) (outs all : List (List ℕ)) (out : List ℕ) → n < length xs
+      → AreRespelledBytes w 0 (take n xs) outs → IsRespelledBytes w n (get_or xs n d).bytes out
       → all ≡ outs ++ out ∷ [] → AreRespelledBytes w 0 (take (n + 1) xs) all
   bytes_more xs n d outs all out less h i a =
       let x = get_or xs n d in

@@ -1,5 +1,6 @@
 -- The bytes of a source, token by token.
-use Rattle.std.proofs.Common.{◌≡◌, ℕ, suc, ◌+◌, ◌-◌, ◌<◌, ◌≤◌, List, ◌∷◌, ◌++◌, length, drop, get_or, ap, sym, subst, ◌∙◌, arith, append_assoc, drop-drop, Option}
+use Rattle.std.proofs.Common.{◌≡◌, ℕ, suc, ◌+◌, ◌-◌, ◌<◌, ◌≤◌, List, ◌∷◌, ◌++◌, length, drop, get_or, ap, sym, subst, ◌∙◌, arith, append_assoc}
+use Rattle.std.proofs.Common.{drop-drop, Option}
 use Rattle.std.proofs.lemmas.List.{drop_more, drop_all}
 use Rattle.std.specs.Borrow.{Bor}
 use Rattle.std.specs.BTreeMap.{BTreeMap}
@@ -22,7 +23,8 @@ later src from end le = let sum : from + (end - from) ≡ end = omega (arith, le
 
 -- one more token
 one_more : (src : List ℕ) (from : ℕ) (x : Lexeme) (xs : List Lexeme) (word : List ℕ) (words : List (List ℕ)) (done : List ℕ) → from ≤ x.end
-    → ((done ++ slice_range src from x.start) ++ word) ++ respelled_from x.end (drop x.end src) xs words ≡ done ++ respelled_from from (drop from src) (x ∷ xs) (word ∷ words)
+    → ((done ++ slice_range src from x.start) ++ word) ++ respelled_from x.end (drop x.end src) xs words ≡ done ++ respelled_from from (drop from src)
+    (x ∷ xs) (word ∷ words)
 one_more src from x xs word words done le =
     let gap = slice_range src from x.start in
     let rest = respelled_from x.end (drop x.end src) xs words in
@@ -42,7 +44,8 @@ module _ (names : BTreeMap Place (Bor (List ℕ))) (goals : BTreeMap Place Goal)
   -- what is written, with what is left, is the whole
   abbrev pub Continues : ℕ → ℕ → List ℕ → Type 0
   Continues i from done =
-      done ++ respelled_from from (drop from src) (view_tokens (drop i ts)) (new_texts v (i + 1) (view_tokens (drop i ts))) ≡ respelled src (view_tokens ts) (new_texts v 1 (view_tokens ts))
+      done ++ respelled_from from (drop from src) (view_tokens (drop i ts)) (new_texts v (i + 1) (view_tokens (drop i ts))) ≡ respelled src
+      (view_tokens ts) (new_texts v 1 (view_tokens ts))
 
   -- the token at a position
   module _ (i from : ℕ) (d : Token) (w : i < length ts) (h : IsAt i from) where
@@ -64,7 +67,8 @@ module _ (names : BTreeMap Place (Bor (List ℕ))) (goals : BTreeMap Place Goal)
     pub goes_on : IsAt (i + 1) t.end
     goes_on = order_here.4
 
-    pub written : (n : ℕ) (o : Option Name) (done mid all : List ℕ) → n ≡ i + 1 → o ≡ word_in names goals (record { file = file; token = n }) → mid ≡ done ++ slice_range src from t.start
+    pub written : (n : ℕ) (o : Option Name) (done mid all : List ℕ) → n ≡ i + 1 → o ≡ word_in names goals (record { file = file; token = n })
+        → mid ≡ done ++ slice_range src from t.start
         → all ≡ mid ++ text_of o t.class t.bytes.now → Continues i from done → Continues (i + 1) t.end all
     written n o done mid all count is m a k =
         let rest = drop (i + 1) ts in
@@ -75,13 +79,16 @@ module _ (names : BTreeMap Place (Bor (List ℕ))) (goals : BTreeMap Place Goal)
         let le : from ≤ t.end = omega (arith, start, span) in
         let next : i + 1 + 1 ≡ suc (i + 1) = omega arith in
         let text : text_of o t.class t.bytes.now ≡ new =
-        ap (λ z. text_of z t.class t.bytes.now) is ∙ text_is (word_in names goals (record { file = file; token = n })) t.class t.bytes.now ∙ ap (λ z. new_text (v z) t.class t.bytes.now) count in
-        ap (λ b. b ++ respelled_from t.end (drop t.end src) (view_tokens rest) (new_texts v (i + 1 + 1) (view_tokens rest))) (a ∙ ap (λ b. b ++ text_of o t.class t.bytes.now) m ∙ ap (λ b. (done ++ gap) ++ b) text)
+        ap (λ z. text_of z t.class t.bytes.now) is ∙ text_is (word_in names goals (record { file = file; token = n })) t.class t.bytes.now
+        ∙ ap (λ z. new_text (v z) t.class t.bytes.now) count in
+        ap (λ b. b ++ respelled_from t.end (drop t.end src) (view_tokens rest) (new_texts v (i + 1 + 1) (view_tokens rest)))
+        (a ∙ ap (λ b. b ++ text_of o t.class t.bytes.now) m ∙ ap (λ b. (done ++ gap) ++ b) text)
         ∙ ap (λ z. ((done ++ gap) ++ new) ++ respelled_from t.end (drop t.end src) (view_tokens rest) (new_texts v z (view_tokens rest))) next
         ∙ one_more src from (view_token t) (view_tokens rest) new (new_texts v (suc (i + 1)) (view_tokens rest)) done le
         ∙ ap (λ l. done ++ respelled_from from (drop from src) (view_tokens l) (new_texts v (i + 1) (view_tokens l))) (sym here)
         ∙ k
 
-  pub ends : (i from : ℕ) (done all : List ℕ) → length ts ≤ i → all ≡ done ++ drop from src → Continues i from done → all ≡ respelled src (view_tokens ts) (new_texts v 1 (view_tokens ts))
+  pub ends : (i from : ℕ) (done all : List ℕ) → length ts ≤ i → all ≡ done ++ drop from src → Continues i from done
+      → all ≡ respelled src (view_tokens ts) (new_texts v 1 (view_tokens ts))
   ends i from done all ge a k =
       a ∙ ap (λ l. done ++ respelled_from from (drop from src) (view_tokens l) (new_texts v (i + 1) (view_tokens l))) (sym (drop_all i ts ge)) ∙ k

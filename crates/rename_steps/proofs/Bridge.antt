@@ -1,5 +1,6 @@
 -- The words of the renamed project are the new word at the places that take it.
-use Rattle.std.proofs.Common.{◌≡◌, ℕ, suc, ◌⊎◌, inl, inr, ◌||◌, ◌&&◌, List, [], ◌∷◌, ◌++◌, Bool, true, false, true≢false, cond, Option, Some, None, map, Contains, refl, ap, sym, subst, ◌∙◌, if◌then◌else◌, IfNone}
+use Rattle.std.proofs.Common.{◌≡◌, ℕ, suc, ◌⊎◌, inl, inr, ◌||◌, ◌&&◌, List, [], ◌∷◌, ◌++◌, Bool, true, false, true≢false, cond, Option, Some, None}
+use Rattle.std.proofs.Common.{map, Contains, refl, ap, sym, subst, ◌∙◌, if◌then◌else◌, IfNone}
 use Rattle.std.specs.BTreeSet.{BTreeSet, contains}
 use Rattle.std.proofs.lemmas.List.Folds.{list_any-append}
 use Rattle.std.specs.List.{list_any}
@@ -43,14 +44,17 @@ use Rattle.rename_parts.specs.Hits.{is_lower, hit_words}
 use Rattle.rename_parts.specs.Members.{HasPlaces}
 use Rattle.rename_steps.specs.Findings.{IsFree}
 use Rattle.rename_steps.specs.Sources.{IsMade, AreMade}
-use Rattle.rename_steps.proofs.Having.{Has, has_as, has_each, has_contained, contained_has, has_mapped, has_filtered, any_has, has_right, has_left, has_any, has_unmapped, has_unfiltered}
+use Rattle.rename_steps.proofs.Having.{Has, has_as, has_each, has_contained, contained_has, has_mapped, has_filtered, any_has, has_right, has_left}
+use Rattle.rename_steps.proofs.Having.{has_any, has_unmapped, has_unfiltered}
 
 -- ---- what is free of the first refusals may be renamed
 
-module _ (us : List UnitTree) (d : Place) (foot : Foot) (new : Name) (sound : IsSound us) (is : IsFoot (facts us).links d foot) (free : IsFree us d foot new) where
+module _ (us : List UnitTree) (d : Place) (foot : Foot) (new : Name) (sound : IsSound us) (is : IsFoot (facts us).links d foot)
+    (free : IsFree us d foot new) where
   member_hit : (p : Place) → IsIn foot p → IsHit us foot p
   member_hit p c =
-      let h = contained_has (λ q. q ≡ p) (foot.decls ++ map (λ r. r.at) (refs_to foot (facts us).refs)) (has_left (λ q. q ≡ p) foot.decls (map (λ r. r.at) (refs_to foot (facts us).refs)) (has_contained (λ q. q ≡ p) foot.decls p c refl)) in
+      let h = contained_has (λ q. q ≡ p) (foot.decls ++ map (λ r. r.at) (refs_to foot (facts us).refs))
+      (has_left (λ q. q ≡ p) foot.decls (map (λ r. r.at) (refs_to foot (facts us).refs)) (has_contained (λ q. q ≡ p) foot.decls p c refl)) in
       subst (IsHit us foot) h.2 h.1
 
   in_is : (p : Place) → IsIn foot p → is_in foot p ≡ true
@@ -62,8 +66,11 @@ module _ (us : List UnitTree) (d : Place) (foot : Foot) (new : Name) (sound : Is
   ref_hit : (p : Place) (r : Ref) → IsIn foot p → Contains (facts us).refs r → r.goal ≡ Decl p → IsHit us foot r.at
   ref_hit p r c has e =
       let R = (facts us).refs in
-      let k = has_filtered (λ z. leads_in foot z.goal) (λ (z : Ref). z.at ≡ r.at) R (has_contained (λ (z : Ref). (z.at ≡ r.at) × (leads_in foot z.goal ≡ true)) R r has (refl, leads_is p r.goal c e)) in
-      let h = contained_has (λ q. q ≡ r.at) (foot.decls ++ map (λ z. z.at) (refs_to foot R)) (has_right (λ q. q ≡ r.at) foot.decls (map (λ z. z.at) (refs_to foot R)) (has_mapped (λ (z : Ref). z.at) (λ q. q ≡ r.at) (refs_to foot R) k)) in
+      let k = has_filtered (λ z. leads_in foot z.goal) (λ (z : Ref). z.at ≡ r.at) R
+      (has_contained (λ (z : Ref). (z.at ≡ r.at) × (leads_in foot z.goal ≡ true)) R r has (refl, leads_is p r.goal c e)) in
+      let h = contained_has (λ q. q ≡ r.at) (foot.decls ++ map (λ z. z.at) (refs_to foot R))
+      (has_right (λ q. q ≡ r.at) foot.decls (map (λ z. z.at) (refs_to foot R))
+      (has_mapped (λ (z : Ref). z.at) (λ q. q ≡ r.at) (refs_to foot R) k)) in
       subst (IsHit us foot) h.2 h.1
 
   not_fixed : (p : Place) → IsHit us foot p → (o : Option Site) → at_place (places us) p ≡ o → IsFixedSite o → ⊥
@@ -74,7 +81,8 @@ module _ (us : List UnitTree) (d : Place) (foot : Foot) (new : Name) (sound : Is
     by false true i j k = free.plain p h (x, e, j)
     by false false i j k = true≢false (sym k)
 
-  inside : (p : Place) → IsIn foot p → (l : Link) → Contains (facts us).links l → ((l.item ≡ Decl p) × (l.source ≡ Outside)) ⊎ ((l.item ≡ Outside) × (l.source ≡ Decl p)) → ⊥
+  inside : (p : Place) → IsIn foot p → (l : Link) → Contains (facts us).links l → ((l.item ≡ Decl p) × (l.source ≡ Outside))
+      ⊎ ((l.item ≡ Outside) × (l.source ≡ Decl p)) → ⊥
   inside p c l has e = none p c (l, has, ends e) where
     none : (q : Place) → Contains foot.decls q → IsFixed (facts us).links q → ⊥
     none = subst (λ (o : Option Place). IfNone o ((q : Place) → Contains foot.decls q → IsFixed (facts us).links q → ⊥)) free.inside is.outside.none
@@ -108,7 +116,8 @@ each_ordered : {A : Type 0} (at : A → Place) (P : A → Type 0) (xs : List A) 
 each_ordered at P [] h = tt
 each_ordered at P (x ∷ xs) h = each_put at P x (in_order at xs) h.0 (each_ordered at P xs h.1)
 
-goal_case : (r : Ref) (rs : List Ref) (p : Place) (g : Goal) (b : Bool) → same_place r.at p ≡ b → (goal_at rs p ≡ Some g → Has (λ z. (z.at ≡ p) × (z.goal ≡ g)) rs) → or_else (some_if b r.goal) (goal_at rs p) ≡ Some g
+goal_case : (r : Ref) (rs : List Ref) (p : Place) (g : Goal) (b : Bool) → same_place r.at p ≡ b
+    → (goal_at rs p ≡ Some g → Has (λ z. (z.at ≡ p) × (z.goal ≡ g)) rs) → or_else (some_if b r.goal) (goal_at rs p) ≡ Some g
     → Has (λ z. (z.at ≡ p) × (z.goal ≡ g)) (r ∷ rs)
 goal_case r rs p g true s f h = inl (same_is r.at p s, (let q : r.goal ≡ g = cc in q))
 goal_case r rs p g false s f h = inr (f h)
@@ -127,7 +136,8 @@ given_value false new x = refl
 
 -- ---- the words
 
-module _ (us : List UnitTree) (d : Place) (foot : Foot) (new : Name) (sound : IsSound us) (binders : (a : Place) → IsIn foot a → IsBinder us a) (set : BTreeSet Place) (has : HasPlaces (hits (facts us).refs foot) set) where
+module _ (us : List UnitTree) (d : Place) (foot : Foot) (new : Name) (sound : IsSound us) (binders : (a : Place) → IsIn foot a → IsBinder us a)
+    (set : BTreeSet Place) (has : HasPlaces (hits (facts us).refs foot) set) where
   abbrev R : List Ref
   R = (facts us).refs
 
@@ -135,9 +145,12 @@ module _ (us : List UnitTree) (d : Place) (foot : Foot) (new : Name) (sound : Is
   own = each_ordered (λ r. r.at) (λ r. goal_at R r.at ≡ Some r.goal) (refs_of (steps us)) (goals_found us sound)
 
   -- a reference to a member at a place
-  used : (p : Place) → list_any (same_place p) (map (λ r. r.at) (refs_to foot R)) ≡ true → (r : Ref) × (r.at ≡ p) × (leads_in foot r.goal ≡ true) × (goal_at R p ≡ Some r.goal)
+  used : (p : Place) → list_any (same_place p) (map (λ r. r.at) (refs_to foot R)) ≡ true → (r : Ref) × (r.at ≡ p) × (leads_in foot r.goal ≡ true)
+      × (goal_at R p ≡ Some r.goal)
   used p e =
-      let h = has_unfiltered (λ r. leads_in foot r.goal) (λ (r : Ref). same_place p r.at ≡ true) R (has_unmapped (λ (r : Ref). r.at) (λ q. same_place p q ≡ true) (refs_to foot R) (has_any (same_place p) (map (λ r. r.at) (refs_to foot R)) e)) in
+      let h = has_unfiltered (λ r. leads_in foot r.goal) (λ (r : Ref). same_place p r.at ≡ true) R
+      (has_unmapped (λ (r : Ref). r.at) (λ q. same_place p q ≡ true) (refs_to foot R)
+      (has_any (same_place p) (map (λ r. r.at) (refs_to foot R)) e)) in
       let k = contained_has (λ (r : Ref). ((same_place p r.at ≡ true) × (leads_in foot r.goal ≡ true)) × (goal_at R r.at ≡ Some r.goal)) R
       (has_each (λ (r : Ref). (same_place p r.at ≡ true) × (leads_in foot r.goal ≡ true)) (λ r. goal_at R r.at ≡ Some r.goal) R own h) in
       let at : k.0.at ≡ p = sym (same_is p k.0.at k.2.0.0) in
@@ -172,7 +185,8 @@ module _ (us : List UnitTree) (d : Place) (foot : Foot) (new : Name) (sound : Is
     or_false true = refl
     or_false false = refl
 
-  with_goal : (p : Place) (g : Goal) → goal_at R p ≡ Some g → (i u l : Bool) → is_in foot p ≡ i → U p ≡ u → leads_in foot g ≡ l → contains place_cmp set p ≡ leads_in foot g
+  with_goal : (p : Place) (g : Goal) → goal_at R p ≡ Some g → (i u l : Bool) → is_in foot p ≡ i → U p ≡ u → leads_in foot g ≡ l
+      → contains place_cmp set p ≡ leads_in foot g
   with_goal p g e true u l h k m = absurd (no_member p g e h)
   with_goal p g e false true true h k m = in_hits p ∙ (ap (λ b. b || U p) h ∙ (k ∙ sym m))
   with_goal p g e false false false h k m = in_hits p ∙ (ap (λ b. b || U p) h ∙ (k ∙ sym m))
@@ -189,7 +203,8 @@ module _ (us : List UnitTree) (d : Place) (foot : Foot) (new : Name) (sound : Is
   goal_word p x Hidden = refl
   goal_word p x (Blur by n o) = refl
 
-  word_by : (p : Place) (x : Name) (o : Option Goal) → goal_at R p ≡ o → renamed_words us (watch_of us d foot new) p x ≡ cond (contains place_cmp set p) new x
+  word_by : (p : Place) (x : Name) (o : Option Goal) → goal_at R p ≡ o
+      → renamed_words us (watch_of us d foot new) p x ≡ cond (contains place_cmp set p) new x
   word_by p x None e =
       ap (λ z. new_word (map (λ q. (q, new)) foot.decls) z p x) e
       ∙ (ap (λ z. or_value z x) (given new foot.decls p) ∙ (given_value (is_in foot p) new x ∙ ap (λ b. cond b new x) (sym (without p e (U p) refl))))
@@ -200,15 +215,20 @@ module _ (us : List UnitTree) (d : Place) (foot : Foot) (new : Name) (sound : Is
   pub word_is : (p : Place) (x : Name) → renamed_words us (watch_of us d foot new) p x ≡ cond (contains place_cmp set p) new x
   word_is p x = word_by p x (goal_at R p) refl
 
-  one_word : (file n : ℕ) (c : Class) (text : Name) → (spelled_text (in_file (renamed_words us (watch_of us d foot new)) file) c n text) ≡ cond (is_lower c && contains place_cmp set (here file n)) new text
+  one_word : (file n : ℕ) (c : Class) (text : Name) → (spelled_text (in_file (renamed_words us (watch_of us d foot new)) file) c n text) ≡ cond
+      (is_lower c && contains place_cmp set (here file n)) new text
   one_word file n class.Lower text = word_is (here file n) text
   one_word file n _ text = refl
 
-  pub texts_are : (file n : ℕ) (xs : List Lexeme) → new_words (in_file (renamed_words us (watch_of us d foot new)) file) n xs ≡ hit_words set file new n xs
+  pub texts_are : (file n : ℕ) (xs : List Lexeme) → new_words (in_file (renamed_words us (watch_of us d foot new)) file) n xs ≡ hit_words set file new
+      n xs
   texts_are file n [] = refl
-  texts_are file n (x ∷ xs) = ap (λ t. t ∷ new_words (in_file (renamed_words us (watch_of us d foot new)) file) (suc n) xs) (one_word file n x.class x.bytes) ∙ ap (λ l. cond (is_lower x.class && contains place_cmp set (here file n)) new x.bytes ∷ l) (texts_are file (suc n) xs)
+  texts_are file n (x ∷ xs) = ap (λ t. t ∷ new_words (in_file (renamed_words us (watch_of us d foot new)) file) (suc n) xs)
+      (one_word file n x.class x.bytes) ∙ ap (λ l. cond (is_lower x.class && contains place_cmp set (here file n)) new x.bytes ∷ l)
+      (texts_are file (suc n) xs)
 
-  made : (file : ℕ) (old out : SourceFile) → IsMade set new file old out → IsRespelled (in_file (renamed_words us (watch_of us d foot new)) file) old out
+  made : (file : ℕ) (old out : SourceFile) → IsMade set new file old out
+      → IsRespelled (in_file (renamed_words us (watch_of us d foot new)) file) old out
   made file old out m = record {
     lexemes = m.lexemes;
     cut = m.cut;
@@ -216,7 +236,8 @@ module _ (us : List UnitTree) (d : Place) (foot : Foot) (new : Name) (sound : Is
     bytes = m.bytes ∙ ap (respelled old.bytes m.lexemes) (sym (texts_are file 1 m.lexemes));
   }
 
-  pub all_made : (n : ℕ) (olds outs : List SourceFile) → AreMade set new n olds outs → AreRespelled (in_file (renamed_words us (watch_of us d foot new))) n olds outs
+  pub all_made : (n : ℕ) (olds outs : List SourceFile) → AreMade set new n olds outs
+      → AreRespelled (in_file (renamed_words us (watch_of us d foot new))) n olds outs
   all_made n [] [] h = tt
   all_made n [] (o ∷ outs) h = absurd h
   all_made n (o ∷ olds) [] h = absurd h

@@ -1,5 +1,6 @@
 -- What the scans find is what the conditions require.
-use Rattle.std.proofs.Common.{◌≡◌, ◌⊎◌, inl, inr, List, [], ◌∷◌, ◌++◌, Bool, true, false, true≢false, not, cond, Option, Some, None, filter, Contains, refl, ap, sym, subst, ◌∙◌}
+use Rattle.std.proofs.Common.{◌≡◌, ◌⊎◌, inl, inr, List, [], ◌∷◌, ◌++◌, Bool, true, false, true≢false, not, cond, Option, Some, None, filter, Contains}
+use Rattle.std.proofs.Common.{refl, ap, sym, subst, ◌∙◌}
 use Rattle.std.specs.BTreeSet.{BTreeSet, contains}
 use Rattle.std.specs.List.{list_any}
 use Rattle.rotor_base.specs.Place.{same_place, place_cmp}
@@ -28,7 +29,8 @@ use Rattle.rename_parts.specs.Hits.{hit_of, hits_in, all_hits}
 use Rattle.rename_parts.specs.Leasts.{IsLeastOrNone}
 use Rattle.rename_parts.specs.Members.{HasPlaces, IsSetOf}
 use Rattle.rename_parts.proofs.Earliest.{least_same}
-use Rattle.rename_steps.proofs.Having.{Has, has_as, has_left, has_right, has_split, has_mapped, has_unmapped, has_filtered, has_unfiltered, has_any, any_has, has_contained, contained_has, has_each}
+use Rattle.rename_steps.proofs.Having.{Has, has_as, has_left, has_right, has_split, has_mapped, has_unmapped, has_filtered, has_unfiltered, has_any}
+use Rattle.rename_steps.proofs.Having.{any_has, has_contained, contained_has, has_each}
 
 -- ---- sets of places
 
@@ -40,7 +42,8 @@ has_set ps set p h c = h p ∙ any_has (same_place p) ps (has_contained (λ q. s
 
 -- ---- what is at a place
 
-site_case : (z : Place × Site) (L : List (Place × Site)) (p : Place) (x : Site) (b : Bool) → same_place z.0 p ≡ b → (at_place L p ≡ Some x → Has (λ e. (e.0 ≡ p) × (e.1 ≡ x)) L) → or_else (some_if b z.1) (at_place L p) ≡ Some x
+site_case : (z : Place × Site) (L : List (Place × Site)) (p : Place) (x : Site) (b : Bool) → same_place z.0 p ≡ b
+    → (at_place L p ≡ Some x → Has (λ e. (e.0 ≡ p) × (e.1 ≡ x)) L) → or_else (some_if b z.1) (at_place L p) ≡ Some x
     → Has (λ e. (e.0 ≡ p) × (e.1 ≡ x)) (z ∷ L)
 site_case z L p x true s f h = inl (same_is z.0 p s, (let q : z.1 ≡ x = cc in q))
 site_case z L p x false s f h = inr (f h)
@@ -49,10 +52,12 @@ pub site_found : (L : List (Place × Site)) (p : Place) (x : Site) → at_place 
 site_found [] p x e = let wrong : None ≡ Some x = e in absurd cc
 site_found (z ∷ L) p x e = site_case z L p x (same_place z.0 p) refl (site_found L p x) e
 
-site_at : (us : List UnitTree) → IsSound us → (p : Place) (P : Site → Type 0) → Has (λ e. (e.0 ≡ p) × P e.1) (places us) → (x : Site) × (at_place (places us) p ≡ Some x) × P x
+site_at : (us : List UnitTree) → IsSound us → (p : Place) (P : Site → Type 0) → Has (λ e. (e.0 ≡ p) × P e.1) (places us)
+    → (x : Site) × (at_place (places us) p ≡ Some x) × P x
 site_at us s p P h =
     let L = places us in
-    let k = contained_has (λ e. ((e.0 ≡ p) × P e.1) × (at_place L e.0 ≡ Some e.1)) L (has_each (λ e. (e.0 ≡ p) × P e.1) (λ e. at_place L e.0 ≡ Some e.1) L (found_all L (apart_of us s)) h) in
+    let k = contained_has (λ e. ((e.0 ≡ p) × P e.1) × (at_place L e.0 ≡ Some e.1)) L
+    (has_each (λ e. (e.0 ≡ p) × P e.1) (λ e. at_place L e.0 ≡ Some e.1) L (found_all L (apart_of us s)) h) in
     (k.0.1, subst (λ q. at_place L q ≡ Some k.0.1) k.2.0.0 k.2.1, k.2.0.1)
 
 -- ---- the hits of all files
@@ -61,21 +66,26 @@ module _ (set : BTreeSet Place) (P : Hit → Type 0) where
   abbrev In : Place × Site → Type 0
   In e = P (hit_of e) × (contains place_cmp set e.0 ≡ true)
 
-  drop_test : (test : Place × Site → Bool) (ps : List (Place × Site)) → Has (λ e. P (hit_of e)) (filter (λ e. contains place_cmp set e.0) (filter test ps)) → Has In ps
+  drop_test : (test : Place × Site → Bool) (ps : List (Place × Site))
+      → Has (λ e. P (hit_of e)) (filter (λ e. contains place_cmp set e.0) (filter test ps)) → Has In ps
   drop_test test ps h =
-      has_as (λ e. In e × (test e ≡ true)) In ps (λ e k. k.0) (has_unfiltered test In ps (has_unfiltered (λ e. contains place_cmp set e.0) (λ e. P (hit_of e)) (filter test ps) h))
+      has_as (λ e. In e × (test e ≡ true)) In ps (λ e k. k.0)
+      (has_unfiltered test In ps (has_unfiltered (λ e. contains place_cmp set e.0) (λ e. P (hit_of e)) (filter test ps) h))
 
-  keep_test : (test : Place × Site → Bool) (ps : List (Place × Site)) → Has (λ e. In e × (test e ≡ true)) ps → Has (λ e. P (hit_of e)) (filter (λ e. contains place_cmp set e.0) (filter test ps))
+  keep_test : (test : Place × Site → Bool) (ps : List (Place × Site)) → Has (λ e. In e × (test e ≡ true)) ps
+      → Has (λ e. P (hit_of e)) (filter (λ e. contains place_cmp set e.0) (filter test ps))
   keep_test test ps h = has_filtered (λ e. contains place_cmp set e.0) (λ e. P (hit_of e)) (filter test ps) (has_filtered test In ps h)
 
   part_down : (ps : List (Place × Site)) → Has P (hits_in set ps) → Has In ps
   part_down ps h =
-      elim (has_split (λ e. P (hit_of e)) (filter (λ e. contains place_cmp set e.0) (filter (λ e. e.1.binds) ps)) (filter (λ e. contains place_cmp set e.0) (filter (λ e. not e.1.binds) ps)) (has_unmapped hit_of P _ h)) [
+      elim (has_split (λ e. P (hit_of e)) (filter (λ e. contains place_cmp set e.0) (filter (λ e. e.1.binds) ps))
+      (filter (λ e. contains place_cmp set e.0) (filter (λ e. not e.1.binds) ps)) (has_unmapped hit_of P _ h)) [
         | inl a ↦ drop_test (λ e. e.1.binds) ps a
         | inr b ↦ drop_test (λ e. not e.1.binds) ps b
       ]
 
-  kind_of : (e : Place × Site) (ps : List (Place × Site)) (b : Bool) → e.1.binds ≡ b → In e → Has (λ z. In z × (z.1.binds ≡ true)) (e ∷ ps) ⊎ Has (λ z. In z × (not z.1.binds ≡ true)) (e ∷ ps)
+  kind_of : (e : Place × Site) (ps : List (Place × Site)) (b : Bool) → e.1.binds ≡ b → In e → Has (λ z. In z × (z.1.binds ≡ true)) (e ∷ ps)
+      ⊎ Has (λ z. In z × (not z.1.binds ≡ true)) (e ∷ ps)
   kind_of e ps true t k = inl (inl (k, t))
   kind_of e ps false t k = inr (inl (k, ap not t))
 
@@ -94,7 +104,8 @@ module _ (set : BTreeSet Place) (P : Hit → Type 0) where
         | inr b ↦ has_right (λ e. P (hit_of e)) ds us (keep_test (λ e. not e.1.binds) ps b)
       ])
 
-  face_down : (face rest : List (Place × Site)) (hs : List Hit) → (Has P hs → Has In rest) → Has P (hits_in set face) ⊎ Has P hs → Has In (face ++ rest)
+  face_down : (face rest : List (Place × Site)) (hs : List Hit) → (Has P hs → Has In rest) → Has P (hits_in set face) ⊎ Has P hs
+      → Has In (face ++ rest)
   face_down face rest hs f (inl a) = has_left In face rest (part_down face a)
   face_down face rest hs f (inr b) = has_right In face rest (f b)
 
@@ -105,7 +116,8 @@ module _ (set : BTreeSet Place) (P : Hit → Type 0) where
       let face = file_places u.face in
       elim (has_split P (hits_in set body) (hits_in set face ++ all_hits set us) h) [
         | inl a ↦ has_left In body (face ++ places us) (part_down body a)
-        | inr b ↦ has_right In body (face ++ places us) (face_down face (places us) (all_hits set us) (hits_down us) (has_split P (hits_in set face) (all_hits set us) b))
+        | inr b ↦ has_right In body (face ++ places us)
+            (face_down face (places us) (all_hits set us) (hits_down us) (has_split P (hits_in set face) (all_hits set us) b))
       ]
 
   face_up : (face rest : List (Place × Site)) (hs : List Hit) → (Has In rest → Has P hs) → Has In face ⊎ Has In rest → Has P (hits_in set face ++ hs)
@@ -119,32 +131,41 @@ module _ (set : BTreeSet Place) (P : Hit → Type 0) where
       let face = file_places u.face in
       elim (has_split In body (face ++ places us) h) [
         | inl a ↦ has_left P (hits_in set body) (hits_in set face ++ all_hits set us) (part_up body a)
-        | inr b ↦ has_right P (hits_in set body) (hits_in set face ++ all_hits set us) (face_up face (places us) (all_hits set us) (hits_up us) (has_split In face (places us) b))
+        | inr b ↦ has_right P (hits_in set body) (hits_in set face ++ all_hits set us)
+            (face_up face (places us) (all_hits set us) (hits_up us) (has_split In face (places us) b))
       ]
 
 -- ---- operators and puns
 
 module _ (us : List UnitTree) (foot : Foot) (set : BTreeSet Place) (sound : IsSound us) (has : HasPlaces (hits (facts us).refs foot) set) where
   -- a place of a kind that takes the new word is among the hits, and the other way round
-  kind_up : (P : Site → Type 0) (Q : Hit → Type 0) (p : Place) (x : Site) → at_place (places us) p ≡ Some x → IsHit us foot p → P x → ((e : Place × Site) → e.0 ≡ p → P e.1 → Q (hit_of e)) → Has Q (all_hits set us)
+  kind_up : (P : Site → Type 0) (Q : Hit → Type 0) (p : Place) (x : Site) → at_place (places us) p ≡ Some x → IsHit us foot p → P x
+      → ((e : Place × Site) → e.0 ≡ p → P e.1 → Q (hit_of e)) → Has Q (all_hits set us)
   kind_up P Q p x e hit px up =
       hits_up set Q us
       (has_as (λ z. (z.0 ≡ p) × (z.1 ≡ x)) (λ z. Q (hit_of z) × (contains place_cmp set z.0 ≡ true)) (places us)
-      (λ z k. (up z k.0 (subst P (sym k.1) px), subst (λ q. contains place_cmp set q ≡ true) (sym k.0) (has_set (hits (facts us).refs foot) set p has hit))) (site_found (places us) p x e))
+      (λ z k. (
+        up z k.0 (subst P (sym k.1) px),
+        subst (λ q. contains place_cmp set q ≡ true) (sym k.0)
+            (has_set (hits (facts us).refs foot) set p has hit),
+      )) (site_found (places us) p x e))
 
-  kind_down : (P : Site → Type 0) (Q : Hit → Type 0) (p : Place) → ((e : Place × Site) → Q (hit_of e) → (e.0 ≡ p) × P e.1) → Has Q (all_hits set us) → IsHit us foot p × ((x : Site) × (at_place (places us) p ≡ Some x) × P x)
+  kind_down : (P : Site → Type 0) (Q : Hit → Type 0) (p : Place) → ((e : Place × Site) → Q (hit_of e) → (e.0 ≡ p) × P e.1) → Has Q (all_hits set us)
+      → IsHit us foot p × ((x : Site) × (at_place (places us) p ≡ Some x) × P x)
   kind_down P Q p down h =
       let k = hits_down set Q us h in
       let f = contained_has (λ z. Q (hit_of z) × (contains place_cmp set z.0 ≡ true)) (places us) k in
       let at = down f.0 f.2.0 in (
         set_has (hits (facts us).refs foot) set p has (subst (λ q. contains place_cmp set q ≡ true) at.0 f.2.1),
-        site_at us sound p P (has_as (λ z. Q (hit_of z) × (contains place_cmp set z.0 ≡ true)) (λ z. (z.0 ≡ p) × P z.1) (places us) (λ z j. down z j.0) k),
+        site_at us sound p P (has_as (λ z. Q (hit_of z) × (contains place_cmp set z.0 ≡ true)) (λ z. (z.0 ≡ p) × P z.1) (places us)
+            (λ z j. down z j.0) k),
       )
 
   pub operator_met : list_any (λ h. h.operator) (all_hits set us) ≡ true → IsOperator us foot refusal.Operator
   operator_met e =
       let h = contained_has (λ (z : Hit). z.operator ≡ true) (all_hits set us) (has_any (λ (z : Hit). z.operator) (all_hits set us) e) in
-      let k = kind_down (λ x. x.operator ≡ true) (λ z. (z.operator ≡ true) × (z.place ≡ h.0.place)) h.0.place (λ z j. (j.1, j.0)) (has_contained (λ (z : Hit). (z.operator ≡ true) × (z.place ≡ h.0.place)) (all_hits set us) h.0 h.1 (h.2, refl)) in
+      let k = kind_down (λ x. x.operator ≡ true) (λ z. (z.operator ≡ true) × (z.place ≡ h.0.place)) h.0.place (λ z j. (j.1, j.0))
+      (has_contained (λ (z : Hit). (z.operator ≡ true) × (z.place ≡ h.0.place)) (all_hits set us) h.0 h.1 (h.2, refl)) in
       (h.0.place, k.0, k.1)
 
   pub operator_none : list_any (λ h. h.operator) (all_hits set us) ≡ false → (p : Place) → IsHit us foot p → IsOperatorAt us p → ⊥
@@ -152,11 +173,14 @@ module _ (us : List UnitTree) (foot : Foot) (set : BTreeSet Place) (sound : IsSo
       let some = kind_up (λ x. x.operator ≡ true) (λ z. z.operator ≡ true) p at.0 at.1 hit at.2 (λ z i j. j) in
       true≢false (sym (any_has (λ (z : Hit). z.operator) (all_hits set us) some) ∙ e)
 
-  pub pun_least : (o : Option Place) → IsLeastOrNone (λ p. (h : Hit) × Contains (all_hits set us) h × (h.pun ≡ true) × (h.place ≡ p)) o → IsLeastOrNone (λ p. IsHit us foot p × IsPunAt us p) o
+  pub pun_least : (o : Option Place) → IsLeastOrNone (λ p. (h : Hit) × Contains (all_hits set us) h × (h.pun ≡ true) × (h.place ≡ p)) o
+      → IsLeastOrNone (λ p. IsHit us foot p × IsPunAt us p) o
   pun_least o l =
       least_same (λ p. (h : Hit) × Contains (all_hits set us) h × (h.pun ≡ true) × (h.place ≡ p)) (λ p. IsHit us foot p × IsPunAt us p) o
-      (λ p h. kind_down (λ x. x.pun ≡ true) (λ z. (z.pun ≡ true) × (z.place ≡ p)) p (λ z j. (j.1, j.0)) (has_contained (λ (z : Hit). (z.pun ≡ true) × (z.place ≡ p)) (all_hits set us) h.0 h.1 (h.2, h.3)))
-      (λ p k. let r = contained_has (λ (z : Hit). (z.pun ≡ true) × (z.place ≡ p)) (all_hits set us) (kind_up (λ x. x.pun ≡ true) (λ z. (z.pun ≡ true) × (z.place ≡ p)) p k.1.0 k.1.1 k.0 k.1.2 (λ z i j. (j, i))) in (r.0, r.1, r.2.0, r.2.1)) l
+      (λ p h. kind_down (λ x. x.pun ≡ true) (λ z. (z.pun ≡ true) × (z.place ≡ p)) p (λ z j. (j.1, j.0))
+      (has_contained (λ (z : Hit). (z.pun ≡ true) × (z.place ≡ p)) (all_hits set us) h.0 h.1 (h.2, h.3)))
+      (λ p k. let r = contained_has (λ (z : Hit). (z.pun ≡ true) × (z.place ≡ p)) (all_hits set us)
+      (kind_up (λ x. x.pun ≡ true) (λ z. (z.pun ≡ true) × (z.place ≡ p)) p k.1.0 k.1.1 k.0 k.1.2 (λ z i j. (j, i))) in (r.0, r.1, r.2.0, r.2.1)) l
 
 -- ---- what outside modules hide
 
@@ -227,5 +251,6 @@ module _ (fs : Facts) (foot : Foot) (set : BTreeSet Place) (has : IsSetOf foot s
   up p (at_item l c i e b) = inr (l, c, inl (ap (λ z. item_in set z l.source) e ∙ blur_up l.source p i b))
   up p (at_source l c i b) = inr (l, c, inr (behind_up l.source p i b))
 
-  pub blurred_least : (o : Option Place) → IsLeastOrNone (λ p. BlursRef set fs.refs p ⊎ BlursLink set fs.links p) o → IsLeastOrNone (IsBlurredAt fs foot) o
+  pub blurred_least : (o : Option Place) → IsLeastOrNone (λ p. BlursRef set fs.refs p ⊎ BlursLink set fs.links p) o
+      → IsLeastOrNone (IsBlurredAt fs foot) o
   blurred_least o l = least_same (λ p. BlursRef set fs.refs p ⊎ BlursLink set fs.links p) (IsBlurredAt fs foot) o down up l

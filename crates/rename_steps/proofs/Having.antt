@@ -1,5 +1,6 @@
 -- A list has something of a kind.
-use Rattle.std.proofs.Common.{◌≡◌, zero, suc, ◌⊎◌, inl, inr, ◌||◌, List, [], ◌∷◌, ◌++◌, Bool, true, false, cond, map, filter, Contains, refl, ap, sym, subst, ◌∙◌, arith}
+use Rattle.std.proofs.Common.{◌≡◌, zero, suc, ◌⊎◌, inl, inr, ◌||◌, List, [], ◌∷◌, ◌++◌, Bool, true, false, cond, map, filter, Contains, refl, ap, sym}
+use Rattle.std.proofs.Common.{subst, ◌∙◌, arith}
 use Rattle.std.specs.List.{list_any}
 use Rattle.ml_syntax.specs.Each.{Each}
 
@@ -40,7 +41,8 @@ has_unmapped f P [] h = h
 has_unmapped f P (x ∷ xs) (inl p) = inl p
 has_unmapped f P (x ∷ xs) (inr h) = inr (has_unmapped f P xs h)
 
-kept_in : {A : Type 0} (test : A → Bool) (P : A → Type 0) (x : A) (xs : List A) (b : Bool) → test x ≡ b → test x ≡ true → P x → Has P (cond b (x ∷ xs) xs)
+kept_in : {A : Type 0} (test : A → Bool) (P : A → Type 0) (x : A) (xs : List A) (b : Bool) → test x ≡ b → test x ≡ true → P x
+    → Has P (cond b (x ∷ xs) xs)
 kept_in test P x xs true e t p = inl p
 kept_in test P x xs false e t p = let wrong : true ≡ false = sym t ∙ e in absurd cc
 
@@ -53,12 +55,14 @@ has_filtered test P [] h = h
 has_filtered test P (x ∷ xs) (inl p) = kept_in test P x (filter test xs) (test x) refl p.1 p.0
 has_filtered test P (x ∷ xs) (inr h) = more_in P x (filter test xs) (test x) (has_filtered test P xs h)
 
-un_kept : {A : Type 0} (test : A → Bool) (P : A → Type 0) (x : A) (xs : List A) (b : Bool) → test x ≡ b → Has P (cond b (x ∷ xs) xs) → (P x × (test x ≡ true)) ⊎ Has P xs
+un_kept : {A : Type 0} (test : A → Bool) (P : A → Type 0) (x : A) (xs : List A) (b : Bool) → test x ≡ b → Has P (cond b (x ∷ xs) xs)
+    → (P x × (test x ≡ true)) ⊎ Has P xs
 un_kept test P x xs true e (inl p) = inl (p, e)
 un_kept test P x xs true e (inr h) = inr h
 un_kept test P x xs false e h = inr h
 
-un_next : {A : Type 0} (test : A → Bool) (P : A → Type 0) (x : A) (xs : List A) → (Has P (filter test xs) → Has (λ y. P y × (test y ≡ true)) xs) → (P x × (test x ≡ true)) ⊎ Has P (filter test xs) → Has (λ y. P y × (test y ≡ true)) (x ∷ xs)
+un_next : {A : Type 0} (test : A → Bool) (P : A → Type 0) (x : A) (xs : List A) → (Has P (filter test xs) → Has (λ y. P y × (test y ≡ true)) xs)
+    → (P x × (test x ≡ true)) ⊎ Has P (filter test xs) → Has (λ y. P y × (test y ≡ true)) (x ∷ xs)
 un_next test P x xs f (inl p) = inl p
 un_next test P x xs f (inr h) = inr (f h)
 
@@ -66,7 +70,8 @@ pub has_unfiltered : {A : Type 0} (test : A → Bool) (P : A → Type 0) (xs : L
 has_unfiltered test P [] h = h
 has_unfiltered test P (x ∷ xs) h = un_next test P x xs (has_unfiltered test P xs) (un_kept test P x (filter test xs) (test x) refl h)
 
-any_case : {A : Type 0} (test : A → Bool) (x : A) (xs : List A) (b c : Bool) → test x ≡ b → list_any test xs ≡ c → (c ≡ true → Has (λ y. test y ≡ true) xs) → (b || c) ≡ true → Has (λ y. test y ≡ true) (x ∷ xs)
+any_case : {A : Type 0} (test : A → Bool) (x : A) (xs : List A) (b c : Bool) → test x ≡ b → list_any test xs ≡ c
+    → (c ≡ true → Has (λ y. test y ≡ true) xs) → (b || c) ≡ true → Has (λ y. test y ≡ true) (x ∷ xs)
 any_case test x xs true c e f h k = inl e
 any_case test x xs false c e f h k = inr (h k)
 

@@ -24,13 +24,17 @@ use Rattle.rename_steps.specs.Findings.{refusal_of}
 use Rattle.rename_steps.proofs.Found.{operator_met, operator_none, pun_least, blurred_least}
 use Rattle.rename_steps.proofs.Rungs.{told, Told}
 
-module _ (us : List UnitTree) (fs : Facts) (foot : Foot) (new old : Name) (members set : BTreeSet Place) (marks : List Hit) (sound : IsSound us) (fs_is : fs ≡ facts us) (members_of : IsSetOf foot members) (places : HasPlaces (hits (facts us).refs foot) set) (marks_are : marks ≡ all_hits set us) where
+module _ (us : List UnitTree) (fs : Facts) (foot : Foot) (new old : Name) (members set : BTreeSet Place) (marks : List Hit) (sound : IsSound us)
+    (fs_is : fs ≡ facts us) (members_of : IsSetOf foot members) (places : HasPlaces (hits (facts us).refs foot) set)
+    (marks_are : marks ≡ all_hits set us) where
   -- what a scan says of its list, it says of the hits
   as_hits : (Q : List Hit → Type 0) → Q marks → Q (all_hits set us)
   as_hits Q h = subst Q marks_are h
 
-  pub judged : (f : Findings) → f.operator ≡ list_any (λ h. h.operator) marks → f.valid ≡ is_value_name new → f.same ≡ bytes_eq new old → f.outside ≡ foot.outside
-      → IsLeastOrNone (λ p. (h : Hit) × Contains marks h × (h.pun ≡ true) × (h.place ≡ p)) f.pun → IsLeastOrNone (λ p. BlursRef members fs.refs p ⊎ BlursLink members fs.links p) f.blurred
+  pub judged : (f : Findings) → f.operator ≡ list_any (λ h. h.operator) marks → f.valid ≡ is_value_name new → f.same ≡ bytes_eq new old
+      → f.outside ≡ foot.outside
+      → IsLeastOrNone (λ p. (h : Hit) × Contains marks h × (h.pun ≡ true) × (h.place ≡ p)) f.pun
+      → IsLeastOrNone (λ p. BlursRef members fs.refs p ⊎ BlursLink members fs.links p) f.blurred
       → (o : Option Refusal) → o ≡ refusal_of f → (d : Place) → old ≡ name_of us d → Told us d foot new o
   judged f op va sa ou pu bl o e d n =
       let operator : f.operator ≡ list_any (λ h. h.operator) (all_hits set us) = as_hits (λ hs. f.operator ≡ list_any (λ h. h.operator) hs) op in
@@ -41,6 +45,7 @@ module _ (us : List UnitTree) (fs : Facts) (foot : Foot) (new old : Name) (membe
         valid = va;
         same = sa ∙ ap (bytes_eq new) n;
         outside = ou;
-        pun = pun_least us foot set sound places f.pun (as_hits (λ hs. IsLeastOrNone (λ p. (h : Hit) × Contains hs h × (h.pun ≡ true) × (h.place ≡ p)) f.pun) pu);
+        pun = pun_least us foot set sound places f.pun
+            (as_hits (λ hs. IsLeastOrNone (λ p. (h : Hit) × Contains hs h × (h.pun ≡ true) × (h.place ≡ p)) f.pun) pu);
         blurred = subst (λ (z : Facts). IsLeastOrNone (IsBlurredAt z foot) f.blurred) fs_is (blurred_least fs foot members members_of f.blurred bl);
       }))

@@ -1,5 +1,6 @@
 -- The numbers of changed sources, and what new sources are refused for.
-use Rattle.std.proofs.Common.{◌≡◌, ℕ, suc, ◌+◌, ◌<◌, ◌==◌, ◌||◌, inl, inr, List, [], ◌∷◌, ◌++◌, Bool, true, false, cond, Option, Some, None, map, drop, length, get_or, refl, ap, sym, ◌∙◌, append_assoc, arith, nat_lt}
+use Rattle.std.proofs.Common.{◌≡◌, ℕ, suc, ◌+◌, ◌<◌, ◌==◌, ◌||◌, inl, inr, List, [], ◌∷◌, ◌++◌, Bool, true, false, cond, Option, Some, None, map}
+use Rattle.std.proofs.Common.{drop, length, get_or, refl, ap, sym, ◌∙◌, append_assoc, arith, nat_lt}
 use Rattle.std.specs.BTreeMap.{is_at}
 use Rattle.std.specs.BTreeSet.{BTreeSet, contains}
 use Rattle.std.specs.List.{list_any}
@@ -32,7 +33,8 @@ joined true false r = refl
 joined false b r = refl
 
 pub gathers_more : (ps : List Place) (i : ℕ) (d : Place) (old new : BTreeSet ℕ) → i < length ps
-    → ((q : ℕ) → contains nat_cmp new q ≡ cond (is_at (nat_cmp (get_or ps i d).file) q) true (contains nat_cmp old q)) → Gathers ps i old → Gathers ps (i + 1) new
+    → ((q : ℕ) → contains nat_cmp new q ≡ cond (is_at (nat_cmp (get_or ps i d).file) q) true (contains nat_cmp old q)) → Gathers ps i old
+    → Gathers ps (i + 1) new
 gathers_more ps i d old new w put h n =
     let x = get_or ps i d in
     let rest = list_any (of_file n) (drop (i + 1) ps) in
@@ -42,7 +44,8 @@ gathers_more ps i d old new w put h n =
 
 -- ---- the numbers of the sources
 
-pub hit_step : (ps : List Place) (xs : List SourceFile) (i : ℕ) (d : SourceFile) (b : Bool) (old new all : List ℕ) → i < length xs → b ≡ list_any (λ p. p.file == i) ps
+pub hit_step : (ps : List Place) (xs : List SourceFile) (i : ℕ) (d : SourceFile) (b : Bool) (old new all : List ℕ) → i < length xs
+    → b ≡ list_any (λ p. p.file == i) ps
     → new ≡ cond b (old ++ i ∷ []) old → old ++ hit_files ps i (drop i xs) ≡ all → new ++ hit_files ps (i + 1) (drop (i + 1) xs) ≡ all
 hit_step ps xs i d b old new all w e n h =
     let rest = hit_files ps (suc i) (drop (i + 1) xs) in
@@ -51,7 +54,8 @@ hit_step ps xs i d b old new all w e n h =
     ap (hit_files ps i) (drop_more xs i d w) ∙ ap (λ t. cond t (i ∷ rest) rest) (sym e) in
     ap (λ m. new ++ hit_files ps m (drop (i + 1) xs)) next ∙ (ap (λ l. l ++ rest) n ∙ (by b ∙ (ap (λ l. old ++ l) (sym at) ∙ h)))
   where
-    by : (t : Bool) → cond t (old ++ i ∷ []) old ++ hit_files ps (suc i) (drop (i + 1) xs) ≡ old ++ cond t (i ∷ hit_files ps (suc i) (drop (i + 1) xs)) (hit_files ps (suc i) (drop (i + 1) xs))
+    by : (t : Bool) → cond t (old ++ i ∷ []) old ++ hit_files ps (suc i) (drop (i + 1) xs) ≡ old ++ cond t
+        (i ∷ hit_files ps (suc i) (drop (i + 1) xs)) (hit_files ps (suc i) (drop (i + 1) xs))
     by true = append_assoc old (i ∷ []) (hit_files ps (suc i) (drop (i + 1) xs))
     by false = refl
 
@@ -80,10 +84,13 @@ units_by : (xs : List SourceFile) → units_of xs ≡ map (λ n. record { name =
 units_by [] = refl
 units_by (x ∷ xs) = ap (λ l. record { name = unit_of x.name; is_body = is_body_name x.name } ∷ l) (units_by xs)
 
-pub still_taken : (olds news : List SourceFile) (m : Option (List ℕ)) → names_of news ≡ names_of olds → too_large news ≡ None → load_refusal olds m ≡ None → load_refusal news m ≡ None
+pub still_taken : (olds news : List SourceFile) (m : Option (List ℕ)) → names_of news ≡ names_of olds → too_large news ≡ None
+    → load_refusal olds m ≡ None → load_refusal news m ≡ None
 still_taken olds news m e small h =
-    let len : length news ≡ length olds = sym (length_map (λ (f : SourceFile). f.name) news) ∙ (ap (λ (l : List (List ℕ)). length l) e ∙ length_map (λ (f : SourceFile). f.name) olds) in
-    let units : units_of news ≡ units_of olds = units_by news ∙ (ap (map (λ n. record { name = unit_of n; is_body = is_body_name n })) e ∙ sym (units_by olds)) in
+    let len : length news ≡ length olds = sym (length_map (λ (f : SourceFile). f.name) news)
+    ∙ (ap (λ (l : List (List ℕ)). length l) e ∙ length_map (λ (f : SourceFile). f.name) olds) in
+    let units : units_of news ≡ units_of olds = units_by news
+    ∙ (ap (map (λ n. record { name = unit_of n; is_body = is_body_name n })) e ∙ sym (units_by olds)) in
     let many : too_many news ≡ too_many olds = many_by news ∙ (ap (λ n. cond (nat_lt 2000 n) (Some (TooMany n)) None) len ∙ sym (many_by olds)) in
     let r1 = none_right (too_many olds) _ h in
     let r2 = none_right (too_large olds) _ r1 in

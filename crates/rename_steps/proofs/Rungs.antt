@@ -14,7 +14,8 @@ use Rattle.binding_model.specs.Renaming.{name_of}
 use Rattle.capture_check.specs.Fault.{IsMet, before}
 use Rattle.rename_model.specs.Ladder.{no_more}
 use Rattle.rename_model.specs.Foot.{IsHit}
-use Rattle.rename_model.specs.Renaming.{IsOperatorAt, IsPunAt, IsBlurredAt, IsOperator, IsBadName, IsSameName, IsOutside, IsPun, IsBlurred, IsGrown, IsClash, IsCapture, IsMislink, watch_of, renamed, refusals_of_binder}
+use Rattle.rename_model.specs.Renaming.{IsOperatorAt, IsPunAt, IsBlurredAt, IsOperator, IsBadName, IsSameName, IsOutside, IsPun, IsBlurred, IsGrown}
+use Rattle.rename_model.specs.Renaming.{IsClash, IsCapture, IsMislink, watch_of, renamed, refusals_of_binder}
 use Rattle.rename_parts.specs.Leasts.{IsLeastOrNone}
 use Rattle.rename_steps.specs.Findings.{refusal_of, IsFree}
 
@@ -72,15 +73,23 @@ module _ (us : List UnitTree) (d : Place) (foot : Foot) (new : Name) where
   other_is : false ≡ bytes_eq new (name_of us d) → new ≢ name_of us d
   other_is e q = true≢false (sym ((bytes_eq-Decides new (name_of us d)).1 q) ∙ sym e)
 
-  pub told : (op va sa : Bool) (ou pu bl : Option Place) → Says op va sa ou pu bl → Told (refusal_of (record { operator = op; valid = va; same = sa; outside = ou; pun = pu; blurred = bl }))
+  pub told : (op va sa : Bool) (ou pu bl : Option Place) → Says op va sa ou pu bl
+      → Told (refusal_of (record { operator = op; valid = va; same = sa; outside = ou; pun = pu; blurred = bl }))
   told true va sa ou pu bl s = λ sources. inl (s.met refl)
   told false false sa ou pu bl s = λ sources. inr (operator_free (s.words refl), inl (sym s.valid))
   told false true true ou pu bl s = λ sources. inr (operator_free (s.words refl), inr (name_free (sym s.valid), inl (same_is s.same)))
-  told false true false (Some at) pu bl s = λ sources. inr (operator_free (s.words refl), inr (name_free (sym s.valid), inr (same_free (other_is s.same), inl (sym s.outside))))
+  told false true false (Some at) pu bl s =
+      λ sources. inr (operator_free (s.words refl), inr (name_free (sym s.valid), inr (same_free (other_is s.same), inl (sym s.outside))))
   told false true false None (Some at) bl s = λ sources.
-      inr (operator_free (s.words refl), inr (name_free (sym s.valid), inr (same_free (other_is s.same), inr (outside_free (sym s.outside), inl s.pun))))
+      inr (
+        operator_free (s.words refl),
+        inr (name_free (sym s.valid), inr (same_free (other_is s.same), inr (outside_free (sym s.outside), inl s.pun))),
+      )
   told false true false None None (Some at) s = λ sources.
-      inr (operator_free (s.words refl), inr (name_free (sym s.valid), inr (same_free (other_is s.same), inr (outside_free (sym s.outside), inr (pun_free s.pun, inl s.blurred)))))
+      inr (
+        operator_free (s.words refl),
+        inr (name_free (sym s.valid), inr (same_free (other_is s.same), inr (outside_free (sym s.outside), inr (pun_free s.pun, inl s.blurred)))),
+      )
   told false true false None None None s = record {
     words = s.words refl;
     valid = sym s.valid;
@@ -91,12 +100,21 @@ module _ (us : List UnitTree) (d : Place) (foot : Foot) (new : Name) where
   }
 
   -- the six conditions are free, and then the rest of the ladder is what is met
-  pub past_six : (sources : List SourceFile) (why : Refusal) → IsFree us d foot new → Rest us d foot new sources why → refusals_of_binder sources us d foot new why
+  pub past_six : (sources : List SourceFile) (why : Refusal) → IsFree us d foot new → Rest us d foot new sources why
+      → refusals_of_binder sources us d foot new why
   past_six sources why f r =
-      inr (operator_free f.words, inr (name_free f.valid, inr (same_free f.other, inr (outside_free f.inside, inr (pun_free (λ p h. f.plain p h.0 h.1), inr (blurred_free f.clear, r))))))
+      inr (
+        operator_free f.words,
+        inr (
+          name_free f.valid,
+          inr
+              (same_free f.other, inr (outside_free f.inside, inr (pun_free (λ p h. f.plain p h.0 h.1), inr (blurred_free f.clear, r)))),
+        ),
+      )
 
   -- if nothing meets the six conditions nor the rest, nothing meets the ladder
-  pub none_met : (sources : List SourceFile) → IsFree us d foot new → (IsMet (Rest us d foot new sources) → ⊥) → (why : Refusal) → refusals_of_binder sources us d foot new why → ⊥
+  pub none_met : (sources : List SourceFile) → IsFree us d foot new → (IsMet (Rest us d foot new sources) → ⊥) → (why : Refusal)
+      → refusals_of_binder sources us d foot new why → ⊥
   none_met sources f n why (inl h) = operator_free f.words (why, h)
   none_met sources f n why (inr (a, inl h)) = name_free f.valid (why, h)
   none_met sources f n why (inr (a, inr (b, inl h))) = same_free f.other (why, h)

@@ -23,5 +23,6 @@ none_bad us d u (why, inl h) = duplicate_free us d why h
 none_bad us d u (why, inr (n, inl h)) = unmatched_free us u why h
 none_bad us d u (why, inr (n, inr (m, h))) = h
 
-pub unmatched_bad : (us : List UnitTree) (item : Place) → ((f a : Place) → Repeats (name_of us) (facts us).groups f a → ⊥) → unmatched us ≡ Some item → IsFirstBad us (Some (refusal.Unmatched item))
+pub unmatched_bad : (us : List UnitTree) (item : Place) → ((f a : Place) → Repeats (name_of us) (facts us).groups f a → ⊥) → unmatched us ≡ Some item
+    → IsFirstBad us (Some (refusal.Unmatched item))
 unmatched_bad us item d u = inr ((λ met. duplicate_free us d met.0 met.1), inl u)

@@ -23,13 +23,15 @@ listed_append : (xs ys : List (Place × Site)) → listed (xs ++ ys) ≡ listed 
 listed_append xs ys = ap (map binder_of) (binding_append xs ys) ∙ map_append (binding xs) (binding ys)
 
 -- a unit before others
-pub unit_listed : (u : UnitTree) (us : List UnitTree) (old mid new all : List Binder) → mid ≡ old ++ listed (file_places u.body) → new ≡ mid ++ listed (file_places u.face)
+pub unit_listed : (u : UnitTree) (us : List UnitTree) (old mid new all : List Binder) → mid ≡ old ++ listed (file_places u.body)
+    → new ≡ mid ++ listed (file_places u.face)
     → old ++ listed (places (u ∷ us)) ≡ all → new ++ listed (places us) ≡ all
 unit_listed u us old mid new all e f h =
     let B = listed (file_places u.body) in
     let F = listed (file_places u.face) in
     let R = listed (places us) in
-    let whole : listed (places (u ∷ us)) ≡ B ++ (F ++ R) = listed_append (file_places u.body) (file_places u.face ++ places us) ∙ ap (λ l. B ++ l) (listed_append (file_places u.face) (places us)) in
+    let whole : listed (places (u ∷ us)) ≡ B ++ (F ++ R) = listed_append (file_places u.body) (file_places u.face ++ places us)
+    ∙ ap (λ l. B ++ l) (listed_append (file_places u.face) (places us)) in
     ap (λ l. l ++ R) (f ∙ ap (λ l. l ++ F) e)
     ∙ (append_assoc (old ++ B) F R ∙ (append_assoc old B (F ++ R) ∙ (ap (λ l. old ++ l) (sym whole) ∙ h)))
 
@@ -43,7 +45,8 @@ placed_listed : (f : ℕ) (xs : List Site) → map binder_of (placed_sites f xs)
 placed_listed f [] = refl
 placed_listed f (x ∷ xs) = ap (λ l. marked f (mark x) ∷ l) (placed_listed f xs)
 
-pub file_listed : (t : FileTree) (f : ℕ) (marks : List Mark) → f ≡ number_of t → marks ≡ map mark (binder_sites t) → map (marked f) marks ≡ listed (file_places (Some t))
+pub file_listed : (t : FileTree) (f : ℕ) (marks : List Mark) → f ≡ number_of t → marks ≡ map mark (binder_sites t)
+    → map (marked f) marks ≡ listed (file_places (Some t))
 file_listed t f marks e m =
     ap (λ n. map (marked n) marks) e
     ∙ (ap (map (marked (number_of t))) m ∙ (sym (placed_listed (number_of t) (binder_sites t)) ∙ ap (map binder_of) (sym (file_binding t))))

@@ -33,4 +33,5 @@ listed_are_binders files survey us is reads =
     let all = listed_bind vs (places vs) (found_all (places vs) (apart_of vs is.sound)) in
     let same : vs ≡ us = one_project files vs us is.resolves.reads reads in
     subst (λ zs. Each (λ b. IsBinder zs b.at) survey.binders.items) same
-    (subst (Each (λ b. IsBinder vs b.at)) (sym is.binders) (each_ordered (λ b. IsBinder vs b.at) (λ b. b.at) (map binder_of (binding (places vs))) all))
+    (subst (Each (λ b. IsBinder vs b.at)) (sym is.binders)
+    (each_ordered (λ b. IsBinder vs b.at) (λ b. b.at) (map binder_of (binding (places vs))) all))

@@ -10,4 +10,5 @@ use Rattle.rename_survey.specs.Survey.{IsSurvey}
 
 -- Law: the binders that a survey lists are binders of the project that its files are read as
 abbrev pub ListedAreBinders : Type 0
-ListedAreBinders = (files : FileSet) (survey : Survey) (us : List UnitTree) → IsSurvey files survey → Reads files us → Each (λ b. IsBinder us b.at) survey.binders.items
+ListedAreBinders = (files : FileSet) (survey : Survey) (us : List UnitTree) → IsSurvey files survey → Reads files us
+    → Each (λ b. IsBinder us b.at) survey.binders.items

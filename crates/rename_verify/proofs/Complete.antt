@@ -1,5 +1,6 @@
 -- The verdict on a valid respelling is yes.
-use Rattle.std.proofs.Common.{◌≡◌, ◌||◌, ◌⊎◌, inl, inr, ℕ, List, [], ◌∷◌, Bool, true, false, cond, Option, Some, None, map, filter, Contains, slice_get, refl, ap, sym, subst, ◌∙◌, unwrap_or, arith}
+use Rattle.std.proofs.Common.{◌≡◌, ◌||◌, ◌⊎◌, inl, inr, ℕ, List, [], ◌∷◌, Bool, true, false, cond, Option, Some, None, map, filter, Contains}
+use Rattle.std.proofs.Common.{slice_get, refl, ap, sym, subst, ◌∙◌, unwrap_or, arith}
 use Rattle.rotor_base.specs.Files.{FileSet, IsProject}
 use Rattle.rotor_base.specs.Place.{same_place}
 use Rattle.rotor_base.specs.declared.place.Goal.{Goal}
@@ -16,7 +17,8 @@ use Rattle.ml_syntax.specs.Sound.{IsSound}
 use Rattle.ml_syntax.specs.Tree.{UnitTree}
 use Rattle.shape_core.specs.Shape.{Name, or_else, some_if, or_value}
 use Rattle.binding_model.specs.Facts.{facts, is_before, put, in_order}
-use Rattle.binding_model.specs.Renaming.{Renaming, places, at_place, name_of, site_name, goal_at, new_word, words_of, respell, Changes, IsFixedSite, IsFree, IsValid}
+use Rattle.binding_model.specs.Renaming.{Renaming, places, at_place, name_of, site_name, goal_at, new_word, words_of, respell, Changes, IsFixedSite}
+use Rattle.binding_model.specs.Renaming.{IsFree, IsValid}
 use Rattle.binding_model.proofs.LastEntries.{same_is}
 use Rattle.binding_model.proofs.Leasts.{place_in}
 use Rattle.binding_model.proofs.Telltale.{apart_of, no_goal}

@@ -1,5 +1,6 @@
 -- What the scan of the facts fixes is what may not take another name.
-use Rattle.std.proofs.Common.{◌≡◌, ◌⊎◌, ◌||◌, inl, inr, List, [], ◌∷◌, Bool, true, false, Option, Some, None, map, filter, flat_map, Contains, refl, ap, sym, subst, ◌∙◌}
+use Rattle.std.proofs.Common.{◌≡◌, ◌⊎◌, ◌||◌, inl, inr, List, [], ◌∷◌, Bool, true, false, Option, Some, None, map, filter, flat_map, Contains, refl}
+use Rattle.std.proofs.Common.{ap, sym, subst, ◌∙◌}
 use Rattle.std.specs.BTreeSet.{BTreeSet, contains}
 use Rattle.std.proofs.lemmas.List.Elements.{Contains-append_left, Contains-append_right, Contains-append_cases}
 use Rattle.rotor_base.specs.Place.{place_cmp}

@@ -1,5 +1,6 @@
 -- The changes that are listed are those of the candidate.
-use Rattle.std.proofs.Common.{◌≡◌, ◌≢◌, ◌||◌, inl, inr, List, [], ◌∷◌, Bool, true, false, not, Some, None, map, filter, Contains, refl, ap, sym, subst, ◌∙◌, arith}
+use Rattle.std.proofs.Common.{◌≡◌, ◌≢◌, ◌||◌, inl, inr, List, [], ◌∷◌, Bool, true, false, not, Some, None, map, filter, Contains, refl, ap, sym}
+use Rattle.std.proofs.Common.{subst, ◌∙◌, arith}
 use Rattle.std.specs.Str.{bytes_eq}
 use Rattle.std.proofs.lemmas.Slice.Eq.{bytes_eq-Decides}
 use Rattle.rotor_base.specs.Place.{same_place}

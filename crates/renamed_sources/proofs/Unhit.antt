@@ -1,5 +1,6 @@
 -- A source without a place that takes the new word stays.
-use Rattle.std.proofs.Common.{◌≡◌, ℕ, zero, suc, ◌+◌, ◌-◌, ◌<◌, ◌≤◌, ◌==◌, ◌⊎◌, inl, inr, List, [], ◌∷◌, ◌++◌, Bool, true, false, true≢false, cond, Option, Some, None, map, take, drop, Contains, refl, ap, sym, subst, ◌∙◌, arith, append_assoc, drop-drop}
+use Rattle.std.proofs.Common.{◌≡◌, ℕ, zero, suc, ◌+◌, ◌-◌, ◌<◌, ◌≤◌, ◌==◌, ◌⊎◌, inl, inr, List, [], ◌∷◌, ◌++◌, Bool, true, false, true≢false, cond}
+use Rattle.std.proofs.Common.{Option, Some, None, map, take, drop, Contains, refl, ap, sym, subst, ◌∙◌, arith, append_assoc, drop-drop}
 use Rattle.std.specs.Prelude.{slice_get}
 use Rattle.std.specs.List.{list_any}
 use Rattle.std.proofs.lemmas.List.Folds.{drop_split}

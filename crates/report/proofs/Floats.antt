@@ -33,5 +33,6 @@ data_plain names (NotLoaded error) = notice_plain (load_notice error)
 data_plain names BadWords = lines_plain (lines_of names BadWords)
 
 -- the text of an object and its end
-pub ended_text : (made known : Data) (text all : List ℕ) → made ≡ known → has_float known ≡ false → (has_float made ≡ false → text ≡ compact_text made) → all ≡ text ++ 10 ∷ [] → all ≡ ended (compact_text known)
+pub ended_text : (made known : Data) (text all : List ℕ) → made ≡ known → has_float known ≡ false
+    → (has_float made ≡ false → text ≡ compact_text made) → all ≡ text ++ 10 ∷ [] → all ≡ ended (compact_text known)
 ended_text made known text all d f t a = a ∙ ap (λ bytes. bytes ++ 10 ∷ []) (t (ap has_float d ∙ f) ∙ ap compact_text d)

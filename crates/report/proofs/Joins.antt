@@ -14,7 +14,8 @@ abbrev lent : List (Bor Word) → List Word
 lent = map (λ w. w.now)
 
 -- one more word
-pub join_more : (words : List (Bor Word)) (i : ℕ) (d : Bor Word) (old new : List ℕ) → i < length words → new ≡ old ++ (get_or words i d).now → old ≡ concat (lent (take i words))
+pub join_more : (words : List (Bor Word)) (i : ℕ) (d : Bor Word) (old new : List ℕ) → i < length words → new ≡ old ++ (get_or words i d).now
+    → old ≡ concat (lent (take i words))
     → new ≡ concat (lent (take (i + 1) words))
 join_more words i d old new h n o =
     let w = (get_or words i d).now in
@@ -24,13 +25,16 @@ join_more words i d old new h n o =
     n ∙ ap (λ zs. zs ++ w) o ∙ sym more
 
 -- all words
-pub join_all : (words : List (Bor Word)) (i : ℕ) (bytes : List ℕ) → length words ≤ i → bytes ≡ concat (lent (take i words)) → bytes ≡ join (lent words)
+pub join_all : (words : List (Bor Word)) (i : ℕ) (bytes : List ℕ) → length words ≤ i → bytes ≡ concat (lent (take i words))
+    → bytes ≡ join (lent words)
 join_all words i bytes h e = e ∙ ap (λ ws. concat (lent ws)) (take_all i words h) ∙ concat-join (lent words)
 
 -- one more line, of the next item
-pub lines_more : {X : Type 0} (f : X → Word) (xs : List X) (i : ℕ) (d : X) (start before after : List Word) (line : Word) → i < length xs → after ≡ before ++ line ∷ [] → line ≡ f (get_or xs i d)
+pub lines_more : {X : Type 0} (f : X → Word) (xs : List X) (i : ℕ) (d : X) (start before after : List Word) (line : Word) → i < length xs
+    → after ≡ before ++ line ∷ [] → line ≡ f (get_or xs i d)
     → before ≡ start ++ map f (take i xs) → after ≡ start ++ map f (take (i + 1) xs)
 lines_more f xs i d start before after line h a l b =
     let more : map f (take (i + 1) xs) ≡ map f (take i xs) ++ f (get_or xs i d) ∷ [] =
     ap (map f) (take_more xs i d h) ∙ map-append f (take i xs) (get_or xs i d ∷ []) in
-    a ∙ ap (λ w. before ++ w ∷ []) l ∙ ap (λ ls. ls ++ f (get_or xs i d) ∷ []) b ∙ append_assoc start (map f (take i xs)) (f (get_or xs i d) ∷ []) ∙ ap (λ ls. start ++ ls) (sym more)
+    a ∙ ap (λ w. before ++ w ∷ []) l ∙ ap (λ ls. ls ++ f (get_or xs i d) ∷ []) b ∙ append_assoc start (map f (take i xs)) (f (get_or xs i d) ∷ [])
+    ∙ ap (λ ls. start ++ ls) (sym more)

@@ -67,7 +67,8 @@ undone_text false = codes "no"
 
 abbrev pub sampled_line : SampleReport → Word
 sampled_line sampled =
-    join (codes "units " ∷ decimal sampled.units ∷ codes " footprint " ∷ decimal sampled.footprint ∷ codes " references " ∷ decimal sampled.references ∷ codes " undone " ∷ undone_text sampled.undone ∷ [])
+    join (codes "units " ∷ decimal sampled.units ∷ codes " footprint " ∷ decimal sampled.footprint ∷ codes " references " ∷ decimal sampled.references
+    ∷ codes " undone " ∷ undone_text sampled.undone ∷ [])
 
 abbrev pub usage_line : Word
 usage_line = codes "usage: rotor check | footprint TARGET | rename TARGET NAME [--write | --safe] [--json] | sample N | verify OLDLIST NEWLIST | batch FILE [--write] | recover"

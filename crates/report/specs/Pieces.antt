@@ -5,7 +5,8 @@ use Rattle.rotor_base.specs.declared.place.Place.{Place}
 use Rattle.rotor_base.specs.declared.place.Goal.{Goal}
 use Rattle.rotor_base.specs.declared.place.Goal.TheVariants.{Decl, Outside, Missing, Hidden, Blur}
 use Rattle.rotor_base.specs.declared.token.FormKind.{FormKind}
-use Rattle.rotor_base.specs.declared.token.FormKind.TheVariants.{Object, Package, RecModule, AbsModType, WithModule, LocalModule, OpenStruct, Extension, BindOp, Hash, AmpOr}
+use Rattle.rotor_base.specs.declared.token.FormKind.TheVariants.{Object, Package, RecModule, AbsModType, WithModule, LocalModule, OpenStruct}
+use Rattle.rotor_base.specs.declared.token.FormKind.TheVariants.{Extension, BindOp, Hash, AmpOr}
 
 abbrev pub Word : Type 0
 Word = List ℕ

@@ -14,5 +14,6 @@ module _ (P : Place → Type 0) where
   to_places f [] h = tt
   to_places f (x ∷ xs) h = (h.0, to_places f xs h.1)
 
-  pub named : (bs : List Binder) (r : List (Place × Name)) → map (λ (e : Place × Name). e.0) r ≡ map (λ (b : Binder). b.at) bs → Each (λ b. P b.at) bs → Each (λ e. P e.0) r
+  pub named : (bs : List Binder) (r : List (Place × Name)) → map (λ (e : Place × Name). e.0) r ≡ map (λ (b : Binder). b.at) bs → Each (λ b. P b.at) bs
+      → Each (λ e. P e.0) r
   named bs r same h = of_places (λ (e : Place × Name). e.0) r (subst (Each P) (sym same) (to_places (λ (b : Binder). b.at) bs h))

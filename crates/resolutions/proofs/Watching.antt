@@ -16,5 +16,6 @@ use Rattle.rename_steps.proofs.Bridge.{watched}
 same : (us : List UnitTree) (d : Place) (w : Watch) → w.old ≡ name_of us d → w ≡ watch_of us d w.foot w.new
 same us d w e = ap (λ o. record { old = o; new = w.new; foot = w.foot }) e
 
-pub is_watched : (us : List UnitTree) (d : Place) (w : Watch) → IsSound us → IsFoot (facts us).links d w.foot → IsBinder us d → w.old ≡ name_of us d → IsFree us d w.foot w.new → IsWatched us w
+pub is_watched : (us : List UnitTree) (d : Place) (w : Watch) → IsSound us → IsFoot (facts us).links d w.foot → IsBinder us d → w.old ≡ name_of us d
+    → IsFree us d w.foot w.new → IsWatched us w
 is_watched us d w sound is binds old free = subst (IsWatched us) (sym (same us d w old)) (watched us d w.foot w.new sound is free binds).0

@@ -1,5 +1,6 @@
 -- The answer of a match, and the links of or-patterns, are what the steps add.
-use Rattle.std.proofs.Common.{◌≡◌, Option, Some, None, ◌≤◌, ◌<◌, ◌+◌, ◌-◌, ◌++◌, List, [], ◌∷◌, ℕ, Bool, true, false, length, length-append, refl, sym, ap, ◌∙◌, arith, nat_le, nat_lt, if◌then◌else◌, append_assoc, append-nil}
+use Rattle.std.proofs.Common.{◌≡◌, Option, Some, None, ◌≤◌, ◌<◌, ◌+◌, ◌-◌, ◌++◌, List, [], ◌∷◌, ℕ, Bool, true, false, length, length-append, refl}
+use Rattle.std.proofs.Common.{sym, ap, ◌∙◌, arith, nat_le, nat_lt, if◌then◌else◌, append_assoc, append-nil}
 use Rattle.std.proofs.lemmas.Bool.Decides.{leb_tells}
 use Rattle.rotor_base.specs.declared.place.Link.{Link}
 use Rattle.rotor_base.specs.declared.place.Goal.{Goal}
@@ -25,7 +26,11 @@ over w h = grind (arith, h, leb_tells w 4194304)
 abbrev more : Found → Steps → Bool → Found
 more n ss b =
     if b
-    then record n { links = n.links ++ (trace link ss).told; sums = record n.sums { work = n.sums.work + (trace link ss).work }; recorder = recorded n.recorder ss }
+    then record n {
+      links = n.links ++ (trace link ss).told;
+      sums = record n.sums { work = n.sums.work + (trace link ss).work };
+      recorder = recorded n.recorder ss;
+    }
     else record n { sums = record n.sums { work = 4194305 } }
 
 pub answered_within : (n : Found) (ss : Steps) (ls : List Link) (w : ℕ) → n.sums.work ≤ 4194304
@@ -33,7 +38,8 @@ pub answered_within : (n : Found) (ss : Steps) (ls : List Link) (w : ℕ) → n.
     → with_links n ss ≡ record n { links = n.links ++ ls; sums = record n.sums { work = n.sums.work + w }; recorder = recorded n.recorder ss }
 answered_within n ss ls w h (l, v, r) =
     ap (more n ss) (within (n.sums.work + (trace link ss).work) (omega (arith, h, r)))
-    ∙ sym (ap (λ k. record n { links = n.links ++ k; sums = record n.sums { work = n.sums.work + (trace link ss).work }; recorder = recorded n.recorder ss }) l)
+    ∙ sym (ap (λ k. record n
+    { links = n.links ++ k; sums = record n.sums { work = n.sums.work + (trace link ss).work }; recorder = recorded n.recorder ss }) l)
     ∙ sym (ap (λ k. record n { links = n.links ++ ls; sums = record n.sums { work = n.sums.work + k }; recorder = recorded n.recorder ss }) v)
 
 pub answered_past : (n : Found) (ss : Steps) → n.sums.work ≤ 4194304 → 4194304 - n.sums.work < (trace link ss).work
@@ -56,7 +62,8 @@ told_recorded (Some r) os = Some (record r {
 abbrev ties_recorded : Option Recorder → Entries → Entries → Option Recorder
 ties_recorded r p src = told_recorded r (λ w. (tied (look w) p src).told)
 
-tie_first : (r : Option Recorder) (x : List ℕ) (g : Goal) (es src : Entries) → ties_recorded (tie_recorded r x g src) es src ≡ ties_recorded r (a_val x g es) src
+tie_first : (r : Option Recorder) (x : List ℕ) (g : Goal) (es src : Entries) → ties_recorded (tie_recorded r x g src) es src ≡ ties_recorded r
+    (a_val x g es) src
 unfolding ◌&◌
 tie_first None x g es src = refl
 tie_first (Some r) x g es src =
@@ -72,13 +79,16 @@ tie_nothing : (r : Option Recorder) (src : Entries) → r ≡ ties_recorded r no
 tie_nothing None src = refl
 tie_nothing (Some r) src = ap (λ l. Some (record r { looks = l })) (looks_alike refl (sym (append-nil r.looks.links)) (omega arith))
 
-tied_so : (n : Found) (src p : Entries) → tied_to n src p ≡ record n { links = n.links ++ (tied link p src).told; recorder = ties_recorded n.recorder p src }
+tied_so : (n : Found) (src p : Entries)
+    → tied_to n src p ≡ record n { links = n.links ++ (tied link p src).told; recorder = ties_recorded n.recorder p src }
 unfolding ◌&◌
-tied_so n src none = ap (λ l. record n { links = l }) (sym (append-nil n.links)) ∙ ap (λ r. record n { links = n.links ++ []; recorder = r }) (tie_nothing n.recorder src)
+tied_so n src none = ap (λ l. record n { links = l }) (sym (append-nil n.links)) ∙ ap (λ r. record n { links = n.links ++ []; recorder = r })
+    (tie_nothing n.recorder src)
 tied_so n src (a_val x g es) =
     let l = link x g none (Some src) in
     tied_so (record n { links = n.links ++ l ∷ []; recorder = tie_recorded n.recorder x g src }) src es
-    ∙ ap (λ k. record n { links = k; recorder = ties_recorded (tie_recorded n.recorder x g src) es src }) (append_assoc n.links (l ∷ []) (tied link es src).told)
+    ∙ ap (λ k. record n { links = k; recorder = ties_recorded (tie_recorded n.recorder x g src) es src })
+    (append_assoc n.links (l ∷ []) (tied link es src).told)
     ∙ ap (λ r. record n { links = n.links ++ l ∷ (tied link es src).told; recorder = r }) (tie_first n.recorder x g es src)
 tied_so n src (a_mod X s es) = tied_so n src es
 tied_so n src (a_mty S s es) = tied_so n src es
@@ -116,7 +126,8 @@ unfolding ◌&◌
 both_told n p q =
     ap (λ m. tied_to m p q) (tied_so n q p)
     ∙ tied_so (record n { links = n.links ++ (tied link p q).told; recorder = ties_recorded n.recorder p q }) p q
-    ∙ ap (λ l. record n { links = l; recorder = ties_recorded (ties_recorded n.recorder p q) q p }) (append_assoc n.links (tied link p q).told (tied link q p).told)
+    ∙ ap (λ l. record n { links = l; recorder = ties_recorded (ties_recorded n.recorder p q) q p })
+    (append_assoc n.links (tied link p q).told (tied link q p).told)
     ∙ ap (λ r. record n { links = n.links ++ ((tied link p q).told ++ (tied link q p).told); recorder = r }) (both_recorded n.recorder p q)
 
 abbrev worked : Found → ℕ → Found

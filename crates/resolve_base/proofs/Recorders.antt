@@ -27,7 +27,8 @@ pub uses_alone : (r : Option Recorder) (at : Place) (x : Name) (sc : Entries) �
 uses_alone None at x sc = refl
 uses_alone (Some r) at x sc = ap Some (refs_more r (ref_look r.watch at x (value_at sc x) sc))
 
-pub under_struct : (r : Option Recorder) (at : Place) (x : Name) (es : Entries) → use_recorded r at x (value_in (Struct es) x) es ≡ recorded r (UseUnder at x (Struct es))
+pub under_struct : (r : Option Recorder) (at : Place) (x : Name) (es : Entries) → use_recorded r at x (value_in (Struct es) x) es ≡ recorded r
+    (UseUnder at x (Struct es))
 under_struct None at x es = refl
 under_struct (Some r) at x es = ap Some (refs_more r (ref_look r.watch at x (value_in (Struct es) x) es))
 

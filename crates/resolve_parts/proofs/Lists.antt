@@ -10,4 +10,5 @@ use Rattle.resolve_parts.specs.Tied.{ties_from}
 
 pub ties_so : (file : ℕ) (before : List Site) (ps : Pats) → ties_from file (bound file before) ps ≡ ties file before ps
 ties_so file before no_pat = refl
-ties_so file before (more_pat p ps) = ap (λ s. GroupOf (bound file (variables p)) ⨾ TieOf (bound file (variables p)) (bound file before) ⨾ s) (ties_so file (variables p) ps)
+ties_so file before (more_pat p ps) = ap (λ s. GroupOf (bound file (variables p)) ⨾ TieOf (bound file (variables p)) (bound file before) ⨾ s)
+    (ties_so file (variables p) ps)

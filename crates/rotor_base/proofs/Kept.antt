@@ -1,5 +1,6 @@
 -- What is known of the files of a project.
-use Rattle.std.proofs.Common.{◌≡◌, ℕ, ◌≤◌, List, [], ◌∷◌, Bool, true, false, ◌||◌, cond, Option, Some, None, option_map, refl, length, sum_by, nat_lt, All, arith}
+use Rattle.std.proofs.Common.{◌≡◌, ℕ, ◌≤◌, List, [], ◌∷◌, Bool, true, false, ◌||◌, cond, Option, Some, None, option_map, refl, length, sum_by, nat_lt}
+use Rattle.std.proofs.Common.{All, arith}
 use Rattle.std.specs.Option.{option_or}
 use Rattle.std.specs.List.{list_any, AllByRecursion}
 use Rattle.std.proofs.lemmas.List.Elements.{All-from_recursion}
@@ -23,7 +24,8 @@ not_yet false x later e = e
 -- a test that no front meets is not met by the whole list
 none_first : {X : Type 0} (test : List X → Bool) (x : X) (xs : List X) → first_with test (x ∷ xs) ≡ None → test (x ∷ xs) ≡ false
 none_first test x [] e = no_error (test (x ∷ [])) x e
-none_first test x (y ∷ ys) e = none_first (λ front. test (x ∷ front)) y ys (not_yet (test (x ∷ [])) x (first_with (λ front. test (x ∷ front)) (y ∷ ys)) e)
+none_first test x (y ∷ ys) e =
+    none_first (λ front. test (x ∷ front)) y ys (not_yet (test (x ∷ [])) x (first_with (λ front. test (x ∷ front)) (y ∷ ys)) e)
 
 both_false : (a b : Bool) → (a || b) ≡ false → (a ≡ false) × (b ≡ false)
 both_false true b e = cc
@@ -32,7 +34,8 @@ both_false false b e = (refl, e)
 at_most : (m n : ℕ) → nat_lt m n ≡ false → n ≤ m
 at_most m n e = grind arith
 
-each_small : (files : List SourceFile) → list_any (λ file. nat_lt 1048576 (length file.bytes)) files ≡ false → AllByRecursion (λ file. length file.bytes ≤ 1048576) files
+each_small : (files : List SourceFile) → list_any (λ file. nat_lt 1048576 (length file.bytes)) files ≡ false
+    → AllByRecursion (λ file. length file.bytes ≤ 1048576) files
 each_small [] e = tt
 each_small (x ∷ xs) e =
     let h = both_false (nat_lt 1048576 (length x.bytes)) (list_any (λ file. nat_lt 1048576 (length file.bytes)) xs) e in
@@ -60,7 +63,8 @@ project_fits : (files : FileSet) → IsProject files → are_over files.entries 
 project_fits files h = keep_limits files.entries (neither _ _ (neither _ _ h.taken).1).0
 
 pub small_files : (files : FileSet) → IsProject files → All (λ file. length file.bytes ≤ 1048576) files.entries
-small_files files h = All-from_recursion (λ file. length file.bytes ≤ 1048576) files.entries (each_small files.entries (both_false _ _ (project_fits files h)).0)
+small_files files h = All-from_recursion (λ file. length file.bytes ≤ 1048576) files.entries
+    (each_small files.entries (both_false _ _ (project_fits files h)).0)
 
 pub total_fits : (files : FileSet) → IsProject files → sum_by (λ file. length file.bytes) files.entries ≤ 8388608
 total_fits files h = at_most 8388608 (sum_by (λ file. length file.bytes) files.entries) (both_false _ _ (project_fits files h)).1

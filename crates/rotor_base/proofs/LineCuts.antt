@@ -1,5 +1,6 @@
 -- The lines of a text, one after another.
-use Rattle.std.proofs.Common.{◌≡◌, ◌≢◌, ℕ, suc, ◌+◌, ◌<◌, ◌≤◌, nat_lt, ne_eqb, Some, None, List, [], ◌∷◌, Bool, eqb, true, false, not, cond, refl, ap, ◌∙◌, length, take, drop, arith}
+use Rattle.std.proofs.Common.{◌≡◌, ◌≢◌, ℕ, suc, ◌+◌, ◌<◌, ◌≤◌, nat_lt, ne_eqb, Some, None, List, [], ◌∷◌, Bool, eqb, true, false, not, cond, refl, ap}
+use Rattle.std.proofs.Common.{◌∙◌, length, take, drop, arith}
 use Rattle.std.specs.List.{slice_split, onto_first, position, position_or_len, before_first, after_first}
 use Rattle.std.specs.Str.Lines.{lines, lines_of_parts, strip_carriage_return}
 use Rattle.std.proofs.lemmas.List.Splits.{slice_split_first, length-slice_split}
@@ -16,9 +17,11 @@ pub lines_ended : (bs : List ℕ) → position_or_len (λ b. eqb b 10) bs < leng
     → lines bs ≡ strip_carriage_return (take (position_or_len (λ b. eqb b 10) bs) bs) ∷ lines (drop (position_or_len (λ b. eqb b 10) bs + 1) bs)
 lines_ended bs l =
     let p = λ (b : ℕ). eqb b 10 in
-    ap lines_of_parts (slice_split_first p bs 0 l) ∙ parts-cons (before_first p bs) (slice_split p (after_first p bs)) (omega (arith, length-slice_split p (after_first p bs)))
+    ap lines_of_parts (slice_split_first p bs 0 l) ∙ parts-cons (before_first p bs) (slice_split p (after_first p bs))
+    (omega (arith, length-slice_split p (after_first p bs)))
 
-not_split_by : (b : ℕ) (bs : List ℕ) (t : Bool) → (position_or_len (λ b. eqb b 10) bs ≡ length bs → slice_split (λ b. eqb b 10) bs ≡ bs ∷ []) → cond (not t) (1 + position_or_len (λ b. eqb b 10) bs) 0 ≡ length (b ∷ bs)
+not_split_by : (b : ℕ) (bs : List ℕ) (t : Bool) → (position_or_len (λ b. eqb b 10) bs ≡ length bs → slice_split (λ b. eqb b 10) bs ≡ bs ∷ [])
+    → cond (not t) (1 + position_or_len (λ b. eqb b 10) bs) 0 ≡ length (b ∷ bs)
     → cond t ([] ∷ slice_split (λ b. eqb b 10) bs) (onto_first b (slice_split (λ b. eqb b 10) bs)) ≡ (b ∷ bs) ∷ []
 not_split_by b bs true h e = absurd (omega (arith, e))
 not_split_by b bs false h e = ap (onto_first b) (h (omega (arith, e)))
@@ -34,10 +37,12 @@ none_at a b false h l e = grind arith
 -- no LF ends the last line
 pub lines_open : (bs : List ℕ) → 0 < length bs → position_or_len (λ b. eqb b 10) bs ≡ length bs → lines bs ≡ bs ∷ []
 lines_open [] l e = absurd (omega arith)
-lines_open (b ∷ bs) l e = ap lines_of_parts (not_split (b ∷ bs) e) ∙ ap (λ t. cond t [] ((b ∷ bs) ∷ [])) (ne_eqb (length (b ∷ bs)) 0 (λ z. omega arith))
+lines_open (b ∷ bs) l e = ap lines_of_parts (not_split (b ∷ bs) e)
+    ∙ ap (λ t. cond t [] ((b ∷ bs) ∷ [])) (ne_eqb (length (b ∷ bs)) 0 (λ z. omega arith))
 
 -- a front as long as the whole ends behind it
-all_before : (bs line : List ℕ) → line ≡ take (position_or_len (λ b. eqb b 10) bs) bs → length line ≡ length bs → position_or_len (λ b. eqb b 10) bs ≡ length bs
+all_before : (bs line : List ℕ) → line ≡ take (position_or_len (λ b. eqb b 10) bs) bs → length line ≡ length bs
+    → position_or_len (λ b. eqb b 10) bs ≡ length bs
 all_before bs line is whole =
     let within = prefix_len-le-length (λ (b : ℕ). not (eqb b 10)) bs in
     grind (arith, common_steps)
@@ -87,4 +92,5 @@ feeds_cut (b ∷ bs) some = feeds_by b bs (eqb b 10) (feeds_cut bs)
 
 -- no LF is found, so all bytes precede it
 pub no_feed : (bs : List ℕ) → position (λ b. eqb b 10) bs ≡ None → length bs ≡ position_or_len (λ b. eqb b 10) bs
-no_feed bs e = none_at (position_or_len (λ b. eqb b 10) bs) (length bs) (nat_lt (position_or_len (λ b. eqb b 10) bs) (length bs)) refl (prefix_len-le-length (λ (b : ℕ). not (eqb b 10)) bs) e
+no_feed bs e = none_at (position_or_len (λ b. eqb b 10) bs) (length bs) (nat_lt (position_or_len (λ b. eqb b 10) bs) (length bs)) refl
+    (prefix_len-le-length (λ (b : ℕ). not (eqb b 10)) bs) e

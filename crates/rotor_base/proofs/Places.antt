@@ -17,7 +17,8 @@ pub place_total : IsTotalOrder place_cmp
 place_total = then_total (on_total (λ (p : Place). p.file) nat_cmp_total) (on_total (λ (p : Place). p.token) nat_cmp_total)
 
 -- what the two comparisons of a place's parts say
-compared : (p q : Place) (r s : Ordering) → r ≡ nat_cmp p.file q.file → s ≡ nat_cmp p.token q.token → MatchOrdering (ordering_then r s) (IsBefore p q) (p ≡ q) (IsBefore q p)
+compared : (p q : Place) (r s : Ordering) → r ≡ nat_cmp p.file q.file → s ≡ nat_cmp p.token q.token
+    → MatchOrdering (ordering_then r s) (IsBefore p q) (p ≡ q) (IsBefore q p)
 compared p q Less s e f = inl (ranked p.file q.file Less e)
 compared p q Greater s e f = inl (ranked p.file q.file Greater e)
 compared p q Equal Less e f = inr (ranked p.file q.file Equal e, ranked p.token q.token Less f)

@@ -13,7 +13,8 @@ pub some_is : {A : Type 0} (x y : A) → Some x ≡ Some y → x ≡ y
 some_is x y e = cc
 
 -- a word that is below the names of sources is below each of them
-below_at : (x : List ℕ) (fs : List SourceFile) (k : ℕ) (f : SourceFile) → AllByRecursion (λ y. slice_cmp nat_cmp x y ≡ Less) (names_of fs) → slice_get fs k ≡ Some f
+below_at : (x : List ℕ) (fs : List SourceFile) (k : ℕ) (f : SourceFile) → AllByRecursion (λ y. slice_cmp nat_cmp x y ≡ Less) (names_of fs)
+    → slice_get fs k ≡ Some f
     → slice_cmp nat_cmp x f.name ≡ Less
 below_at x [] k f h e = cc
 below_at x (g ∷ fs) zero f h e = subst (λ (y : SourceFile). slice_cmp nat_cmp x y.name ≡ Less) (some_is g f e) h.0
@@ -26,6 +27,7 @@ not_below x e =
     absurd cc
 
 -- and so it is the name of none
-pub not_named : (x : List ℕ) (fs : List SourceFile) (k : ℕ) (f : SourceFile) → AllByRecursion (λ y. slice_cmp nat_cmp x y ≡ Less) (names_of fs) → slice_get fs k ≡ Some f
+pub not_named : (x : List ℕ) (fs : List SourceFile) (k : ℕ) (f : SourceFile) → AllByRecursion (λ y. slice_cmp nat_cmp x y ≡ Less) (names_of fs)
+    → slice_get fs k ≡ Some f
     → x ≡ f.name → ⊥
 not_named x fs k f h e same = not_below x (subst (λ (n : List ℕ). slice_cmp nat_cmp x n ≡ Less) (sym same) (below_at x fs k f h e))

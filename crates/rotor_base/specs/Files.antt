@@ -1,5 +1,6 @@
 -- The sources of a folder with their manifest, and which of them are taken as a project's files.
-use Rattle.std.specs.Prelude.{◌≡◌, ◌⊎◌, ℕ, suc, List, [], ◌∷◌, Bool, true, ◌&&◌, ◌||◌, not, if◌then◌else◌, Option, Some, None, option_map, length, map, filter, sum_by, nat_lt, codes}
+use Rattle.std.specs.Prelude.{◌≡◌, ◌⊎◌, ℕ, suc, List, [], ◌∷◌, Bool, true, ◌&&◌, ◌||◌, not, if◌then◌else◌, Option, Some, None, option_map, length}
+use Rattle.std.specs.Prelude.{map, filter, sum_by, nat_lt, codes}
 use Rattle.std.specs.Option.{option_or}
 use Rattle.std.specs.List.{list_any, list_all, fold}
 use Rattle.std.specs.List.Sorted.{IsStrictlySortedBy}
@@ -32,7 +33,8 @@ too_many files = if nat_lt max_sources (length files) then Some (TooMany (length
 
 -- one of these sources has more than 1,048,576 bytes, or all of them together more than 8,388,608
 abbrev pub are_over : List SourceFile → Bool
-are_over files = list_any (λ file. nat_lt max_file_bytes (length file.bytes)) files || nat_lt max_total_bytes (sum_by (λ file. length file.bytes) files)
+are_over files = list_any (λ file. nat_lt max_file_bytes (length file.bytes)) files || nat_lt max_total_bytes
+    (sum_by (λ file. length file.bytes) files)
 
 -- the first source with which those up to it are over the limits on bytes
 unfoldable pub too_large : List SourceFile → Option LoadError
@@ -72,7 +74,8 @@ bad_line [] [] = None
 bad_line [] (unit ∷ units) = Some 1
 bad_line ([] ∷ lines) units = option_map suc (bad_line lines units)
 bad_line ((b ∷ bs) ∷ lines) units =
-    if list_any (λ unit. bytes_eq unit.name (b ∷ bs)) units then option_map suc (bad_line lines (filter (λ unit. not (bytes_eq unit.name (b ∷ bs))) units)) else Some 1
+    if list_any (λ unit. bytes_eq unit.name (b ∷ bs)) units then option_map suc
+    (bad_line lines (filter (λ unit. not (bytes_eq unit.name (b ∷ bs))) units)) else Some 1
 
 -- a line of the manifest names no unit, or one that an earlier line names, or a unit has no line
 unfoldable pub bad_manifest : List SourceUnit → Option (List ℕ) → Option LoadError

@@ -44,7 +44,8 @@ IsBadLine units lines (Some number) = IsFirstBad units lines number ⊎ IsShort 
 
 -- `bad_line` is this answer exactly if the lines are so
 abbrev pub AnswersBadLine : Type 0
-AnswersBadLine = (lines : List (List ℕ)) (units : List SourceUnit) (answer : Option ℕ) → (bad_line lines units ≡ answer) ↔ IsBadLine units lines answer
+AnswersBadLine = (lines : List (List ℕ)) (units : List SourceUnit) (answer : Option ℕ) → (bad_line lines units ≡ answer)
+    ↔ IsBadLine units lines answer
 
 -- units that have the same names have the same bad line
 abbrev pub DependsOnNames : Type 0

@@ -37,4 +37,5 @@ is_reserved_word word = is_keyword_word word || bytes_eq word (codes "_")
 
 -- the words that may name a value
 abbrev pub is_value_name : List ℕ → Bool
-is_value_name word = starts_as_value_name word && nat_le (length word) max_name_bytes && not (is_reserved_word word) && list_all is_identifier_byte word
+is_value_name word = starts_as_value_name word && nat_le (length word) max_name_bytes && not (is_reserved_word word) && list_all is_identifier_byte
+    word

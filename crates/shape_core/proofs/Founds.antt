@@ -2,7 +2,8 @@
 use Rattle.std.proofs.Common.{◌≡◌, ℕ, ◌≤◌, ◌+◌, Bool, true, false, List, [], ◌∷◌, Option, Some, None, refl, sym, ap, subst, ◌∙◌, arith}
 use Rattle.std.proofs.lemmas.Slice.Eq.{bytes_eq-Decides}
 use Rattle.std.specs.Prelude.{bytes_eq}
-use Rattle.shape_core.specs.Shape.{Name, Shape, Struct, Entries, none, a_val, a_mod, a_mty, a_dark, mods, mtys, or_else, or_value, some_if, last_of, depth, depths}
+use Rattle.shape_core.specs.Shape.{Name, Shape, Struct, Entries, none, a_val, a_mod, a_mty, a_dark, mods, mtys, or_else, or_value, some_if, last_of}
+use Rattle.shape_core.specs.Shape.{depth, depths}
 use Rattle.shape_core.specs.Respell.{over}
 
 -- what holds of each entry of a list
@@ -14,14 +15,16 @@ some_if-is : {V : Type 0} (P : Name → V → Type 0) (b : Bool) (y x : Name) (v
 some_if-is P true y x v u h p e = let ey : y ≡ x = h refl in let ev : v ≡ u = cc in subst (λ z. P z u) ey (subst (λ z. P y z) ev p)
 some_if-is P false y x v u h p e = absurd cc
 
-has_either : {V : Type 0} (P : Name → V → Type 0) (b : Bool) (y x : Name) (v u : V) → (b ≡ true → y ≡ x) → P y v → (o : Option V) → (o ≡ Some u → P x u) → or_else o (some_if b v) ≡ Some u → P x u
+has_either : {V : Type 0} (P : Name → V → Type 0) (b : Bool) (y x : Name) (v u : V) → (b ≡ true → y ≡ x) → P y v → (o : Option V)
+    → (o ≡ Some u → P x u) → or_else o (some_if b v) ≡ Some u → P x u
 has_either P b y x v u h p (Some t) k e = k e
 has_either P b y x v u h p None k e = some_if-is P b y x v u h p e
 
 -- what holds of each entry holds of the one that is found
 pub last_of-has : {V : Type 0} (P : Name → V → Type 0) (es : List (Name × V)) (x : Name) (u : V) → Each P es → last_of es x ≡ Some u → P x u
 last_of-has P [] x u h e = absurd cc
-last_of-has P (a ∷ es) x u h e = has_either P (bytes_eq a.0 x) a.0 x a.1 u (bytes_eq-Decides a.0 x).0 h.0 (last_of es x) (λ k. last_of-has P es x u h.1 k) e
+last_of-has P (a ∷ es) x u h e = has_either P (bytes_eq a.0 x) a.0 x a.1 u (bytes_eq-Decides a.0 x).0 h.0 (last_of es x)
+    (λ k. last_of-has P es x u h.1 k) e
 
 -- a list with its values mapped
 abbrev pub each : {V W : Type 0} → (V → W) → List (Name × V) → List (Name × W)

@@ -2,7 +2,8 @@
 use Rattle.std.proofs.Common.{◌≡◌, ◌+◌, List, [], ◌∷◌, ◌++◌, Option, Some, None, refl, sym, ap, ◌∙◌, arith}
 use Rattle.std.specs.Prelude.{bytes_eq, max}
 use Rattle.rotor_base.specs.declared.place.Place.{Place}
-use Rattle.shape_core.specs.Shape.{Name, Entries, none, a_val, a_mod, a_mty, a_dark, ◌⊕◌, vals, mods, mtys, darks, or_else, some_if, unless_some, last_of, passed, last_place, weights, depths}
+use Rattle.shape_core.specs.Shape.{Name, Entries, none, a_val, a_mod, a_mty, a_dark, ◌⊕◌, vals, mods, mtys, darks, or_else, some_if, unless_some}
+use Rattle.shape_core.specs.Shape.{last_of, passed, last_place, weights, depths}
 
 pub or_else_none : {V : Type 0} (o : Option V) → or_else o None ≡ o
 or_else_none None = refl
@@ -84,7 +85,8 @@ unless_same None a = refl
 unless_same (Some v) a = refl
 
 -- one more Dark entry in front
-front : {V : Type 0} (o p : Option V) (at : Place) (a b : List Place) → unless_some (or_else o p) (at ∷ unless_some o (a ++ b) b) (unless_some o (a ++ b) b) ≡ unless_some o (unless_some p (at ∷ a) a ++ b) b
+front : {V : Type 0} (o p : Option V) (at : Place) (a b : List Place) → unless_some (or_else o p) (at ∷ unless_some o (a ++ b) b)
+    (unless_some o (a ++ b) b) ≡ unless_some o (unless_some p (at ∷ a) a ++ b) b
 front None None at a b = refl
 front None (Some v) at a b = refl
 front (Some v) p at a b = refl

@@ -1,7 +1,8 @@
 -- Matches: their equations without the number of levels.
 use Rattle.std.proofs.Common.{◌≡◌, ℕ, zero, suc, ◌+◌, ◌<◌, ◌≤◌, List, [], ◌∷◌, ◌++◌, Option, Some, refl, ap, ◌∙◌, arith}
 use Rattle.rotor_base.specs.declared.place.Goal.{Goal}
-use Rattle.shape_core.specs.Shape.{Name, Shape, Struct, Functor, Unitary, Opaque, Entries, none, a_val, a_mod, a_mty, a_dark, find_mod, find_mty, unless_some, depth, depths}
+use Rattle.shape_core.specs.Shape.{Name, Shape, Struct, Functor, Unitary, Opaque, Entries, none, a_val, a_mod, a_mty, a_dark, find_mod, find_mty}
+use Rattle.shape_core.specs.Shape.{unless_some, depth, depths}
 use Rattle.shape_core.specs.Links.{Trace, ◌&◌, nothing, a_step, one, or_empty, pin_vals, match_entries, match_step, match_to, matched}
 use Rattle.shape_core.proofs.Founds.{mod_or_empty, mty_or_empty}
 
@@ -64,12 +65,15 @@ module _ {A : Type 0} (tell : Name → Goal → Entries → Option Entries → A
   -- one level more, of matchers that agree below a number of levels
   step_same : (go go' : Shape → Shape → Trace A) (n : ℕ) → ((s t : Shape) → depth s + depth t < n → go s t ≡ go' s t)
       → (s t : Shape) → depth s + depth t < suc n → match_step tell go s t ≡ match_step tell go' s t
-  step_same go go' n h (Struct es) (Struct ts) l = ap (λ l. a_step & l) (entries_same go go' es (depths ts) (λ s t ds dt. (h s t (omega (arith, l, ds, dt)), h t s (omega (arith, l, ds, dt)))) ts (omega arith))
+  step_same go go' n h (Struct es) (Struct ts) l =
+      ap (λ l. a_step & l) (entries_same go go' es (depths ts) (λ s t ds dt. (h s t (omega (arith, l, ds, dt)), h t s (omega (arith, l, ds, dt)))) ts
+      (omega arith))
   step_same go go' n h (Struct es) (Functor q t) l = refl
   step_same go go' n h (Struct es) (Unitary t) l = refl
   step_same go go' n h (Struct es) Opaque l = refl
   step_same go go' n h (Functor p r) (Struct ts) l = refl
-  step_same go go' n h (Functor p r) (Functor q t) l = ap (λ x. a_step & x & go r t) (h q p (omega (arith, l))) ∙ ap (λ x. a_step & go' q p & x) (h r t (omega (arith, l)))
+  step_same go go' n h (Functor p r) (Functor q t) l = ap (λ x. a_step & x & go r t) (h q p (omega (arith, l)))
+      ∙ ap (λ x. a_step & go' q p & x) (h r t (omega (arith, l)))
   step_same go go' n h (Functor p r) (Unitary t) l = refl
   step_same go go' n h (Functor p r) Opaque l = refl
   step_same go go' n h (Unitary r) (Struct ts) l = refl
@@ -85,7 +89,8 @@ module _ {A : Type 0} (tell : Name → Goal → Entries → Option Entries → A
   enough : (n m : ℕ) (s t : Shape) → depth s + depth t < n → depth s + depth t < m → match_to tell n s t ≡ match_to tell m s t
   enough zero m s t l k = absurd (omega (arith, l))
   enough (suc n) zero s t l k = absurd (omega (arith, k))
-  enough (suc n) (suc m) s t l k = step_same (match_to tell n) (match_to tell m) (depth s + depth t) (λ a b h. enough n m a b (omega (arith, h, l)) (omega (arith, h, k))) s t (omega arith)
+  enough (suc n) (suc m) s t l k = step_same (match_to tell n) (match_to tell m) (depth s + depth t)
+      (λ a b h. enough n m a b (omega (arith, h, l)) (omega (arith, h, k))) s t (omega arith)
 
   -- a match is one level of the matches of its parts
   pub matched_is : (s t : Shape) → matched tell s t ≡ match_step tell (matched tell) s t

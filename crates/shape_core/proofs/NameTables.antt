@@ -22,7 +22,8 @@ apart bs cs e k h = go (bytes_eq cs k.items) refl
         let same : bs ≡ cs = (bytes_eq-Decides bs k.items).0 h ∙ sym ((bytes_eq-Decides cs k.items).0 f) in
         absurd (true≢false (sym ((bytes_eq-Decides bs cs).1 same) ∙ e))
 
-pub updated : {V S : Type 0} (m n : IndexMap (Vec ℕ) V S) (bs : List ℕ) (w : Option V) → UpdatesBy Eq (Test bs) m n w → (x : List ℕ) → get_by (Test x) n ≡ (if bytes_eq bs x then w else get_by (Test x) m)
+pub updated : {V S : Type 0} (m n : IndexMap (Vec ℕ) V S) (bs : List ℕ) (w : Option V) → UpdatesBy Eq (Test bs) m n w → (x : List ℕ)
+    → get_by (Test x) n ≡ (if bytes_eq bs x then w else get_by (Test x) m)
 unfolding KeepsOthers
 updated m n bs w h x = go (bytes_eq bs x) refl
   where

@@ -2,8 +2,10 @@
 use Rattle.std.proofs.Common.{◌≡◌, ℕ, zero, suc, ◌+◌, List, [], ◌∷◌, ◌++◌, map, length, Option, Some, None, refl, sym, ap, ◌∙◌}
 use Rattle.rotor_base.specs.declared.place.Goal.{Goal}
 use Rattle.rotor_base.specs.declared.place.Link.{Link}
-use Rattle.shape_core.specs.Shape.{Name, Shape, Struct, Functor, Unitary, Opaque, Entries, none, a_val, a_mod, a_mty, a_dark, find_mod, find_mty, unless_some, depth}
-use Rattle.shape_core.specs.Links.{Trace, ◌&◌, nothing, a_step, one, or_empty, pin, pin_entries, pin_vals, match_entries, match_step, match_to, matched, link, links, pinned}
+use Rattle.shape_core.specs.Shape.{Name, Shape, Struct, Functor, Unitary, Opaque, Entries, none, a_val, a_mod, a_mty, a_dark, find_mod, find_mty}
+use Rattle.shape_core.specs.Shape.{unless_some, depth}
+use Rattle.shape_core.specs.Links.{Trace, ◌&◌, nothing, a_step, one, or_empty, pin, pin_entries, pin_vals, match_entries, match_step, match_to}
+use Rattle.shape_core.specs.Links.{matched, link, links, pinned}
 use Rattle.shape_core.specs.Respell.{Words, spell_shape}
 use Rattle.shape_core.proofs.Spelled.{retold, matched-spell, pin-spell}
 
@@ -57,8 +59,10 @@ module _ {A B : Type 0} (f : A → B) (tell : Name → Goal → Entries → Opti
   entries-mapped : (go : Shape → Shape → Trace A) (go' : Shape → Shape → Trace B) → ((s t : Shape) → mapped f (go s t) ≡ go' s t) → (src ts : Entries)
       → mapped f (match_entries tell go src ts) ≡ match_entries after go' src ts
   entries-mapped go go' h src none = refl
-  entries-mapped go go' h src (a_val x g ts) = two (one (tell x g ts (Some src))) _ (one (after x g ts (Some src))) _ refl (entries-mapped go go' h src ts)
-  entries-mapped go go' h src (a_mod X t ts) = three a_step _ _ a_step _ _ refl (shown (find_mod ts X) _ _ (h (or_empty (find_mod src X)) t)) (entries-mapped go go' h src ts)
+  entries-mapped go go' h src (a_val x g ts) = two (one (tell x g ts (Some src))) _ (one (after x g ts (Some src))) _ refl
+      (entries-mapped go go' h src ts)
+  entries-mapped go go' h src (a_mod X t ts) = three a_step _ _ a_step _ _ refl (shown (find_mod ts X) _ _ (h (or_empty (find_mod src X)) t))
+      (entries-mapped go go' h src ts)
   entries-mapped go go' h src (a_mty S t ts) =
       let s = or_empty (find_mty src S) in
       three a_step _ _ a_step _ _ refl (shown (find_mty ts S) _ _ (two (go s t) (go t s) _ _ (h s t) (h t s))) (entries-mapped go go' h src ts)
@@ -119,7 +123,8 @@ length-map : {A B : Type 0} (f : A → B) (xs : List A) → length (map f xs) �
 length-map f [] = refl
 length-map f (x ∷ xs) = ap suc (length-map f xs)
 
-pub told-number : {A B : Type 0} (tell : Name → Goal → Entries → Option Entries → A) (other : Name → Goal → Entries → Option Entries → B) (s t : Shape) → length (matched tell s t).told ≡ length (matched other s t).told
+pub told-number : {A B : Type 0} (tell : Name → Goal → Entries → Option Entries → A) (other : Name → Goal → Entries → Option Entries → B)
+    (s t : Shape) → length (matched tell s t).told ≡ length (matched other s t).told
 told-number tell other s t =
     sym (length-map nothing_of (matched tell s t).told)
     ∙ ap (λ z. length z.told) (matched-mapped nothing_of tell s t ∙ sym (matched-mapped nothing_of other s t))

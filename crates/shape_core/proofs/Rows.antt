@@ -6,7 +6,8 @@ use Rattle.rotor_base.specs.declared.place.Goal.TheVariants.{Decl, Outside, Miss
 use Rattle.rotor_base.specs.declared.place.Link.{Link}
 use Rattle.rotor_base.specs.declared.looks.Watch.{Watch}
 use Rattle.rotor_base.specs.declared.looks.LinkLook.{LinkLook}
-use Rattle.shape_core.specs.Shape.{Shape, Struct, Functor, Unitary, Opaque, Entries, none, a_val, a_mod, a_mty, a_dark, find_val, find_mty, walk, value_in, brought, entries_from, is_shown, weights, depth}
+use Rattle.shape_core.specs.Shape.{Shape, Struct, Functor, Unitary, Opaque, Entries, none, a_val, a_mod, a_mty, a_dark, find_val, find_mty, walk}
+use Rattle.shape_core.specs.Shape.{value_in, brought, entries_from, is_shown, weights, depth}
 use Rattle.shape_core.specs.Links.{Trace, ◌&◌, matched, links, pinned}
 use Rattle.shape_core.specs.Looks.{match_looks}
 
@@ -63,7 +64,8 @@ levels = refl
 
 -- openings of outside modules before, between and after values
 abbrev opened : Entries
-opened = a_dark (place 1) (val (codes "x") 2 (a_dark (place 3) (val (codes "x") 4 (val (codes "y") 5 (a_dark (place 6) (a_dark (place 7) (val (codes "z") 8 none)))))))
+opened = a_dark (place 1)
+    (val (codes "x") 2 (a_dark (place 3) (val (codes "x") 4 (val (codes "y") 5 (a_dark (place 6) (a_dark (place 7) (val (codes "z") 8 none)))))))
 
 behind : find_val opened (codes "x") ≡ Some (Blur (place 7) 2 (Some (place 4)))
 behind = refl
@@ -104,7 +106,8 @@ unfolding matched ◌&◌
 turned = refl
 
 -- module types are matched in both directions
-both_ways : links (Struct (a_mty (codes "S") (Struct (val (codes "x") 1 (val (codes "y") 2 none))) none)) (Struct (a_mty (codes "S") (one (codes "x") 6) none))
+both_ways : links (Struct (a_mty (codes "S") (Struct (val (codes "x") 1 (val (codes "y") 2 none))) none))
+    (Struct (a_mty (codes "S") (one (codes "x") 6) none))
     ≡ told (link 6 (decl 1) ∷ link 1 (decl 6) ∷ link 2 Missing ∷ []) 7
 unfolding matched ◌&◌
 both_ways = refl
@@ -116,7 +119,8 @@ unfolding matched ◌&◌
 dark_target = refl
 
 -- shapes of two kinds are pinned, the target first
-two_kinds : links (Functor (one (codes "x") 1) (one (codes "y") 2)) (one (codes "x") 6) ≡ told (link 6 Outside ∷ link 1 Outside ∷ link 2 Outside ∷ []) 8
+two_kinds : links (Functor (one (codes "x") 1) (one (codes "y") 2)) (one (codes "x") 6) ≡ told (link 6 Outside ∷ link 1 Outside ∷ link 2 Outside ∷ [])
+    8
 unfolding matched ◌&◌
 two_kinds = refl
 

@@ -3,8 +3,11 @@ use Rattle.std.proofs.Common.{◌≡◌, ℕ, zero, suc, ◌+◌, List, [], ◌�
 use Rattle.std.specs.Prelude.{max}
 use Rattle.rotor_base.specs.declared.place.Place.{Place}
 use Rattle.rotor_base.specs.declared.place.Goal.{Goal}
-use Rattle.shape_core.specs.Shape.{Name, Shape, Struct, Functor, Unitary, Opaque, Entries, none, a_val, a_mod, a_mty, a_dark, ◌⊕◌, mods, mtys, darks, last_of, or_value, unless_some, step, step_from, inside, find_path, walk, type_in, brought, find_mod, find_mty, weight, weights, depth, depths}
-use Rattle.shape_core.specs.Links.{Trace, ◌&◌, nothing, a_step, one, or_empty, pin, pin_entries, pin_vals, match_entries, match_step, match_to, matched}
+use Rattle.shape_core.specs.Shape.{Name, Shape, Struct, Functor, Unitary, Opaque, Entries, none, a_val, a_mod, a_mty, a_dark, ◌⊕◌, mods, mtys, darks}
+use Rattle.shape_core.specs.Shape.{last_of, or_value, unless_some, step, step_from, inside, find_path, walk, type_in, brought, find_mod, find_mty}
+use Rattle.shape_core.specs.Shape.{weight, weights, depth, depths}
+use Rattle.shape_core.specs.Links.{Trace, ◌&◌, nothing, a_step, one, or_empty, pin, pin_entries, pin_vals, match_entries, match_step, match_to}
+use Rattle.shape_core.specs.Links.{matched}
 use Rattle.shape_core.specs.Respell.{Words, spell_at, spell_shape, spell_entries, over}
 use Rattle.shape_core.proofs.Founds.{each, last_of-each, or_value-over}
 
@@ -102,8 +105,10 @@ module _ (w : Words) where
     depths-spell : (es : Entries) → depths (spell_entries w es) ≡ depths es
     depths-spell none = refl
     depths-spell (a_val x g es) = depths-spell es
-    depths-spell (a_mod X s es) = ap (λ n. max (n + 1) (depths (spell_entries w es))) (depth-spell s) ∙ ap (λ n. max (depth s + 1) n) (depths-spell es)
-    depths-spell (a_mty S s es) = ap (λ n. max (n + 1) (depths (spell_entries w es))) (depth-spell s) ∙ ap (λ n. max (depth s + 1) n) (depths-spell es)
+    depths-spell (a_mod X s es) = ap (λ n. max (n + 1) (depths (spell_entries w es))) (depth-spell s)
+        ∙ ap (λ n. max (depth s + 1) n) (depths-spell es)
+    depths-spell (a_mty S s es) = ap (λ n. max (n + 1) (depths (spell_entries w es))) (depth-spell s)
+        ∙ ap (λ n. max (depth s + 1) n) (depths-spell es)
     depths-spell (a_dark at es) = depths-spell es
 
   unless_some-over : {U V W : Type 0} (f : U → V) (o : Option U) (a b : W) → unless_some (over f o) a b ≡ unless_some o a b
@@ -124,13 +129,17 @@ module _ (w : Words) where
     abbrev pub retold : Name → Goal → Entries → Option Entries → A
     retold x g rest src = tell (spell_at w g x) g (spell_entries w rest) (over (spell_entries w) src)
 
-    part : {U : Type 0} (o : Option U) (o' : Option U) (a a' b b' : Trace A) → unless_some o a nothing ≡ unless_some o' a nothing → a ≡ a' → b ≡ b' → a_step & unless_some o a nothing & b ≡ a_step & unless_some o' a' nothing & b'
-    part o o' a a' b b' e h k = ap (λ l. a_step & l & b) e ∙ ap (λ l. a_step & unless_some o' l nothing & b) h ∙ ap (λ l. a_step & unless_some o' a' nothing & l) k
+    part : {U : Type 0} (o : Option U) (o' : Option U) (a a' b b' : Trace A) → unless_some o a nothing ≡ unless_some o' a nothing → a ≡ a' → b ≡ b'
+        → a_step & unless_some o a nothing & b ≡ a_step & unless_some o' a' nothing & b'
+    part o o' a a' b b' e h k = ap (λ l. a_step & l & b) e ∙ ap (λ l. a_step & unless_some o' l nothing & b) h
+        ∙ ap (λ l. a_step & unless_some o' a' nothing & l) k
 
-    shown_mod : (es : Entries) (X : Name) (a : Trace A) → unless_some (find_mod (spell_entries w es) X) a nothing ≡ unless_some (find_mod es X) a nothing
+    shown_mod : (es : Entries) (X : Name) (a : Trace A) → unless_some (find_mod (spell_entries w es) X) a nothing ≡ unless_some
+        (find_mod es X) a nothing
     shown_mod es X a = ap (λ o. unless_some o a nothing) (find_mods-spell es X) ∙ unless_some-over (spell_shape w) (find_mod es X) a nothing
 
-    shown_mty : (es : Entries) (S : Name) (a : Trace A) → unless_some (find_mty (spell_entries w es) S) a nothing ≡ unless_some (find_mty es S) a nothing
+    shown_mty : (es : Entries) (S : Name) (a : Trace A) → unless_some (find_mty (spell_entries w es) S) a nothing ≡ unless_some
+        (find_mty es S) a nothing
     shown_mty es S a = ap (λ o. unless_some o a nothing) (find_mtys-spell es S) ∙ unless_some-over (spell_shape w) (find_mty es S) a nothing
 
     mutual
@@ -143,8 +152,10 @@ module _ (w : Words) where
       pub pin_entries-spell : (es : Entries) → pin_entries tell (spell_entries w es) ≡ pin_entries retold es
       pin_entries-spell none = refl
       pin_entries-spell (a_val x g es) = ap (λ l. one (retold x g es None) & l) (pin_entries-spell es)
-      pin_entries-spell (a_mod X s es) = part (find_mod (spell_entries w es) X) (find_mod es X) _ _ _ _ (shown_mod es X (pin tell (spell_shape w s))) (pin-spell s) (pin_entries-spell es)
-      pin_entries-spell (a_mty S s es) = part (find_mty (spell_entries w es) S) (find_mty es S) _ _ _ _ (shown_mty es S (pin tell (spell_shape w s))) (pin-spell s) (pin_entries-spell es)
+      pin_entries-spell (a_mod X s es) = part (find_mod (spell_entries w es) X) (find_mod es X) _ _ _ _ (shown_mod es X (pin tell (spell_shape w s)))
+          (pin-spell s) (pin_entries-spell es)
+      pin_entries-spell (a_mty S s es) = part (find_mty (spell_entries w es) S) (find_mty es S) _ _ _ _ (shown_mty es S (pin tell (spell_shape w s)))
+          (pin-spell s) (pin_entries-spell es)
       pin_entries-spell (a_dark at es) = ap (λ l. a_step & l) (pin_entries-spell es)
 
     pub pin_vals-spell : (es : Entries) → pin_vals tell (spell_entries w es) ≡ pin_vals retold es
@@ -159,13 +170,16 @@ module _ (w : Words) where
     entries-spell go go' h src none = refl
     entries-spell go go' h src (a_val x g ts) = ap (λ l. one (retold x g ts (Some src)) & l) (entries-spell go go' h src ts)
     entries-spell go go' h src (a_mod X t ts) =
-        part (find_mod (spell_entries w ts) X) (find_mod ts X) _ _ _ _ (shown_mod ts X _) (ap (λ s. go s (spell_shape w t)) (src_mod src X) ∙ h (or_empty (find_mod src X)) t) (entries-spell go go' h src ts)
+        part (find_mod (spell_entries w ts) X) (find_mod ts X) _ _ _ _ (shown_mod ts X _)
+        (ap (λ s. go s (spell_shape w t)) (src_mod src X) ∙ h (or_empty (find_mod src X)) t) (entries-spell go go' h src ts)
     entries-spell go go' h src (a_mty S t ts) =
         let s = or_empty (find_mty src S) in
         part (find_mty (spell_entries w ts) S) (find_mty ts S) _ _ _ _ (shown_mty ts S _)
-        (ap (λ z. go z (spell_shape w t) & go (spell_shape w t) z) (src_mty src S) ∙ ap (λ l. l & go (spell_shape w t) (spell_shape w s)) (h s t) ∙ ap (λ l. go' s t & l) (h t s))
+        (ap (λ z. go z (spell_shape w t) & go (spell_shape w t) z) (src_mty src S) ∙ ap (λ l. l & go (spell_shape w t) (spell_shape w s)) (h s t)
+        ∙ ap (λ l. go' s t & l) (h t s))
         (entries-spell go go' h src ts)
-    entries-spell go go' h src (a_dark at ts) = ap (λ l. a_step & l & match_entries tell go (spell_entries w src) (spell_entries w ts)) (pin_vals-spell src) ∙ ap (λ l. a_step & pin_vals retold src & l) (entries-spell go go' h src ts)
+    entries-spell go go' h src (a_dark at ts) = ap (λ l. a_step & l & match_entries tell go (spell_entries w src) (spell_entries w ts))
+        (pin_vals-spell src) ∙ ap (λ l. a_step & pin_vals retold src & l) (entries-spell go go' h src ts)
 
     both-spell : (s t : Shape) → a_step & pin tell (spell_shape w t) & pin tell (spell_shape w s) ≡ a_step & pin retold t & pin retold s
     both-spell s t = ap (λ l. a_step & l & pin tell (spell_shape w s)) (pin-spell t) ∙ ap (λ l. a_step & pin retold t & l) (pin-spell s)
@@ -177,7 +191,8 @@ module _ (w : Words) where
     level-spell go go' h (Struct es) (Unitary t) = both-spell (Struct es) (Unitary t)
     level-spell go go' h (Struct es) Opaque = both-spell (Struct es) Opaque
     level-spell go go' h (Functor p r) (Struct ts) = both-spell (Functor p r) (Struct ts)
-    level-spell go go' h (Functor p r) (Functor q t) = ap (λ x. a_step & x & go (spell_shape w r) (spell_shape w t)) (h q p) ∙ ap (λ x. a_step & go' q p & x) (h r t)
+    level-spell go go' h (Functor p r) (Functor q t) = ap (λ x. a_step & x & go (spell_shape w r) (spell_shape w t)) (h q p)
+        ∙ ap (λ x. a_step & go' q p & x) (h r t)
     level-spell go go' h (Functor p r) (Unitary t) = both-spell (Functor p r) (Unitary t)
     level-spell go go' h (Functor p r) Opaque = both-spell (Functor p r) Opaque
     level-spell go go' h (Unitary r) (Struct ts) = both-spell (Unitary r) (Struct ts)

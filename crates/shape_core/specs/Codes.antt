@@ -79,7 +79,8 @@ mutual
   shape_inj (Struct es) (Unitary r') e = absurd cc
   shape_inj (Struct es) Opaque e = absurd cc
   shape_inj (Functor p r) (Struct es') e = absurd cc
-  shape_inj (Functor p r) (Functor p' r') e = λ i. Functor (shape_inj p p' (ap (λ c. head (tail c)) e) i) (shape_inj r r' (ap (λ c. tail (tail c)) e) i)
+  shape_inj (Functor p r) (Functor p' r') e = λ i. Functor (shape_inj p p' (ap (λ c. head (tail c)) e) i)
+      (shape_inj r r' (ap (λ c. tail (tail c)) e) i)
   shape_inj (Functor p r) (Unitary r') e = absurd cc
   shape_inj (Functor p r) Opaque e = absurd cc
   shape_inj (Unitary r) (Struct es') e = absurd cc
@@ -98,25 +99,29 @@ mutual
   entries_inj none (a_mty x' s' es') e = absurd cc
   entries_inj none (a_dark at' es') e = absurd cc
   entries_inj (a_val x g es) none e = absurd cc
-  entries_inj (a_val x g es) (a_val x' g' es') e = λ i. a_val ((coded_list coded_ℕ).inj x x' (ap (λ c. head (head (tail c))) e) i) (coded_goal.inj g g' (ap (λ c. tail (head (tail c))) e) i) (entries_inj es es' (ap (λ c. tail (tail c)) e) i)
+  entries_inj (a_val x g es) (a_val x' g' es') e = λ i. a_val ((coded_list coded_ℕ).inj x x' (ap (λ c. head (head (tail c))) e) i)
+      (coded_goal.inj g g' (ap (λ c. tail (head (tail c))) e) i) (entries_inj es es' (ap (λ c. tail (tail c)) e) i)
   entries_inj (a_val x g es) (a_mod x' s' es') e = absurd cc
   entries_inj (a_val x g es) (a_mty x' s' es') e = absurd cc
   entries_inj (a_val x g es) (a_dark at' es') e = absurd cc
   entries_inj (a_mod x s es) none e = absurd cc
   entries_inj (a_mod x s es) (a_val x' g' es') e = absurd cc
-  entries_inj (a_mod x s es) (a_mod x' s' es') e = λ i. a_mod ((coded_list coded_ℕ).inj x x' (ap (λ c. head (head (tail c))) e) i) (shape_inj s s' (ap (λ c. tail (head (tail c))) e) i) (entries_inj es es' (ap (λ c. tail (tail c)) e) i)
+  entries_inj (a_mod x s es) (a_mod x' s' es') e = λ i. a_mod ((coded_list coded_ℕ).inj x x' (ap (λ c. head (head (tail c))) e) i)
+      (shape_inj s s' (ap (λ c. tail (head (tail c))) e) i) (entries_inj es es' (ap (λ c. tail (tail c)) e) i)
   entries_inj (a_mod x s es) (a_mty x' s' es') e = absurd cc
   entries_inj (a_mod x s es) (a_dark at' es') e = absurd cc
   entries_inj (a_mty x s es) none e = absurd cc
   entries_inj (a_mty x s es) (a_val x' g' es') e = absurd cc
   entries_inj (a_mty x s es) (a_mod x' s' es') e = absurd cc
-  entries_inj (a_mty x s es) (a_mty x' s' es') e = λ i. a_mty ((coded_list coded_ℕ).inj x x' (ap (λ c. head (head (tail c))) e) i) (shape_inj s s' (ap (λ c. tail (head (tail c))) e) i) (entries_inj es es' (ap (λ c. tail (tail c)) e) i)
+  entries_inj (a_mty x s es) (a_mty x' s' es') e = λ i. a_mty ((coded_list coded_ℕ).inj x x' (ap (λ c. head (head (tail c))) e) i)
+      (shape_inj s s' (ap (λ c. tail (head (tail c))) e) i) (entries_inj es es' (ap (λ c. tail (tail c)) e) i)
   entries_inj (a_mty x s es) (a_dark at' es') e = absurd cc
   entries_inj (a_dark at es) none e = absurd cc
   entries_inj (a_dark at es) (a_val x' g' es') e = absurd cc
   entries_inj (a_dark at es) (a_mod x' s' es') e = absurd cc
   entries_inj (a_dark at es) (a_mty x' s' es') e = absurd cc
-  entries_inj (a_dark at es) (a_dark at' es') e = λ i. a_dark (coded_place.inj at at' (ap (λ c. head (tail c)) e) i) (entries_inj es es' (ap (λ c. tail (tail c)) e) i)
+  entries_inj (a_dark at es) (a_dark at' es') e = λ i. a_dark (coded_place.inj at at' (ap (λ c. head (tail c)) e) i)
+      (entries_inj es es' (ap (λ c. tail (tail c)) e) i)
 
 abbrev pub coded_shape : Coded Shape
 coded_shape = record { code = shape_code; inj = shape_inj }

@@ -12,7 +12,8 @@ use Rattle.shape_core.specs.declared.index.Before.{Before}
 use Rattle.shape_core.specs.declared.index.Index.{Index}
 use Rattle.shape_core.specs.Names.{at}
 use Rattle.shape_core.specs.Node.{entries_of, shape_of}
-use Rattle.shape_core.specs.Shape.{Name, Shape, Entries, none, a_val, a_mod, a_mty, a_dark, or_else, some_if, darks, values_from, weight, depth, capped}
+use Rattle.shape_core.specs.Shape.{Name, Shape, Entries, none, a_val, a_mod, a_mty, a_dark, or_else, some_if, darks, values_from, weight, depth}
+use Rattle.shape_core.specs.Shape.{capped}
 
 -- one entry more in front, and one Dark entry more
 abbrev pub moved : Option Spot → Option Spot

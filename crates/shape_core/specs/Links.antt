@@ -3,7 +3,8 @@ use Rattle.std.specs.Prelude.{ℕ, zero, suc, ◌+◌, List, [], ◌∷◌, ◌+
 use Rattle.rotor_base.specs.declared.place.Goal.{Goal}
 use Rattle.rotor_base.specs.declared.place.Goal.TheVariants.{Outside, Missing, Hidden}
 use Rattle.rotor_base.specs.declared.place.Link.{Link}
-use Rattle.shape_core.specs.Shape.{Name, Shape, Struct, Functor, Unitary, Opaque, Entries, none, a_val, a_mod, a_mty, a_dark, vals, last_of, or_value, unless_some, find_val, find_mod, find_mty, depth}
+use Rattle.shape_core.specs.Shape.{Name, Shape, Struct, Functor, Unitary, Opaque, Entries, none, a_val, a_mod, a_mty, a_dark, vals, last_of, or_value}
+use Rattle.shape_core.specs.Shape.{unless_some, find_val, find_mod, find_mty, depth}
 
 -- what a match finds, in order, and its work
 pub record Trace (A : Type 0) : Type 0 where

@@ -2,7 +2,8 @@
 use Rattle.std.proofs.Common.{◌≡◌, ℕ, zero, suc, ◌+◌, ◌*◌, ◌<◌, ◌≤◌, Option, Some, None, ap, ◌∙◌, arith}
 use Rattle.std.specs.Borrow.{Bor}
 use Rattle.std.specs.Prelude.{option_copied}
-use Rattle.shape_core.specs.Shape.{Name, Shape, Struct, Functor, Unitary, Opaque, Entries, none, a_val, a_mod, a_mty, a_dark, depth, depths, entries_in, entries_from, param_of, result_of, find_mod, find_mty}
+use Rattle.shape_core.specs.Shape.{Name, Shape, Struct, Functor, Unitary, Opaque, Entries, none, a_val, a_mod, a_mty, a_dark, depth, depths}
+use Rattle.shape_core.specs.Shape.{entries_in, entries_from, param_of, result_of, find_mod, find_mty}
 use Rattle.shape_core.specs.Links.{or_empty}
 use Rattle.shape_core.proofs.Founds.{mod_or_empty, mty_or_empty}
 
@@ -69,25 +70,29 @@ depth_of_both (Some s) (Some t) = 4 * (depth s.now + depth t.now) + 4
 depth_of_both (Some s) None = 0
 depth_of_both None t = 0
 
-pub params_below : (o p : Option (Bor Shape)) (s t : Shape) → option_copied o ≡ param_of s → option_copied p ≡ param_of t → depth_of_both o p < 4 * (depth s + depth t) + 3
+pub params_below : (o p : Option (Bor Shape)) (s t : Shape) → option_copied o ≡ param_of s → option_copied p ≡ param_of t
+    → depth_of_both o p < 4 * (depth s + depth t) + 3
 params_below None p s t h k = omega arith
 params_below (Some b) None s t h k = omega arith
 params_below (Some b) (Some d) s t h k = let l = param_under b.now s h in let m = param_under d.now t k in omega (arith, l, m)
 
-pub results_below : (o p : Option (Bor Shape)) (s t : Shape) → option_copied o ≡ result_of s → option_copied p ≡ result_of t → depth_of_both o p < 4 * (depth s + depth t) + 3
+pub results_below : (o p : Option (Bor Shape)) (s t : Shape) → option_copied o ≡ result_of s → option_copied p ≡ result_of t
+    → depth_of_both o p < 4 * (depth s + depth t) + 3
 results_below None p s t h k = omega arith
 results_below (Some b) None s t h k = omega arith
 results_below (Some b) (Some d) s t h k = let l = result_under b.now s h in let m = result_under d.now t k in omega (arith, l, m)
 
 -- what is found, or the empty structure, is no deeper than its structure
-pub found_mod : (s r : Shape) (X : Name) (o : Option (Bor Shape)) → option_copied o ≡ find_mod (entries_in s) X → r ≡ or_empty (option_copied o) → depth r ≤ depth s
+pub found_mod : (s r : Shape) (X : Name) (o : Option (Bor Shape)) → option_copied o ≡ find_mod (entries_in s) X → r ≡ or_empty (option_copied o)
+    → depth r ≤ depth s
 found_mod s r X o h k =
     let a = ap depth (k ∙ ap or_empty h) in
     let b = mod_or_empty (entries_in s) X in
     let d = list_depth s in
     omega (arith, a, b, d)
 
-pub found_mty : (s r : Shape) (X : Name) (o : Option (Bor Shape)) → option_copied o ≡ find_mty (entries_in s) X → r ≡ or_empty (option_copied o) → depth r ≤ depth s
+pub found_mty : (s r : Shape) (X : Name) (o : Option (Bor Shape)) → option_copied o ≡ find_mty (entries_in s) X → r ≡ or_empty (option_copied o)
+    → depth r ≤ depth s
 found_mty s r X o h k =
     let a = ap depth (k ∙ ap or_empty h) in
     let b = mty_or_empty (entries_in s) X in

@@ -1,16 +1,19 @@
 -- The first entry of a list, and the entries after it.
-use Rattle.std.proofs.Common.{◌≡◌, ℕ, zero, suc, ◌+◌, ◌<◌, ◌≤◌, Bool, true, false, List, [], ◌∷◌, length, get_or, Option, Some, None, refl, sym, ap, ◌∙◌, arith}
+use Rattle.std.proofs.Common.{◌≡◌, ℕ, zero, suc, ◌+◌, ◌<◌, ◌≤◌, Bool, true, false, List, [], ◌∷◌, length, get_or, Option, Some, None, refl, sym, ap}
+use Rattle.std.proofs.Common.{◌∙◌, arith}
 use Rattle.shape_core.specs.declared.shared.SharedEntry.{SharedEntry}
 use Rattle.shape_core.specs.declared.shared.SharedEntry.TheVariants as e
 use Rattle.shape_core.specs.Node.{entries_of, and_then}
-use Rattle.shape_core.specs.Shape.{Name, Shape, Struct, Functor, Unitary, Opaque, Entries, none, a_mod, a_mty, entries_in, entries_from, param_of, result_of, find_mod, find_mty, unless_some, is_shown}
+use Rattle.shape_core.specs.Shape.{Name, Shape, Struct, Functor, Unitary, Opaque, Entries, none, a_mod, a_mty, entries_in, entries_from, param_of}
+use Rattle.shape_core.specs.Shape.{result_of, find_mod, find_mty, unless_some, is_shown}
 use Rattle.shape_core.specs.Links.{Trace, ◌&◌, nothing, a_step, pin, pin_entries, match_entries, matched}
 use Rattle.shape_core.proofs.Matches.{then_nothing}
 use Rattle.sig_match.specs.Walk.{Met, met}
 use Rattle.sig_match.specs.Parts.{pin_part, pin_first, match_first}
 
 -- an entry at a position, and those after it
-pub from_at : (xs : List SharedEntry) (i : ℕ) (d : SharedEntry) → i < length xs → d ≡ get_or xs i d → entries_from i (entries_of xs) ≡ and_then d (entries_from (suc i) (entries_of xs))
+pub from_at : (xs : List SharedEntry) (i : ℕ) (d : SharedEntry) → i < length xs → d ≡ get_or xs i d
+    → entries_from i (entries_of xs) ≡ and_then d (entries_from (suc i) (entries_of xs))
 from_at [] i d h k = absurd (omega (arith, h))
 from_at (e.Val x g ∷ xs) zero d h k = ap (λ z. and_then z (entries_of xs)) (sym k)
 from_at (e.Mod x s ∷ xs) zero d h k = ap (λ z. and_then z (entries_of xs)) (sym k)
@@ -38,17 +41,20 @@ pin_next (e.Mod x s) es = refl
 pin_next (e.Mty x s) es = refl
 pin_next (e.Dark at) es = refl
 
-pub match_next : (src : Entries) (d : SharedEntry) (es : Entries) → match_entries met (matched met) src (and_then d es) ≡ match_first src (and_then d es) & match_entries met (matched met) src es
+pub match_next : (src : Entries) (d : SharedEntry) (es : Entries) → match_entries met (matched met) src (and_then d es) ≡ match_first src
+    (and_then d es) & match_entries met (matched met) src es
 match_next src (e.Val x g) es = refl
 match_next src (e.Mod x s) es = refl
 match_next src (e.Mty x s) es = refl
 match_next src (e.Dark at) es = refl
 
 -- the same of the entries of a structure
-pub from_in : (xs : List SharedEntry) (es : Entries) (i : ℕ) (d : SharedEntry) → entries_of xs ≡ es → i < length xs → d ≡ get_or xs i d → entries_from i es ≡ and_then d (entries_from (i + 1) es)
+pub from_in : (xs : List SharedEntry) (es : Entries) (i : ℕ) (d : SharedEntry) → entries_of xs ≡ es → i < length xs → d ≡ get_or xs i d
+    → entries_from i es ≡ and_then d (entries_from (i + 1) es)
 from_in xs es i d f h k =
     let q : suc i ≡ i + 1 = omega arith in
-    ap (entries_from i) (sym f) ∙ from_at xs i d h k ∙ ap (λ n. and_then d (entries_from n (entries_of xs))) q ∙ ap (λ l. and_then d (entries_from (i + 1) l)) f
+    ap (entries_from i) (sym f) ∙ from_at xs i d h k ∙ ap (λ n. and_then d (entries_from n (entries_of xs))) q
+    ∙ ap (λ l. and_then d (entries_from (i + 1) l)) f
 
 pub end_in : (xs : List SharedEntry) (es : Entries) (i : ℕ) → entries_of xs ≡ es → length xs ≤ i → entries_from i es ≡ none
 end_in xs es i f h = ap (entries_from i) (sym f) ∙ from_end xs i h
@@ -57,8 +63,10 @@ end_in xs es i f h = ap (entries_from i) (sym f) ∙ from_end xs i h
 pub pin_rest : (es rest : Entries) (d : SharedEntry) → es ≡ and_then d rest → pin_entries met es ≡ pin_first es & pin_entries met rest
 pin_rest es rest d h = ap (pin_entries met) h ∙ pin_next d rest ∙ ap (λ z. pin_first z & pin_entries met rest) (sym h)
 
-pub match_rest : (src es rest : Entries) (d : SharedEntry) → es ≡ and_then d rest → match_entries met (matched met) src es ≡ match_first src es & match_entries met (matched met) src rest
-match_rest src es rest d h = ap (match_entries met (matched met) src) h ∙ match_next src d rest ∙ ap (λ z. match_first src z & match_entries met (matched met) src rest) (sym h)
+pub match_rest : (src es rest : Entries) (d : SharedEntry) → es ≡ and_then d rest
+    → match_entries met (matched met) src es ≡ match_first src es & match_entries met (matched met) src rest
+match_rest src es rest d h = ap (match_entries met (matched met) src) h ∙ match_next src d rest
+    ∙ ap (λ z. match_first src z & match_entries met (matched met) src rest) (sym h)
 
 pub pin_over : (es : Entries) → es ≡ none → pin_entries met es ≡ nothing
 pin_over es h = ap (pin_entries met) h
@@ -78,17 +86,23 @@ hidden_part : (o : Option Shape) (a : Trace Met) → unless_some o true false �
 hidden_part None a h = absurd cc
 hidden_part (Some s) a h = refl
 
-pub shown_mod : (es rest : Entries) (X : Name) (s : Shape) (a : Trace Met) (b : Bool) → es ≡ a_mod X s rest → b ≡ is_shown es → b ≡ true → a_step & a ≡ a_step & unless_some (find_mod rest X) a nothing
+pub shown_mod : (es rest : Entries) (X : Name) (s : Shape) (a : Trace Met) (b : Bool) → es ≡ a_mod X s rest → b ≡ is_shown es → b ≡ true
+    → a_step & a ≡ a_step & unless_some (find_mod rest X) a nothing
 shown_mod es rest X s a b h k l = ap (λ z. a_step & z) (sym (shown_part (find_mod rest X) a (sym (k ∙ ap is_shown h) ∙ l)))
 
-pub shown_mty : (es rest : Entries) (X : Name) (s : Shape) (a : Trace Met) (b : Bool) → es ≡ a_mty X s rest → b ≡ is_shown es → b ≡ true → a_step & a ≡ a_step & unless_some (find_mty rest X) a nothing
+pub shown_mty : (es rest : Entries) (X : Name) (s : Shape) (a : Trace Met) (b : Bool) → es ≡ a_mty X s rest → b ≡ is_shown es → b ≡ true
+    → a_step & a ≡ a_step & unless_some (find_mty rest X) a nothing
 shown_mty es rest X s a b h k l = ap (λ z. a_step & z) (sym (shown_part (find_mty rest X) a (sym (k ∙ ap is_shown h) ∙ l)))
 
-pub hidden_mod : (es rest : Entries) (X : Name) (s : Shape) (a : Trace Met) (b : Bool) → es ≡ a_mod X s rest → b ≡ is_shown es → b ≡ false → a_step ≡ a_step & unless_some (find_mod rest X) a nothing
-hidden_mod es rest X s a b h k l = sym (then_nothing a_step) ∙ ap (λ z. a_step & z) (sym (hidden_part (find_mod rest X) a (sym (k ∙ ap is_shown h) ∙ l)))
+pub hidden_mod : (es rest : Entries) (X : Name) (s : Shape) (a : Trace Met) (b : Bool) → es ≡ a_mod X s rest → b ≡ is_shown es → b ≡ false
+    → a_step ≡ a_step & unless_some (find_mod rest X) a nothing
+hidden_mod es rest X s a b h k l = sym (then_nothing a_step)
+    ∙ ap (λ z. a_step & z) (sym (hidden_part (find_mod rest X) a (sym (k ∙ ap is_shown h) ∙ l)))
 
-pub hidden_mty : (es rest : Entries) (X : Name) (s : Shape) (a : Trace Met) (b : Bool) → es ≡ a_mty X s rest → b ≡ is_shown es → b ≡ false → a_step ≡ a_step & unless_some (find_mty rest X) a nothing
-hidden_mty es rest X s a b h k l = sym (then_nothing a_step) ∙ ap (λ z. a_step & z) (sym (hidden_part (find_mty rest X) a (sym (k ∙ ap is_shown h) ∙ l)))
+pub hidden_mty : (es rest : Entries) (X : Name) (s : Shape) (a : Trace Met) (b : Bool) → es ≡ a_mty X s rest → b ≡ is_shown es → b ≡ false
+    → a_step ≡ a_step & unless_some (find_mty rest X) a nothing
+hidden_mty es rest X s a b h k l = sym (then_nothing a_step)
+    ∙ ap (λ z. a_step & z) (sym (hidden_part (find_mty rest X) a (sym (k ∙ ap is_shown h) ∙ l)))
 
 -- a shape by its parts
 pub pin_parts : (s : Shape) → a_step & pin_entries met (entries_in s) & pin_part (param_of s) & pin_part (result_of s) ≡ pin met s

@@ -1,5 +1,6 @@
 -- Links of meetings, and the answers of walks.
-use Rattle.std.proofs.Common.{◌≡◌, ℕ, ◌+◌, ◌<◌, ◌≤◌, Bool, true, false, List, [], ◌∷◌, ◌++◌, map, length, take, get_or, Option, Some, None, refl, sym, ap, subst, ◌∙◌, arith}
+use Rattle.std.proofs.Common.{◌≡◌, ℕ, ◌+◌, ◌<◌, ◌≤◌, Bool, true, false, List, [], ◌∷◌, ◌++◌, map, length, take, get_or, Option, Some, None, refl, sym}
+use Rattle.std.proofs.Common.{ap, subst, ◌∙◌, arith}
 use Rattle.std.proofs.lemmas.List.{take_more, append-nil, map-append}
 use Rattle.std.specs.Prelude.{Result, Ok, Err, IfOk}
 use Rattle.rotor_base.specs.declared.place.Goal.{Goal}
@@ -28,7 +29,8 @@ if_ok (Ok a) P Q h p = h a p
 if_ok (Err x) P Q h p = tt
 
 -- what a walk from nothing has found
-pub answered : (r : Result Unit Stop) (room : ℕ) (f : Found) (t : Trace Met) (l : Trace Link) (m : Matched) → mapped link_of t ≡ l → Walks r room nothing (trace_of f) t → IsAnswer r f m → IsMatched room l m
+pub answered : (r : Result Unit Stop) (room : ℕ) (f : Found) (t : Trace Met) (l : Trace Link) (m : Matched) → mapped link_of t ≡ l
+    → Walks r room nothing (trace_of f) t → IsAnswer r f m → IsMatched room l m
 answered (Ok u) room f t l (Whole ls n) k h a =
     let g : mapped link_of (trace_of f) ≡ l = ap (mapped link_of) (h.0 ∙ nothing_then t) ∙ k in
     let w : f.work ≡ l.work = ap (λ z. z.work) g in
@@ -53,10 +55,12 @@ pinned_links s = pin-mapped link_of met s
 pub no_link : (src : Option Entries) (es rest : Entries) → es ≡ rest → met_first src rest ≡ [] → [] ≡ map link_of (met_first src es)
 no_link src es rest h k = sym (ap (λ z. map link_of (met_first src z)) h ∙ ap (map link_of) k)
 
-pub no_link_past : (src : Option Entries) (xs : List SharedEntry) (es : Entries) (at : ℕ) → entries_of xs ≡ es → length xs ≤ at → [] ≡ map link_of (met_first src (entries_from at es))
+pub no_link_past : (src : Option Entries) (xs : List SharedEntry) (es : Entries) (at : ℕ) → entries_of xs ≡ es
+    → length xs ≤ at → [] ≡ map link_of (met_first src (entries_from at es))
 no_link_past src xs es at h k = sym (ap (λ z. map link_of (met_first src z)) (end_in xs es at h k))
 
-pub one_link : (src : Option Entries) (es rest : Entries) (x : Name) (g s : Goal) → es ≡ a_val x g rest → s ≡ unless_some (last_of (vals rest) x) (source_of src x) Hidden
+pub one_link : (src : Option Entries) (es rest : Entries) (x : Name) (g s : Goal) → es ≡ a_val x g rest
+    → s ≡ unless_some (last_of (vals rest) x) (source_of src x) Hidden
     → (record { item = g; source = s }) ∷ [] ≡ map link_of (met_first src es)
 one_link src es rest x g s h k =
     ap (λ z. (record { item = g; source = z }) ∷ []) k ∙ sym (ap (λ z. map link_of (met_first src z)) h)
@@ -69,27 +73,34 @@ hidden_goal : (o : Option Goal) (g : Goal) (b : Bool) → b ≡ unless_some o tr
 hidden_goal None g b h k = absurd cc
 hidden_goal (Some d) g b h k = refl
 
-pub shown_source : (src : Option Entries) (es rest : Entries) (x : Name) (g s : Goal) (b : Bool) → es ≡ a_val x g rest → b ≡ is_shown es → b ≡ true → s ≡ source_of src x → s ≡ unless_some (last_of (vals rest) x) (source_of src x) Hidden
+pub shown_source : (src : Option Entries) (es rest : Entries) (x : Name) (g s : Goal) (b : Bool) → es ≡ a_val x g rest → b ≡ is_shown es → b ≡ true
+    → s ≡ source_of src x → s ≡ unless_some (last_of (vals rest) x) (source_of src x) Hidden
 shown_source src es rest x g s b h k l m = m ∙ shown_goal (last_of (vals rest) x) (source_of src x) b (k ∙ ap is_shown h) l
 
-pub hidden_source : (src : Option Entries) (es rest : Entries) (x : Name) (g s : Goal) (b : Bool) → es ≡ a_val x g rest → b ≡ is_shown es → b ≡ false → s ≡ Hidden → s ≡ unless_some (last_of (vals rest) x) (source_of src x) Hidden
+pub hidden_source : (src : Option Entries) (es rest : Entries) (x : Name) (g s : Goal) (b : Bool) → es ≡ a_val x g rest → b ≡ is_shown es → b ≡ false
+    → s ≡ Hidden → s ≡ unless_some (last_of (vals rest) x) (source_of src x) Hidden
 hidden_source src es rest x g s b h k l m = m ∙ hidden_goal (last_of (vals rest) x) (source_of src x) b (k ∙ ap is_shown h) l
 
 -- the links of one meeting more
-more_links : (xs : List Meeting) (i : ℕ) (d : Meeting) → i < length xs → d ≡ get_or xs i d → map link_of (mets (take (i + 1) xs)) ≡ map link_of (mets (take i xs)) ++ map link_of (met_at d)
+more_links : (xs : List Meeting) (i : ℕ) (d : Meeting) → i < length xs → d ≡ get_or xs i d
+    → map link_of (mets (take (i + 1) xs)) ≡ map link_of (mets (take i xs)) ++ map link_of (met_at d)
 more_links xs i d h k =
     ap (λ l. map link_of (mets l)) (take_more xs i d h)
     ∙ ap (λ z. map link_of (mets (take i xs ++ z ∷ []))) (sym k)
     ∙ ap (map link_of) (mets-push (take i xs) d)
     ∙ map-append link_of (mets (take i xs)) (met_at d)
 
-pub links_some : (ls os : List Link) (l : Link) (xs : List Meeting) (i : ℕ) (d : Meeting) → i < length xs → d ≡ get_or xs i d → ls ≡ map link_of (mets (take i xs)) → l ∷ [] ≡ map link_of (met_at d) → os ≡ ls ++ l ∷ []
+pub links_some : (ls os : List Link) (l : Link) (xs : List Meeting) (i : ℕ) (d : Meeting) → i < length xs → d ≡ get_or xs i d
+    → ls ≡ map link_of (mets (take i xs)) → l ∷ [] ≡ map link_of (met_at d) → os ≡ ls ++ l ∷ []
     → os ≡ map link_of (mets (take (i + 1) xs))
 links_some ls os l xs i d h k a b e = e ∙ ap (λ z. z ++ l ∷ []) a ∙ ap (λ z. map link_of (mets (take i xs)) ++ z) b ∙ sym (more_links xs i d h k)
 
-pub links_none : (ls : List Link) (xs : List Meeting) (i : ℕ) (d : Meeting) → i < length xs → d ≡ get_or xs i d → ls ≡ map link_of (mets (take i xs)) → [] ≡ map link_of (met_at d) → ls ≡ map link_of (mets (take (i + 1) xs))
-links_none ls xs i d h k a b = a ∙ sym (append-nil (map link_of (mets (take i xs)))) ∙ ap (λ z. map link_of (mets (take i xs)) ++ z) b ∙ sym (more_links xs i d h k)
+pub links_none : (ls : List Link) (xs : List Meeting) (i : ℕ) (d : Meeting) → i < length xs → d ≡ get_or xs i d → ls ≡ map link_of (mets (take i xs))
+    → [] ≡ map link_of (met_at d) → ls ≡ map link_of (mets (take (i + 1) xs))
+links_none ls xs i d h k a b = a ∙ sym (append-nil (map link_of (mets (take i xs)))) ∙ ap (λ z. map link_of (mets (take i xs)) ++ z) b
+    ∙ sym (more_links xs i d h k)
 
 -- a walk begins with nothing
-pub from_start : (r : Result Unit Stop) (room : ℕ) (ms : List Meeting) (u t : Trace Met) → ms ≡ [] → Walks r room (record { told = mets ms; work = 0 }) u t → Walks r room nothing u t
+pub from_start : (r : Result Unit Stop) (room : ℕ) (ms : List Meeting) (u t : Trace Met) → ms ≡ []
+    → Walks r room (record { told = mets ms; work = 0 }) u t → Walks r room nothing u t
 from_start r room ms u t e h = subst (λ (z : List Meeting). Walks r room (record { told = mets z; work = 0 }) u t) e h

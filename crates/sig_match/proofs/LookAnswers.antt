@@ -1,5 +1,6 @@
 -- Looks of meetings.
-use Rattle.std.proofs.Common.{◌≡◌, ℕ, suc, ◌+◌, ◌-◌, ◌<◌, ◌≤◌, List, [], ◌∷◌, ◌++◌, map, length, take, drop, get_or, Option, Some, None, sym, ap, ◌∙◌, arith, length-append}
+use Rattle.std.proofs.Common.{◌≡◌, ℕ, suc, ◌+◌, ◌-◌, ◌<◌, ◌≤◌, List, [], ◌∷◌, ◌++◌, map, length, take, drop, get_or, Option, Some, None, sym, ap, ◌∙◌}
+use Rattle.std.proofs.Common.{arith, length-append}
 use Rattle.std.proofs.lemmas.List.{take_more, length-drop, append-nil, map-append, length-map}
 use Rattle.std.proofs.Math.Seq.{take-length}
 use Rattle.std.specs.Prelude.{Result, Ok, Err}
@@ -25,13 +26,16 @@ use Rattle.sig_match.proofs.Walks.{mets-push}
 use Rattle.sig_match.proofs.Firsts.{end_in}
 
 -- one meeting
-pub no_look : (w : Watch) (n : ℕ) (src : Option Entries) (es rest : Entries) → es ≡ rest → met_first src rest ≡ [] → [] ≡ numbered n (map (look_of w) (met_first src es))
+pub no_look : (w : Watch) (n : ℕ) (src : Option Entries) (es rest : Entries) → es ≡ rest → met_first src rest ≡ []
+    → [] ≡ numbered n (map (look_of w) (met_first src es))
 no_look w n src es rest h k = sym (ap (λ z. numbered n (map (look_of w) (met_first src z))) h ∙ ap (λ z. numbered n (map (look_of w) z)) k)
 
-pub no_look_past : (w : Watch) (n : ℕ) (src : Option Entries) (xs : List SharedEntry) (es : Entries) (at : ℕ) → entries_of xs ≡ es → length xs ≤ at → [] ≡ numbered n (map (look_of w) (met_first src (entries_from at es)))
+pub no_look_past : (w : Watch) (n : ℕ) (src : Option Entries) (xs : List SharedEntry) (es : Entries) (at : ℕ) → entries_of xs ≡ es
+    → length xs ≤ at → [] ≡ numbered n (map (look_of w) (met_first src (entries_from at es)))
 no_look_past w n src xs es at h k = sym (ap (λ z. numbered n (map (look_of w) (met_first src z))) (end_in xs es at h k))
 
-pub one_look : (w : Watch) (n : ℕ) (src : Option Entries) (es rest : Entries) (x y : Name) (g : Goal) (xs : List SharedEntry) → es ≡ a_val x g rest → y ≡ x → entries_of xs ≡ rest
+pub one_look : (w : Watch) (n : ℕ) (src : Option Entries) (es rest : Entries) (x y : Name) (g : Goal) (xs : List SharedEntry) → es ≡ a_val x g rest
+    → y ≡ x → entries_of xs ≡ rest
     → numbered n (looks.look w y g (entries_of xs) src ∷ []) ≡ numbered n (map (look_of w) (met_first src es))
 one_look w n src es rest x y g xs h k l =
     ap (λ z. numbered n (looks.look w z g (entries_of xs) src ∷ [])) k
@@ -48,7 +52,8 @@ rest_in xs es n h = ap entries_of (after xs n) ∙ sym (from_drop n xs) ∙ ap (
 pub no_count : (src : Option Entries) (es rest : Entries) → es ≡ rest → met_first src rest ≡ [] → 0 ≡ length (met_first src es)
 no_count src es rest h k = sym (ap (λ z. length (met_first src z)) h ∙ ap length k)
 
-pub no_count_past : (src : Option Entries) (xs : List SharedEntry) (es : Entries) (at : ℕ) → entries_of xs ≡ es → length xs ≤ at → 0 ≡ length (met_first src (entries_from at es))
+pub no_count_past : (src : Option Entries) (xs : List SharedEntry) (es : Entries) (at : ℕ) → entries_of xs ≡ es
+    → length xs ≤ at → 0 ≡ length (met_first src (entries_from at es))
 no_count_past src xs es at h k = sym (ap (λ z. length (met_first src z)) (end_in xs es at h k))
 
 pub one_count : (src : Option Entries) (es rest : Entries) (x : Name) (g : Goal) → es ≡ a_val x g rest → 1 ≡ length (met_first src es)
@@ -67,7 +72,8 @@ numbered-append n (Some l ∷ ls) ks =
 abbrev seen : Watch → List Meeting → List (Option LinkLook)
 seen w ms = map (look_of w) (mets ms)
 
-seen_more : (w : Watch) (xs : List Meeting) (i : ℕ) (d : Meeting) → i < length xs → d ≡ get_or xs i d → seen w (take (i + 1) xs) ≡ seen w (take i xs) ++ map (look_of w) (met_at d)
+seen_more : (w : Watch) (xs : List Meeting) (i : ℕ) (d : Meeting) → i < length xs → d ≡ get_or xs i d
+    → seen w (take (i + 1) xs) ≡ seen w (take i xs) ++ map (look_of w) (met_at d)
 seen_more w xs i d h k =
     ap (seen w) (take_more xs i d h ∙ ap (λ z. take i xs ++ z ∷ []) (sym k))
     ∙ ap (map (look_of w)) (mets-push (take i xs) d)
@@ -75,7 +81,8 @@ seen_more w xs i d h k =
 
 -- all that the loop keeps; `ls` are the looks of the meeting
 pub looks_more : (w : Watch) (xs : List Meeting) (i : ℕ) (d : Meeting) (old new ls : List LinkLook) (p c : ℕ) → i < length xs → d ≡ get_or xs i d
-    → old ≡ numbered 0 (seen w (take i xs)) → p ≡ length (seen w (take i xs)) → p ≤ i → ls ≡ numbered p (map (look_of w) (met_at d)) → new ≡ old ++ ls → c ≡ length (met_at d) → c ≤ 1
+    → old ≡ numbered 0 (seen w (take i xs)) → p ≡ length (seen w (take i xs)) → p ≤ i → ls ≡ numbered p (map (look_of w) (met_at d)) → new ≡ old ++ ls
+    → c ≡ length (met_at d) → c ≤ 1
     → (new ≡ numbered 0 (seen w (take (i + 1) xs))) × (p + c ≡ length (seen w (take (i + 1) xs))) × (p + c ≤ i + 1)
 looks_more w xs i d old new ls p c h k a q b l n t u =
     let here = map (look_of w) (met_at d) in
@@ -84,7 +91,8 @@ looks_more w xs i d old new ls p c h k a q b l n t u =
     let f = length-append (seen w (take i xs)) here in
     let m = length-map (met_at d) (look_of w) in
     let z : length (seen w (take i xs)) ≡ 0 + length (seen w (take i xs)) = omega arith in (
-      n ∙ ap (λ z. z ++ ls) a ∙ ap (λ z. numbered 0 (seen w (take i xs)) ++ z) (l ∙ ap (λ z. numbered z here) (q ∙ z)) ∙ sym (numbered-append 0 (seen w (take i xs)) here) ∙ ap (numbered 0) (sym g),
+      n ∙ ap (λ z. z ++ ls) a ∙ ap (λ z. numbered 0 (seen w (take i xs)) ++ z) (l ∙ ap (λ z. numbered z here) (q ∙ z))
+          ∙ sym (numbered-append 0 (seen w (take i xs)) here) ∙ ap (numbered 0) (sym g),
       omega (arith, e, f, m, q, t),
       omega (arith, b, u),
     )
@@ -93,7 +101,8 @@ pub same_list : (ls : List LinkLook) → ls ≡ ls ++ []
 same_list ls = sym (append-nil ls)
 
 -- what a walk from nothing shows
-pub looked : (r : Result Unit Stop) (room : ℕ) (f : Found) (t : Trace Met) (w : Watch) (l : Looks) → Walks r room nothing (trace_of f) t → HasLooks r f w l → l ≡ looks.looks_of (map (look_of w) t.told)
+pub looked : (r : Result Unit Stop) (room : ℕ) (f : Found) (t : Trace Met) (w : Watch) (l : Looks) → Walks r room nothing (trace_of f) t
+    → HasLooks r f w l → l ≡ looks.looks_of (map (look_of w) t.told)
 looked (Ok u) room f t w l h k = k ∙ ap (λ z. looks.looks_of (map (look_of w) z.told)) (h.0 ∙ nothing_then t)
 looked (Err e) room f t w l h k = absurd k
 

@@ -19,7 +19,8 @@ abbrev results : Shape → Shape → Trace Met
 results s t = match_part (result_of s) (result_of t)
 
 match_parts : (s t : Shape) → has_one_kind s t ≡ true → a_step & listed s t & params s t & results s t ≡ matched met s t
-match_parts (Struct es) (Struct ts) h = then_nothing (a_step & listed (Struct es) (Struct ts) & nothing) ∙ then_nothing (a_step & listed (Struct es) (Struct ts)) ∙ sym (matched_structs met es ts)
+match_parts (Struct es) (Struct ts) h = then_nothing (a_step & listed (Struct es) (Struct ts) & nothing)
+    ∙ then_nothing (a_step & listed (Struct es) (Struct ts)) ∙ sym (matched_structs met es ts)
 match_parts (Struct es) (Functor q t) h = absurd cc
 match_parts (Struct es) (Unitary t) h = absurd cc
 match_parts (Struct es) Opaque h = absurd cc
@@ -29,12 +30,14 @@ match_parts (Functor p r) (Unitary t) h = absurd cc
 match_parts (Functor p r) Opaque h = absurd cc
 match_parts (Unitary r) (Struct ts) h = absurd cc
 match_parts (Unitary r) (Functor q t) h = absurd cc
-match_parts (Unitary r) (Unitary t) h = ap (λ z. z & matched met r t) (then_nothing (a_step & nothing) ∙ then_nothing a_step) ∙ sym (matched_unitaries met r t)
+match_parts (Unitary r) (Unitary t) h = ap (λ z. z & matched met r t) (then_nothing (a_step & nothing) ∙ then_nothing a_step)
+    ∙ sym (matched_unitaries met r t)
 match_parts (Unitary r) Opaque h = absurd cc
 match_parts Opaque (Struct ts) h = absurd cc
 match_parts Opaque (Functor q t) h = absurd cc
 match_parts Opaque (Unitary t) h = absurd cc
-match_parts Opaque Opaque h = then_nothing (a_step & nothing & nothing) ∙ then_nothing (a_step & nothing) ∙ then_nothing a_step ∙ sym (matched_is met Opaque Opaque)
+match_parts Opaque Opaque h = then_nothing (a_step & nothing & nothing) ∙ then_nothing (a_step & nothing) ∙ then_nothing a_step
+    ∙ sym (matched_is met Opaque Opaque)
 
 pin_parts : (s t : Shape) → has_one_kind s t ≡ false → a_step & pin met t & pin met s ≡ matched met s t
 pin_parts (Struct es) (Struct ts) h = absurd cc
@@ -55,16 +58,21 @@ pin_parts Opaque (Unitary t) h = sym (matched_is met Opaque (Unitary t))
 pin_parts Opaque Opaque h = absurd cc
 
 -- shapes of two kinds
-pub pins_stop : (e : Stop) (room : ℕ) (t0 t1 u : Trace Met) (s t : Shape) → has_one_kind s t ≡ false → Goes room t0 t1 a_step → Walks (Err e) room t1 u (pin met t) → Walks (Err e) room t0 u (matched met s t)
+pub pins_stop : (e : Stop) (room : ℕ) (t0 t1 u : Trace Met) (s t : Shape) → has_one_kind s t ≡ false → Goes room t0 t1 a_step
+    → Walks (Err e) room t1 u (pin met t) → Walks (Err e) room t0 u (matched met s t)
 pins_stop e room t0 t1 u s t k a h =
-    walk_same (Err e) room t0 u _ _ (pin_parts s t k) (walk_stops e room t0 u u (a_step & pin met t) (pin met s) (walk_then (Err e) room t0 t1 u a_step (pin met t) a h))
+    walk_same (Err e) room t0 u _ _ (pin_parts s t k)
+    (walk_stops e room t0 u u (a_step & pin met t) (pin met s) (walk_then (Err e) room t0 t1 u a_step (pin met t) a h))
 
-pub pins_walk : (r : Result Unit Stop) (room : ℕ) (t0 t1 t2 u : Trace Met) (s t : Shape) → has_one_kind s t ≡ false → Goes room t0 t1 a_step → Goes room t1 t2 (pin met t) → Walks r room t2 u (pin met s) → Walks r room t0 u (matched met s t)
+pub pins_walk : (r : Result Unit Stop) (room : ℕ) (t0 t1 t2 u : Trace Met) (s t : Shape) → has_one_kind s t ≡ false → Goes room t0 t1 a_step
+    → Goes room t1 t2 (pin met t) → Walks r room t2 u (pin met s) → Walks r room t0 u (matched met s t)
 pins_walk r room t0 t1 t2 u s t k a b h =
-    walk_same r room t0 u _ _ (pin_parts s t k) (walk_then r room t0 t2 u (a_step & pin met t) (pin met s) (joined room t0 t1 t2 a_step (pin met t) a b) h)
+    walk_same r room t0 u _ _ (pin_parts s t k)
+    (walk_then r room t0 t2 u (a_step & pin met t) (pin met s) (joined room t0 t1 t2 a_step (pin met t) a b) h)
 
 -- shapes of one kind
-first_stops : (e : Stop) (room : ℕ) (t0 u : Trace Met) (s t : Shape) (b : Bool) → has_one_kind s t ≡ b → Walks (Err e) room t0 u a_step → Walks (Err e) room t0 u (matched met s t)
+first_stops : (e : Stop) (room : ℕ) (t0 u : Trace Met) (s t : Shape) (b : Bool) → has_one_kind s t ≡ b → Walks (Err e) room t0 u a_step
+    → Walks (Err e) room t0 u (matched met s t)
 first_stops e room t0 u s t true k h =
     walk_same (Err e) room t0 u _ _ (match_parts s t k)
     (walk_stops e room t0 u u _ (results s t) (walk_stops e room t0 u u _ (params s t) (walk_stops e room t0 u u a_step (listed s t) h)))
@@ -72,15 +80,18 @@ first_stops e room t0 u s t false k h =
     walk_same (Err e) room t0 u _ _ (pin_parts s t k)
     (walk_stops e room t0 u u _ (pin met s) (walk_stops e room t0 u u a_step (pin met t) h))
 
-pub match_stops_first : (e : Stop) (room : ℕ) (t0 u : Trace Met) (s t : Shape) → Walks (Err e) room t0 u a_step → Walks (Err e) room t0 u (matched met s t)
+pub match_stops_first : (e : Stop) (room : ℕ) (t0 u : Trace Met) (s t : Shape) → Walks (Err e) room t0 u a_step
+    → Walks (Err e) room t0 u (matched met s t)
 match_stops_first e room t0 u s t h = first_stops e room t0 u s t (has_one_kind s t) refl h
 
-pub match_stops_list : (e : Stop) (room : ℕ) (t0 t1 u : Trace Met) (s t : Shape) → has_one_kind s t ≡ true → Goes room t0 t1 a_step → Walks (Err e) room t1 u (listed s t) → Walks (Err e) room t0 u (matched met s t)
+pub match_stops_list : (e : Stop) (room : ℕ) (t0 t1 u : Trace Met) (s t : Shape) → has_one_kind s t ≡ true → Goes room t0 t1 a_step
+    → Walks (Err e) room t1 u (listed s t) → Walks (Err e) room t0 u (matched met s t)
 match_stops_list e room t0 t1 u s t k a h =
     walk_same (Err e) room t0 u _ _ (match_parts s t k)
     (walk_stops e room t0 u u _ (results s t) (walk_stops e room t0 u u _ (params s t) (walk_then (Err e) room t0 t1 u a_step (listed s t) a h)))
 
-pub match_stops_params : (e : Stop) (room : ℕ) (t0 t1 t2 u : Trace Met) (s t : Shape) (o p : Option Shape) → has_one_kind s t ≡ true → o ≡ param_of t → p ≡ param_of s → Goes room t0 t1 a_step → Goes room t1 t2 (listed s t)
+pub match_stops_params : (e : Stop) (room : ℕ) (t0 t1 t2 u : Trace Met) (s t : Shape) (o p : Option Shape) → has_one_kind s t ≡ true → o ≡ param_of t
+    → p ≡ param_of s → Goes room t0 t1 a_step → Goes room t1 t2 (listed s t)
     → Walks (Err e) room t2 u (match_part o p) → Walks (Err e) room t0 u (matched met s t)
 match_stops_params e room t0 t1 t2 u s t o p k f g a b h =
     walk_same (Err e) room t0 u _ _ (match_parts s t k)
@@ -88,8 +99,10 @@ match_stops_params e room t0 t1 t2 u s t o p k f g a b h =
     (walk_then (Err e) room t0 t2 u (a_step & listed s t) (params s t) (joined room t0 t1 t2 a_step (listed s t) a b)
     (walk_same (Err e) room t2 u (match_part o p) (params s t) (ap (λ z. match_part z p) f ∙ ap (λ z. match_part (param_of t) z) g) h)))
 
-pub match_walks : (r : Result Unit Stop) (room : ℕ) (t0 t1 t2 t3 u : Trace Met) (s t : Shape) (o p o' p' : Option Shape) → has_one_kind s t ≡ true → o ≡ param_of t → p ≡ param_of s → o' ≡ result_of s → p' ≡ result_of t
-    → Goes room t0 t1 a_step → Goes room t1 t2 (listed s t) → Goes room t2 t3 (match_part o p) → Walks r room t3 u (match_part o' p') → Walks r room t0 u (matched met s t)
+pub match_walks : (r : Result Unit Stop) (room : ℕ) (t0 t1 t2 t3 u : Trace Met) (s t : Shape) (o p o' p' : Option Shape) → has_one_kind s t ≡ true
+    → o ≡ param_of t → p ≡ param_of s → o' ≡ result_of s → p' ≡ result_of t
+    → Goes room t0 t1 a_step → Goes room t1 t2 (listed s t) → Goes room t2 t3 (match_part o p) → Walks r room t3 u (match_part o' p')
+    → Walks r room t0 u (matched met s t)
 match_walks r room t0 t1 t2 t3 u s t o p o' p' k f g f' g' a b c h =
     walk_same r room t0 u _ _ (match_parts s t k)
     (walk_then r room t0 t3 u (a_step & listed s t & params s t) (results s t)

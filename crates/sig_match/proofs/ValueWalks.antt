@@ -28,12 +28,14 @@ pub pins_all : (es : Entries) → pins_at es (values_from 0 es) ≡ pin_vals met
 pins_all es = pins_from es es 0 refl
 
 -- one position after another
-pins_next : (es : Entries) (ats : List ℕ) (i z : ℕ) → i < length ats → pins_at es (drop i ats) ≡ told_once (met_first None (entries_from (get_or ats i z) es)) & pins_at es (drop (suc i) ats)
+pins_next : (es : Entries) (ats : List ℕ) (i z : ℕ) → i < length ats
+    → pins_at es (drop i ats) ≡ told_once (met_first None (entries_from (get_or ats i z) es)) & pins_at es (drop (suc i) ats)
 pins_next es [] i z h = absurd (omega (arith, h))
 pins_next es (a ∷ ats) zero z h = refl
 pins_next es (a ∷ ats) (suc i) z h = pins_next es ats i z (omega (arith, h))
 
-pub pins_rest : (es : Entries) (ats : List ℕ) (i z : ℕ) → i < length ats → pins_at es (drop i ats) ≡ told_once (met_first None (entries_from (get_or ats i z) es)) & pins_at es (drop (i + 1) ats)
+pub pins_rest : (es : Entries) (ats : List ℕ) (i z : ℕ) → i < length ats
+    → pins_at es (drop i ats) ≡ told_once (met_first None (entries_from (get_or ats i z) es)) & pins_at es (drop (i + 1) ats)
 pins_rest es ats i z h =
     let q : suc i ≡ i + 1 = omega arith in
     pins_next es ats i z h ∙ ap (λ n. told_once (met_first None (entries_from (get_or ats i z) es)) & pins_at es (drop n ats)) q

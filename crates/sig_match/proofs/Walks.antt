@@ -56,7 +56,8 @@ pub mets-push : (ms : List Meeting) (m : Meeting) → mets (ms ++ m ∷ []) ≡ 
 mets-push [] m = append-nil (met_at m)
 mets-push (a ∷ ms) m = ap (λ l. met_at a ++ l) (mets-push ms m) ∙ sym (append_assoc (met_at a) (mets ms) (met_at m))
 
-pub met_taken : (room : ℕ) (ms ns os : List Meeting) (m : Meeting) (n k : ℕ) → os ≡ ns ++ m ∷ [] → Goes room (made (mets ms) n) (made (mets ns) k) a_step → Goes room (made (mets ms) n) (made (mets os) k) (told_once (met_at m))
+pub met_taken : (room : ℕ) (ms ns os : List Meeting) (m : Meeting) (n k : ℕ) → os ≡ ns ++ m ∷ []
+    → Goes room (made (mets ms) n) (made (mets ns) k) a_step → Goes room (made (mets ms) n) (made (mets os) k) (told_once (met_at m))
 unfolding ◌&◌
 met_taken room ms ns os m n k o e = (
   ap (λ l. made (mets l) k) o
@@ -72,7 +73,8 @@ met_refused Over room t u v l h = h
 met_refused Memory room t u v l h = tt
 
 -- what a `?` passes on
-pub left : (r : Result Unit Stop) (e : Stop) (room : ℕ) (t u a : Trace Met) → IsErr r → IsErrAnd r (λ y. y ≡ e) → Walks (Err e) room t u a → Walks r room t u a
+pub left : (r : Result Unit Stop) (e : Stop) (room : ℕ) (t u a : Trace Met) → IsErr r → IsErrAnd r (λ y. y ≡ e) → Walks (Err e) room t u a
+    → Walks r room t u a
 left (Ok x) e room t u a h k w = absurd cc
 left (Err y) e room t u a h k w = subst (λ z. Walks (Err z) room t u a) (sym k) w
 
@@ -84,7 +86,8 @@ joined room t u v a b e f = (f.0 ∙ ap (λ z. z & b) e.0 ∙ then_assoc t a b, 
 abbrev pub Turns : ℕ → Trace Met → Trace Met → Trace Met → Trace Met → Type 0
 Turns room s t all rest = (t & rest ≡ s & all) × (s.work ≤ room → t.work ≤ room)
 
-pub loop_stops : (e : Stop) (room : ℕ) (s t v all rest a b : Trace Met) → Turns room s t all rest → rest ≡ a & b → Walks (Err e) room t v a → Walks (Err e) room s v all
+pub loop_stops : (e : Stop) (room : ℕ) (s t v all rest a b : Trace Met) → Turns room s t all rest → rest ≡ a & b → Walks (Err e) room t v a
+    → Walks (Err e) room s v all
 loop_stops Over room s t v all rest a b e f h = subst (λ z. room < z.work) (ap (λ z. t & z) (sym f) ∙ e.0) (more_work room t a b h)
 loop_stops Memory room s t v all rest a b e f h = tt
 

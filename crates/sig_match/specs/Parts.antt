@@ -1,6 +1,7 @@
 -- The parts of Match and Pin that walks go through one by one.
 use Rattle.std.specs.Prelude.{ℕ, Bool, true, false, List, [], ◌∷◌, Option, Some, None}
-use Rattle.shape_core.specs.Shape.{Shape, Struct, Functor, Unitary, Opaque, Entries, none, a_val, a_mod, a_mty, a_dark, unless_some, entries_from, find_mod, find_mty}
+use Rattle.shape_core.specs.Shape.{Shape, Struct, Functor, Unitary, Opaque, Entries, none, a_val, a_mod, a_mty, a_dark, unless_some, entries_from}
+use Rattle.shape_core.specs.Shape.{find_mod, find_mty}
 use Rattle.shape_core.specs.Links.{Trace, ◌&◌, nothing, a_step, one, pin, pin_vals, matched, or_empty}
 use Rattle.sig_match.specs.Walk.{Met, met, met_first, told_once}
 
@@ -32,7 +33,8 @@ abbrev pub match_first : Entries → Entries → Trace Met
 match_first src none = nothing
 match_first src (a_val x g es) = one (met x g es (Some src))
 match_first src (a_mod X t es) = a_step & unless_some (find_mod es X) (matched met (or_empty (find_mod src X)) t) nothing
-match_first src (a_mty S t es) = a_step & unless_some (find_mty es S) (matched met (or_empty (find_mty src S)) t & matched met t (or_empty (find_mty src S))) nothing
+match_first src (a_mty S t es) =
+    a_step & unless_some (find_mty es S) (matched met (or_empty (find_mty src S)) t & matched met t (or_empty (find_mty src S))) nothing
 match_first src (a_dark at es) = a_step & pin_vals met src
 
 -- two shapes of one kind

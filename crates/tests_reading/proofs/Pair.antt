@@ -18,5 +18,6 @@ ordered = ((refl, tt), (tt, tt))
 
 pub are_sources : (a b : SourceFile) (files : List SourceFile) → a.name ≡ codes "a.ml" → b.name ≡ codes "b.ml" → files ≡ a ∷ b ∷ [] → AreSources files
 are_sources a b files e f is =
-    let names : names_of files ≡ codes "a.ml" ∷ codes "b.ml" ∷ [] = ap names_of is ∙ ap (λ n. n ∷ b.name ∷ []) e ∙ ap (λ n. codes "a.ml" ∷ n ∷ []) f in
+    let names : names_of files ≡ codes "a.ml" ∷ codes "b.ml" ∷ [] = ap names_of is ∙ ap (λ n. n ∷ b.name ∷ []) e
+    ∙ ap (λ n. codes "a.ml" ∷ n ∷ []) f in
     record { named = ap (list_all is_source_name) names ∙ named; ordered = subst (IsStrictlySortedBy (slice_cmp nat_cmp)) (sym names) ordered }

@@ -12,4 +12,5 @@ appended (Some xs) (Some ys) (Some zs) a b h k = k ∙ ap (λ l. l ++ b) h ∙ a
 
 -- what is done, the piece, and what is left behind it
 pub cut_on : (bytes done rest left : List ℕ) (n : ℕ) → bytes ≡ done ++ rest → left ≡ drop n rest → bytes ≡ (done ++ take n rest) ++ left
-cut_on bytes done rest left n e l = e ∙ ap (λ r. done ++ r) (sym (take-append-drop n rest)) ∙ sym (append_assoc done (take n rest) (drop n rest)) ∙ ap (λ r. (done ++ take n rest) ++ r) (sym l)
+cut_on bytes done rest left n e l = e ∙ ap (λ r. done ++ r) (sym (take-append-drop n rest)) ∙ sym (append_assoc done (take n rest) (drop n rest))
+    ∙ ap (λ r. (done ++ take n rest) ++ r) (sym l)

@@ -7,5 +7,7 @@ use Rattle.ml_syntax.specs.declared.expression.Expr.{Expr}
 use Rattle.ml_syntax.specs.View.{tail, otherwise}
 use Rattle.unit_order.specs.Heads.{tail_heads}
 
-pub branches_done : (bound s start : List (List ℕ)) (l : List Branch) (i : ℕ) (o : Option (Box Expr)) → length l ≤ i → tail_heads bound s (tail (drop i l) o) ≡ tail_heads bound start (tail l o) → tail_heads bound s (otherwise o) ≡ tail_heads bound start (tail l o)
+pub branches_done : (bound s start : List (List ℕ)) (l : List Branch) (i : ℕ) (o : Option (Box Expr)) → length l ≤ i
+    → tail_heads bound s (tail (drop i l) o) ≡ tail_heads bound start (tail l o) → tail_heads bound s (otherwise o) ≡ tail_heads bound start
+    (tail l o)
 branches_done bound s start l i o le h = sym (ap (λ k. tail_heads bound s (tail k o)) (drop_all i l le)) ∙ h

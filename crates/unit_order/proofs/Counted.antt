@@ -1,5 +1,6 @@
 -- The counts of a list of names, behind a change at one name.
-use Rattle.std.proofs.Common.{◌≡◌, ℕ, ◌+◌, ◌-◌, suc, Bool, true, false, ◌||◌, cond, count_by, List, [], ◌∷◌, ◌++◌, Option, Some, None, unwrap_or, nat_lt, if◌then◌else◌, bytes_eq, refl, sym, ap, subst, ◌∙◌, true≢false, arith}
+use Rattle.std.proofs.Common.{◌≡◌, ℕ, ◌+◌, ◌-◌, suc, Bool, true, false, ◌||◌, cond, count_by, List, [], ◌∷◌, ◌++◌, Option, Some, None, unwrap_or}
+use Rattle.std.proofs.Common.{nat_lt, if◌then◌else◌, bytes_eq, refl, sym, ap, subst, ◌∙◌, true≢false, arith}
 use Rattle.std.proofs.lemmas.Grind.{common_steps}
 use Rattle.std.proofs.lemmas.List.Sums.{sum_by_push, sum_by-cons}
 use Rattle.std.proofs.lemmas.Slice.Eq.{bytes_eq-Decides}
@@ -30,7 +31,8 @@ apart a b e key h = go (bytes_eq b key.items) refl
         absurd (true≢false (sym ((bytes_eq-Decides a b).1 same) ∙ e))
 
 -- a change at one name changes the count of that name alone
-pub changed : (c d : Counts) (name : List ℕ) (n : ℕ) → UpdatesBy Eq (Test name) c.map d.map (Some n) → (x : List ℕ) → count_of d x ≡ (if bytes_eq name x then n else count_of c x)
+pub changed : (c d : Counts) (name : List ℕ) (n : ℕ) → UpdatesBy Eq (Test name) c.map d.map (Some n) → (x : List ℕ)
+    → count_of d x ≡ (if bytes_eq name x then n else count_of c x)
 unfolding KeepsOthers
 changed c d name n h x = go (bytes_eq name x) refl
   where
@@ -45,7 +47,8 @@ last : (name : List ℕ) (list : List (List ℕ)) → count_by (Is name) (list +
 last name list = pushed name name list ∙ ap (λ t. count_by (Is name) list + cond t 1 0) ((bytes_eq-Decides name name).1 refl)
 
 -- one more of the name, and the list has it at its end
-pub one_more : (c d : Counts) (name : List ℕ) → ((x : List ℕ) → count_of d x ≡ (if bytes_eq name x then count_of c name + 1 else count_of c x)) → (list : List (List ℕ)) → AreCounts c list → AreCounts d (list ++ name ∷ [])
+pub one_more : (c d : Counts) (name : List ℕ) → ((x : List ℕ) → count_of d x ≡ (if bytes_eq name x then count_of c name + 1 else count_of c x))
+    → (list : List (List ℕ)) → AreCounts c list → AreCounts d (list ++ name ∷ [])
 one_more c d name h list are x = go (bytes_eq name x) refl
   where
     go : (t : Bool) → bytes_eq name x ≡ t → count_of d x ≡ count_by (Is x) (list ++ name ∷ [])
@@ -57,13 +60,16 @@ one_more c d name h list are x = go (bytes_eq name x) refl
         h x ∙ ap (λ t. if t then count_of c name + 1 else count_of c x) e
         ∙ are x ∙ omega arith ∙ sym (pushed x name list ∙ ap (λ t. count_by (Is x) list + cond t 1 0) e)
 
-pub count_more : (c d : Counts) (name key : List ℕ) (n : ℕ) → key ≡ name → n ≡ count_of c name → UpdatesBy Eq (Test key) c.map d.map (Some (n + 1)) → (list : List (List ℕ)) → AreCounts c list → AreCounts d (list ++ name ∷ [])
+pub count_more : (c d : Counts) (name key : List ℕ) (n : ℕ) → key ≡ name → n ≡ count_of c name → UpdatesBy Eq (Test key) c.map d.map (Some (n + 1))
+    → (list : List (List ℕ)) → AreCounts c list → AreCounts d (list ++ name ∷ [])
 count_more c d name key n same is updates =
     let h = changed c d key (n + 1) updates in
-    one_more c d name (λ x. subst (λ k. count_of d x ≡ (if bytes_eq k x then n + 1 else count_of c x)) same (h x) ∙ ap (λ m. if bytes_eq name x then m + 1 else count_of c x) is)
+    one_more c d name (λ x. subst (λ k. count_of d x ≡ (if bytes_eq k x then n + 1 else count_of c x)) same (h x)
+    ∙ ap (λ m. if bytes_eq name x then m + 1 else count_of c x) is)
 
 -- one less of the name, and the list is without its last
-pub one_less : (c d : Counts) (name : List ℕ) → ((x : List ℕ) → count_of d x ≡ (if bytes_eq name x then count_of c name - 1 else count_of c x)) → (list : List (List ℕ)) → AreCounts c (list ++ name ∷ []) → AreCounts d list
+pub one_less : (c d : Counts) (name : List ℕ) → ((x : List ℕ) → count_of d x ≡ (if bytes_eq name x then count_of c name - 1 else count_of c x))
+    → (list : List (List ℕ)) → AreCounts c (list ++ name ∷ []) → AreCounts d list
 one_less c d name h list are x = go (bytes_eq name x) refl
   where
     go : (t : Bool) → bytes_eq name x ≡ t → count_of d x ≡ count_by (Is x) list
@@ -75,7 +81,8 @@ one_less c d name h list are x = go (bytes_eq name x) refl
         h x ∙ ap (λ t. if t then count_of c name - 1 else count_of c x) e
         ∙ are x ∙ pushed x name list ∙ ap (λ t. count_by (Is x) list + cond t 1 0) e ∙ omega arith
 
-pub count_less : (c d : Counts) (name : List ℕ) (n : ℕ) → n ≡ count_of c name - 1 → UpdatesBy Eq (Test name) c.map d.map (Some n) → (list : List (List ℕ)) → AreCounts c (list ++ name ∷ []) → AreCounts d list
+pub count_less : (c d : Counts) (name : List ℕ) (n : ℕ) → n ≡ count_of c name - 1 → UpdatesBy Eq (Test name) c.map d.map (Some n)
+    → (list : List (List ℕ)) → AreCounts c (list ++ name ∷ []) → AreCounts d list
 count_less c d name n is updates =
     let h = changed c d name n updates in
     one_less c d name (λ x. h x ∙ ap (λ m. if bytes_eq name x then m else count_of c x) is)

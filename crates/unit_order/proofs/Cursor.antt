@@ -1,5 +1,6 @@
 -- The search for the next unit that can be taken, from a position before which there is none.
-use Rattle.std.proofs.Common.{◌≡◌, ℕ, suc, zero, ◌+◌, ◌-◌, ◌<◌, ◌≤◌, ◌||◌, inl, inr, List, [], ◌∷◌, Bool, true, false, cond, count_by, Option, Some, None, option_map, drop, get_or, set, take, length, nat_eq, refl, sym, subst, ap, ◌∙◌, arith}
+use Rattle.std.proofs.Common.{◌≡◌, ℕ, suc, zero, ◌+◌, ◌-◌, ◌<◌, ◌≤◌, ◌||◌, inl, inr, List, [], ◌∷◌, Bool, true, false, cond, count_by, Option, Some}
+use Rattle.std.proofs.Common.{None, option_map, drop, get_or, set, take, length, nat_eq, refl, sym, subst, ap, ◌∙◌, arith}
 use Rattle.std.specs.List.{position}
 use Rattle.std.proofs.lemmas.Bool.{cases_eq, eq-eqb, ne_eqb}
 use Rattle.std.proofs.lemmas.List.{get_or-set_same, get_or-set_other, get_or_default}
@@ -9,7 +10,8 @@ use Rattle.unit_order.proofs.Taken.{position_cons}
 use Rattle.unit_order.proofs.Users.{count_more}
 
 -- the first that can be taken is the first from there on
-pub position_from : (from : ℕ) (waiting : List Waiting) → from ≤ length waiting → NoneFreeBefore from waiting → position is_free waiting ≡ option_map (λ k. from + k) (position is_free (drop from waiting))
+pub position_from : (from : ℕ) (waiting : List Waiting) → from ≤ length waiting → NoneFreeBefore from waiting
+    → position is_free waiting ≡ option_map (λ k. from + k) (position is_free (drop from waiting))
 position_from zero waiting le none = from_zero (position is_free waiting)
   where
     plus : (k : ℕ) → k ≡ 0 + k
@@ -33,10 +35,12 @@ position_from (suc from) (unit ∷ waiting) le none =
     one_on (Some k) = ap Some (plus k)
 
 -- One unit waits otherwise. If it is before the position, it cannot be taken. Then still none before the position can.
-pub still_none : (waiting : List Waiting) (from at : ℕ) (unit : Waiting) → at < length waiting → NoneFreeBefore from waiting → (at < from → is_free unit ≡ false) → NoneFreeBefore from (set waiting at unit)
+pub still_none : (waiting : List Waiting) (from at : ℕ) (unit : Waiting) → at < length waiting → NoneFreeBefore from waiting
+    → (at < from → is_free unit ≡ false) → NoneFreeBefore from (set waiting at unit)
 still_none waiting from at unit within none this = λ k d lt.
     elim (cases_eq k at) [
-      | inl e ↦ ap is_free (ap (λ j. get_or (set waiting at unit) j d) e ∙ get_or-set_same waiting at unit d within) ∙ this (subst (λ j. j < from) e lt)
+      | inl e ↦ ap is_free (ap (λ j. get_or (set waiting at unit) j d) e ∙ get_or-set_same waiting at unit d within)
+          ∙ this (subst (λ j. j < from) e lt)
       | inr ne ↦ ap is_free (get_or-set_other waiting at k unit d ne) ∙ none k d lt
     ]
 
@@ -46,10 +50,16 @@ or_false false = refl
 
 -- how each waits after so many users
 abbrev pub AreReleased : List Waiting → List Waiting → List ℕ → ℕ → Type 0
-AreReleased before waiting users at = (k : ℕ) (d : Waiting) → k < length before → get_or waiting k d ≡ record { missing = (get_or before k d).missing - count_by (nat_eq k) users; taken = (get_or before k d).taken || nat_eq k at }
+AreReleased before waiting users at = (k : ℕ) (d : Waiting) → k < length before
+    → get_or waiting k d ≡ record {
+      missing = (get_or before k d).missing - count_by (nat_eq k) users;
+      taken = (get_or before k d).taken || nat_eq k at;
+    }
 
 -- one more user waits for one less
-pub one_released : (before waiting : List Waiting) (users : List ℕ) (i at : ℕ) (e : Waiting) → length waiting ≡ length before → i < length users → get_or users i 0 < length waiting → AreReleased before waiting (take i users) at → AreReleased before (set waiting (get_or users i 0) (waits_after true false (get_or waiting (get_or users i 0) e))) (take (i + 1) users) at
+pub one_released : (before waiting : List Waiting) (users : List ℕ) (i at : ℕ) (e : Waiting) → length waiting ≡ length before → i < length users
+    → get_or users i 0 < length waiting → AreReleased before waiting (take i users) at → AreReleased before
+    (set waiting (get_or users i 0) (waits_after true false (get_or waiting (get_or users i 0) e))) (take (i + 1) users) at
 one_released before waiting users i at e size lt within each = λ k d inside.
     let user = get_or users i 0 in
     let later = waits_after true false (get_or waiting user e) in

@@ -1,6 +1,9 @@
 -- What was bound before stays in front of what is bound behind it.
 use Rattle.std.proofs.Common.{◌≡◌, ℕ, ◌≤◌, List, [], ◌∷◌, ◌++◌, length, take, refl, sym, ap, subst, ◌∙◌, take-take, length-take, arith}
-use Rattle.ml_syntax.specs.Tree.{ModuleName, UpperName, AnyName, FunctorParam, NamedParam, NoParam, FunctorParams, no_functor_param, more_functor_param, Item, ExprItem, SeparatorItem, ValueItem, ExternalItem, TypeItem, ExceptionItem, ModuleItem, ModuleTypeItem, OpenItem, IncludeItem, SigItem, SeparatorSig, ValSig, ExternalSig, TypeSig, ExceptionSig, ModuleSig, AliasSig, ModuleTypeSig, OpenSig, IncludeSig}
+use Rattle.ml_syntax.specs.Tree.{ModuleName, UpperName, AnyName, FunctorParam, NamedParam, NoParam, FunctorParams, no_functor_param}
+use Rattle.ml_syntax.specs.Tree.{more_functor_param, Item, ExprItem, SeparatorItem, ValueItem, ExternalItem, TypeItem, ExceptionItem, ModuleItem}
+use Rattle.ml_syntax.specs.Tree.{ModuleTypeItem, OpenItem, IncludeItem, SigItem, SeparatorSig, ValSig, ExternalSig, TypeSig, ExceptionSig, ModuleSig}
+use Rattle.ml_syntax.specs.Tree.{AliasSig, ModuleTypeSig, OpenSig, IncludeSig}
 use Rattle.unit_order.specs.Heads.{bound_by_name, bound_by_param, bound_by_params, bound_by_item, bound_by_sig_item}
 
 all : (bound : List (List ℕ)) → take (length bound) bound ≡ bound
@@ -51,7 +54,8 @@ in_front a b c h k =
 
 pub behind_params : (bound : List (List ℕ)) (ps : FunctorParams) → take (length bound) (bound_by_params bound ps) ≡ bound
 behind_params bound no_functor_param = all bound
-behind_params bound (more_functor_param p ps) = in_front bound (bound_by_param bound p) (bound_by_params (bound_by_param bound p) ps) (behind_param bound p) (behind_params (bound_by_param bound p) ps)
+behind_params bound (more_functor_param p ps) = in_front bound (bound_by_param bound p) (bound_by_params (bound_by_param bound p) ps)
+    (behind_param bound p) (behind_params (bound_by_param bound p) ps)
 
 pub front_of_item : (a b : List (List ℕ)) (i : Item) → take (length a) b ≡ a → take (length a) (bound_by_item b i) ≡ a
 front_of_item a b i h = in_front a b (bound_by_item b i) h (behind_item b i)

@@ -19,7 +19,8 @@ at_local_nothing at k = refl
 
 pub ruleset local_views = (at_local_module, at_local_nothing)
 
-pub local_then : (bound found : List (List ℕ)) (a : LocalArgument) (k : pure.LocalArguments) → locals_heads bound found (view_local_then a k) ≡ locals_heads bound (locals_heads bound found (view_local_then a pure.no_local)) k
+pub local_then : (bound found : List (List ℕ)) (a : LocalArgument) (k : pure.LocalArguments)
+    → locals_heads bound found (view_local_then a k) ≡ locals_heads bound (locals_heads bound found (view_local_then a pure.no_local)) k
 unfolding view_locals
 local_then bound found (l.Module' at path _ ms) k = refl
 local_then bound found (l.Nothing at) k = refl

@@ -1,5 +1,6 @@
 -- Each line of a manifest that lists the units is empty or names one of them.
-use Rattle.std.proofs.Common.{◌≡◌, ℕ, suc, ◌<◌, zero, length, get_or, nat_lt, inl, inr, List, [], ◌∷◌, ◌++◌, Bool, true, false, ◌||◌, not, cond, Option, Some, None, option_map, map, filter, refl, ap, sym, ◌∙◌, arith}
+use Rattle.std.proofs.Common.{◌≡◌, ℕ, suc, ◌<◌, zero, length, get_or, nat_lt, inl, inr, List, [], ◌∷◌, ◌++◌, Bool, true, false, ◌||◌, not, cond}
+use Rattle.std.proofs.Common.{Option, Some, None, option_map, map, filter, refl, ap, sym, ◌∙◌, arith}
 use Rattle.std.specs.List.{list_any, position, position_or_len, AllByRecursion}
 use Rattle.std.specs.Str.{bytes_eq}
 use Rattle.std.specs.Str.Lines.{lines}
@@ -26,8 +27,10 @@ any_kept : {X : Type 0} (p q : X → Bool) (xs : List X) → list_any p (filter 
 any_kept p q [] h = h
 any_kept p q (x ∷ xs) h = by (q x) (any_kept p q xs) h
   where
-    by : (b : Bool) → (list_any p (filter q xs) ≡ true → list_any p xs ≡ true) → list_any p (cond b (x ∷ filter q xs) (filter q xs)) ≡ true → (p x || list_any p xs) ≡ true
-    by true more h = elim (or_cases (p x) (list_any p (filter q xs)) h) [ inl e ↦ or_left (p x) (list_any p xs) e | inr e ↦ or_right (p x) (list_any p xs) (more e) ]
+    by : (b : Bool) → (list_any p (filter q xs) ≡ true → list_any p xs ≡ true) → list_any p (cond b (x ∷ filter q xs) (filter q xs)) ≡ true
+        → (p x || list_any p xs) ≡ true
+    by true more h = elim (or_cases (p x) (list_any p (filter q xs)) h)
+        [ inl e ↦ or_left (p x) (list_any p xs) e | inr e ↦ or_right (p x) (list_any p xs) (more e) ]
     by false more h = or_right (p x) (list_any p xs) (more h)
 
 any_map : {A B : Type 0} (p : B → Bool) (f : A → B) (xs : List A) → list_any p (map f xs) ≡ list_any (λ x. p (f x)) xs
@@ -42,13 +45,18 @@ good_line : (b : Bool) (o : Option ℕ) → cond b (option_map suc o) (Some 1) �
 good_line true o h = (refl, no_number o h)
 good_line false o h = absurd (cc)
 
-named_lines : (all : List SourceUnit) (ls : List (List ℕ)) (units : List SourceUnit) → ((p : SourceUnit → Bool) → list_any p units ≡ true → list_any p all ≡ true) → bad_line ls units ≡ None → AllByRecursion (IsNamed (λ unit. unit.name) all) ls
+named_lines : (all : List SourceUnit) (ls : List (List ℕ)) (units : List SourceUnit)
+    → ((p : SourceUnit → Bool) → list_any p units ≡ true → list_any p all ≡ true) → bad_line ls units ≡ None
+    → AllByRecursion (IsNamed (λ unit. unit.name) all) ls
 named_lines all [] units within h = tt
 named_lines all ([] ∷ ls) units within h = (λ e. absurd (true≢false (sym e)), named_lines all ls units within (no_number (bad_line ls units) h))
 named_lines all ((b ∷ bs) ∷ ls) units within h =
     let rest = filter (λ (unit : SourceUnit). not (bytes_eq unit.name (b ∷ bs))) units in
-    let good = good_line (list_any (λ (unit : SourceUnit). bytes_eq unit.name (b ∷ bs)) units) (bad_line ls rest) h in
-    (λ _. within (λ unit. bytes_eq unit.name (b ∷ bs)) good.0, named_lines all ls rest (λ p k. within p (any_kept p (λ unit. not (bytes_eq unit.name (b ∷ bs))) units k)) good.1)
+    let good = good_line (list_any (λ (unit : SourceUnit). bytes_eq unit.name (b ∷ bs)) units) (bad_line ls rest) h in (
+      λ _. within (λ unit. bytes_eq unit.name (b ∷ bs)) good.0,
+      named_lines all ls rest
+          (λ p k. within p (any_kept p (λ unit. not (bytes_eq unit.name (b ∷ bs))) units k)) good.1,
+    )
 
 by_weaker : (P Q : List ℕ → Type 0) → ((line : List ℕ) → P line → Q line) → (ls : List (List ℕ)) → AllByRecursion P ls → AllByRecursion Q ls
 by_weaker P Q f [] h = tt
@@ -59,19 +67,22 @@ no_refusal None h = refl
 no_refusal (Some n) h = absurd (cc)
 
 -- what lists the units has lines of which each is empty or names one
-pub listed_named : (units : List trees.UnitTree) (bytes : List ℕ) → IsListed (views units) (Some bytes) → AllByRecursion (IsNamed (λ unit. unit.name) units) (lines bytes)
+pub listed_named : (units : List trees.UnitTree) (bytes : List ℕ) → IsListed (views units) (Some bytes)
+    → AllByRecursion (IsNamed (λ unit. unit.name) units) (lines bytes)
 unfolding bad_manifest
 listed_named units bytes h =
     let as_source = λ (u : UnitTree). let source : SourceUnit = record { name = u.name; is_body = true } in source in
     let all = map as_source (views units) in
     by_weaker (IsNamed (λ unit. unit.name) all) (IsNamed (λ unit. unit.name) units)
-    (λ line named filled. sym (any_map (λ unit. bytes_eq unit.name line) as_source (views units) ∙ any_map (λ u. bytes_eq u.name line) view_unit units) ∙ named filled)
+    (λ line named filled. sym
+    (any_map (λ unit. bytes_eq unit.name line) as_source (views units) ∙ any_map (λ u. bytes_eq u.name line) view_unit units) ∙ named filled)
     (lines bytes) (named_lines all (lines bytes) all (λ p k. k) (no_refusal (bad_line (lines bytes) all) h))
 
 -- the first of these that passes
 pub position_map : {A B : Type 0} (p : B → Bool) (f : A → B) (xs : List A) → position (λ x. p (f x)) xs ≡ position p (map f xs)
 position_map p f [] = refl
-position_map p f (x ∷ xs) = position_cons (λ y. p (f y)) x xs ∙ ap (λ o. cond (p (f x)) (Some 0) (option_map suc o)) (position_map p f xs) ∙ sym (position_cons p (f x) (map f xs))
+position_map p f (x ∷ xs) = position_cons (λ y. p (f y)) x xs ∙ ap (λ o. cond (p (f x)) (Some 0) (option_map suc o)) (position_map p f xs)
+    ∙ sym (position_cons p (f x) (map f xs))
 
 pub name_at : (units : List trees.UnitTree) (at : ℕ) → (unit_at (views units) at).name ≡ get_or (map (λ u. u.name) units) at []
 name_at [] at = refl
@@ -79,18 +90,24 @@ name_at (u ∷ units) zero = refl
 name_at (u ∷ units) (suc at) = name_at units at
 
 -- the name of the unit at a position
-pub name_of : (units : List trees.UnitTree) (at : ℕ) (d : trees.UnitTree) → at < length units → (get_or units at d).name ≡ (unit_at (views units) at).name
+pub name_of : (units : List trees.UnitTree) (at : ℕ) (d : trees.UnitTree) → at < length units
+    → (get_or units at d).name ≡ (unit_at (views units) at).name
 name_of [] at d lt = absurd (omega (arith, lt))
 name_of (u ∷ units) zero d lt = refl
 name_of (u ∷ units) (suc at) d lt = name_of units at d (omega (arith, lt))
 
 -- the unit that a line names, at the end of the order
-pub add_named : (units : List trees.UnitTree) (order line : List ℕ) (at : ℕ) → is_filled line ≡ true → position (λ unit. bytes_eq unit.name line) units ≡ Some at → (at < length units) × (names_at (views units) (order ++ at ∷ []) ≡ names_at (views units) order ++ filter is_filled (line ∷ []))
+pub add_named : (units : List trees.UnitTree) (order line : List ℕ) (at : ℕ) → is_filled line ≡ true
+    → position (λ unit. bytes_eq unit.name line) units ≡ Some at → (at < length units)
+    × (names_at (views units) (order ++ at ∷ []) ≡ names_at (views units) order ++ filter is_filled (line ∷ []))
 add_named units order line at filled is =
-    let found = position-Some (λ name. bytes_eq name line) (map (λ (u : trees.UnitTree). u.name) units) at [] (sym (position_map (λ name. bytes_eq name line) (λ (u : trees.UnitTree). u.name) units) ∙ is) in
-    let same : (unit_at (views units) at).name ≡ line = name_at units at ∙ (bytes_eq-Decides (get_or (map (λ (u : trees.UnitTree). u.name) units) at []) line).0 found.1 in (
+    let found = position-Some (λ name. bytes_eq name line) (map (λ (u : trees.UnitTree). u.name) units) at []
+    (sym (position_map (λ name. bytes_eq name line) (λ (u : trees.UnitTree). u.name) units) ∙ is) in
+    let same : (unit_at (views units) at).name ≡ line =
+    name_at units at ∙ (bytes_eq-Decides (get_or (map (λ (u : trees.UnitTree). u.name) units) at []) line).0 found.1 in (
       omega (arith, found.0, length-map units (λ (u : trees.UnitTree). u.name)),
-      map-append (λ k. (unit_at (views units) k).name) order (at ∷ []) ∙ ap (λ name. names_at (views units) order ++ name ∷ []) same ∙ ap (λ b. names_at (views units) order ++ cond b (line ∷ []) []) (sym filled),
+      map-append (λ k. (unit_at (views units) k).name) order (at ∷ []) ∙ ap (λ name. names_at (views units) order ++ name ∷ []) same
+          ∙ ap (λ b. names_at (views units) order ++ cond b (line ∷ []) []) (sym filled),
     )
 
 -- one of these passes, so it is found

@@ -29,7 +29,8 @@ bound : unit_heads (unit (pure.more_item (module_item (codes "B") empty) (pure.m
 bound = refl
 
 -- behind it, it does not
-unbound : unit_heads (unit (pure.more_item (use_of (codes "B") (codes "y")) (pure.more_item (module_item (codes "B") empty) pure.no_item))) ≡ codes "B" ∷ []
+unbound : unit_heads (unit (pure.more_item (use_of (codes "B") (codes "y")) (pure.more_item (module_item (codes "B") empty) pure.no_item)))
+    ≡ codes "B" ∷ []
 unbound = refl
 
 -- `module B = B` needs `B`
@@ -37,15 +38,24 @@ itself : unit_heads (unit (pure.more_item (module_item (codes "B") (pure.ModPath
 itself = refl
 
 -- what a structure binds ends with it
-within : unit_heads (unit (pure.more_item (module_item (codes "C") (pure.Struct 1 (pure.more_item (module_item (codes "B") empty) pure.no_item))) (pure.more_item (use_of (codes "B") (codes "y")) pure.no_item))) ≡ codes "B" ∷ []
+within : unit_heads (unit
+    (pure.more_item (module_item (codes "C") (pure.Struct 1 (pure.more_item (module_item (codes "B") empty) pure.no_item)))
+    (pure.more_item (use_of (codes "B") (codes "y")) pure.no_item))) ≡ codes "B" ∷ []
 within = refl
 
 -- `None` has no path before it, `M.None` has
-constr : unit_heads (unit (pure.more_item (pure.ExprItem (pure.Constr (word 1 (codes "None") ∷ []))) (pure.more_item (pure.ExprItem (pure.Constr (word 1 (codes "M") ∷ word 3 (codes "None") ∷ []))) pure.no_item))) ≡ codes "M" ∷ []
+constr : unit_heads (unit
+    (pure.more_item (pure.ExprItem (pure.Constr (word 1 (codes "None") ∷ [])))
+    (pure.more_item (pure.ExprItem (pure.Constr (word 1 (codes "M") ∷ word 3 (codes "None") ∷ []))) pure.no_item))) ≡ codes "M" ∷ []
 constr = refl
 
 -- a parameter is bound in the body and in the parameters behind it
-functor : unit_heads (unit (pure.more_item (pure.IncludeItem 1 (pure.Functor 1 (pure.more_functor_param (pure.NamedParam 2 (pure.UpperName (word 3 (codes "X"))) (pure.TypePath (word 4 (codes "X") ∷ word 5 (codes "S") ∷ []))) (pure.more_functor_param (pure.NamedParam 2 (pure.UpperName (word 3 (codes "Y"))) (pure.TypePath (word 4 (codes "X") ∷ word 5 (codes "S") ∷ []))) pure.no_functor_param)) (pure.ModPath (word 9 (codes "Y") ∷ [])))) pure.no_item)) ≡ codes "X" ∷ []
+functor : unit_heads (unit
+    (pure.more_item (pure.IncludeItem 1
+    (pure.Functor 1 (pure.more_functor_param
+    (pure.NamedParam 2 (pure.UpperName (word 3 (codes "X"))) (pure.TypePath (word 4 (codes "X") ∷ word 5 (codes "S") ∷ [])))
+    (pure.more_functor_param (pure.NamedParam 2 (pure.UpperName (word 3 (codes "Y"))) (pure.TypePath (word 4 (codes "X") ∷ word 5 (codes "S") ∷ [])))
+    pure.no_functor_param)) (pure.ModPath (word 9 (codes "Y") ∷ [])))) pure.no_item)) ≡ codes "X" ∷ []
 functor = refl
 
 -- a unit of this name whose body uses a value of each of these modules
@@ -62,7 +72,8 @@ unfolding taking
 after = refl
 
 -- each time the first in byte order is taken
-again : derived_order (named (codes "A") (codes "C" ∷ []) ∷ named (codes "B") [] ∷ named (codes "C") [] ∷ named (codes "D") [] ∷ []) ≡ codes "B" ∷ codes "C" ∷ codes "A" ∷ codes "D" ∷ []
+again : derived_order (named (codes "A") (codes "C" ∷ []) ∷ named (codes "B") [] ∷ named (codes "C") [] ∷ named (codes "D") [] ∷ []) ≡ codes "B"
+    ∷ codes "C" ∷ codes "A" ∷ codes "D" ∷ []
 unfolding taking
 again = refl
 
@@ -75,7 +86,15 @@ unfolding taking
 none = refl
 
 stuck : IsStuck pair (codes "A")
-stuck = record { before = []; at = named (codes "A") (codes "B" ∷ []); behind = named (codes "B") (codes "A" ∷ []) ∷ []; split = refl; named = refl; cycle = (1, refl); first = search rules }
+stuck = record {
+  before = [];
+  at = named (codes "A") (codes "B" ∷ []);
+  behind = named (codes "B") (codes "A" ∷ []) ∷ [];
+  split = refl;
+  named = refl;
+  cycle = (1, refl);
+  first = search rules;
+}
 
 -- the lines of a manifest
 lines_of : order_of pair (Some (codes "B\r\n\nA")) ≡ codes "B" ∷ codes "A" ∷ []

@@ -1,5 +1,6 @@
 -- The positions in the rows of the table of needs are those of the units that each unit needs.
-use Rattle.std.proofs.Common.{◌≡◌, ℕ, suc, zero, ◌+◌, ◌<◌, ◌≤◌, length, get_or, drop, List, [], ◌∷◌, ◌++◌, All, Bool, true, false, ◌||◌, cond, count_by, map, nat_eq, refl, sym, subst, ap, ◌∙◌, arith, append_assoc}
+use Rattle.std.proofs.Common.{◌≡◌, ℕ, suc, zero, ◌+◌, ◌<◌, ◌≤◌, length, get_or, drop, List, [], ◌∷◌, ◌++◌, All, Bool, true, false, ◌||◌, cond}
+use Rattle.std.proofs.Common.{count_by, map, nat_eq, refl, sym, subst, ap, ◌∙◌, arith, append_assoc}
 use Rattle.std.specs.List.{list_any}
 use Rattle.std.proofs.lemmas.Bool.{eq-eqb, ne_eqb, or_left}
 use Rattle.std.proofs.lemmas.List.{get_or-map, get_or_default, length-map, drop_more}
@@ -31,13 +32,16 @@ pub positions_inside : (at : ℕ) (row : List Bool) → All (λ p. p < at + leng
 positions_inside at [] = All-nil (λ p. p < at + 0)
 positions_inside at (true ∷ row) =
     All-cons (λ p. p < at + suc (length row)) at (positions_from (at + 1) row) (omega arith)
-    (All-weaker (λ p. p < at + 1 + length row) (λ p. p < at + suc (length row)) (λ p h. omega (arith, h)) (positions_from (at + 1) row) (positions_inside (at + 1) row))
-positions_inside at (false ∷ row) = All-weaker (λ p. p < at + 1 + length row) (λ p. p < at + suc (length row)) (λ p h. omega (arith, h)) (positions_from (at + 1) row) (positions_inside (at + 1) row)
+    (All-weaker (λ p. p < at + 1 + length row) (λ p. p < at + suc (length row)) (λ p h. omega (arith, h)) (positions_from (at + 1) row)
+    (positions_inside (at + 1) row))
+positions_inside at (false ∷ row) = All-weaker (λ p. p < at + 1 + length row) (λ p. p < at + suc (length row)) (λ p h. omega (arith, h))
+    (positions_from (at + 1) row) (positions_inside (at + 1) row)
 
 -- no position before the first is among them
 none_before : (at p : ℕ) (row : List Bool) → p < at → list_any (nat_eq p) (positions_from at row) ≡ false
 none_before at p [] lt = refl
-none_before at p (true ∷ row) lt = ap (λ b. b || list_any (nat_eq p) (positions_from (at + 1) row)) (ne_eqb p at (λ e. omega (arith, e, lt))) ∙ none_before (at + 1) p row (omega (arith, lt))
+none_before at p (true ∷ row) lt = ap (λ b. b || list_any (nat_eq p) (positions_from (at + 1) row)) (ne_eqb p at (λ e. omega (arith, e, lt)))
+    ∙ none_before (at + 1) p row (omega (arith, lt))
 none_before at p (false ∷ row) lt = none_before (at + 1) p row (omega (arith, lt))
 
 -- a position is among them exactly if the row says so
@@ -61,8 +65,10 @@ pub table_row : (us : List UnitTree) (i : ℕ) → i < length us → get_or (nee
 table_row us i lt = get_or-map (λ u. map (λ v. needs_unit u v.name) us) us i blank [] lt
 
 -- the list of a unit has the positions in its row
-pub list_at : (us : List UnitTree) (i : ℕ) → i < length us → get_or (map (positions_from 0) (need_table us)) i [] ≡ positions_from 0 (map (λ v. needs_unit (unit_at us i) v.name) us)
-list_at us i lt = get_or-map (positions_from 0) (need_table us) i [] [] (omega (arith, lt, length-map us (λ u. map (λ v. needs_unit u v.name) us))) ∙ ap (positions_from 0) (table_row us i lt)
+pub list_at : (us : List UnitTree) (i : ℕ) → i < length us → get_or (map (positions_from 0) (need_table us)) i [] ≡ positions_from 0
+    (map (λ v. needs_unit (unit_at us i) v.name) us)
+list_at us i lt = get_or-map (positions_from 0) (need_table us) i [] [] (omega (arith, lt, length-map us (λ u. map (λ v. needs_unit u v.name) us)))
+    ∙ ap (positions_from 0) (table_row us i lt)
 
 -- there is a list for each unit
 pub list_count : (us : List UnitTree) → length (map (positions_from 0) (need_table us)) ≡ length us
@@ -84,17 +90,20 @@ table_needs us = record {
   exact = λ i j lt within.
       ap (λ l. list_any (nat_eq j) l) (list_at us i lt)
       ∙ ap (λ q. list_any (nat_eq q) (positions_from 0 (map (λ v. needs_unit (unit_at us i) v.name) us))) (from_zero j)
-      ∙ positions_exact 0 j (map (λ v. needs_unit (unit_at us i) v.name) us) ∙ get_or-map (λ v. needs_unit (unit_at us i) v.name) us j blank false within;
+      ∙ positions_exact 0 j (map (λ v. needs_unit (unit_at us i) v.name) us)
+      ∙ get_or-map (λ v. needs_unit (unit_at us i) v.name) us j blank false within;
 }
   where
     from_zero : (j : ℕ) → j ≡ 0 + j
     from_zero j = omega arith
 
 -- one more entry of the row is gone through
-pub positions_more : (row : List Bool) (list whole : List ℕ) (at : ℕ) → at < length row → list ++ positions_from at (drop at row) ≡ whole → cond (get_or row at false) (list ++ at ∷ []) list ++ positions_from (at + 1) (drop (at + 1) row) ≡ whole
+pub positions_more : (row : List Bool) (list whole : List ℕ) (at : ℕ) → at < length row → list ++ positions_from at (drop at row) ≡ whole
+    → cond (get_or row at false) (list ++ at ∷ []) list ++ positions_from (at + 1) (drop (at + 1) row) ≡ whole
 positions_more row list whole at lt is = by (get_or row at false) (ap (λ r. list ++ positions_from at r) (sym (drop_more row at false lt)) ∙ is)
   where
-    by : (b : Bool) → list ++ cond b (at ∷ positions_from (at + 1) (drop (at + 1) row)) (positions_from (at + 1) (drop (at + 1) row)) ≡ whole → cond b (list ++ at ∷ []) list ++ positions_from (at + 1) (drop (at + 1) row) ≡ whole
+    by : (b : Bool) → list ++ cond b (at ∷ positions_from (at + 1) (drop (at + 1) row)) (positions_from (at + 1) (drop (at + 1) row)) ≡ whole
+        → cond b (list ++ at ∷ []) list ++ positions_from (at + 1) (drop (at + 1) row) ≡ whole
     by true h = append_assoc list (at ∷ []) (positions_from (at + 1) (drop (at + 1) row)) ∙ h
     by false h = h
 
@@ -105,7 +114,8 @@ none_more n = omega arith
 pub positions_many : (at : ℕ) (row : List Bool) → length (positions_from at row) ≡ count_by (λ needed. needed) row
 positions_many at [] = refl
 positions_many at (true ∷ row) = omega (arith, positions_many (at + 1) row, sum_by-cons (λ (needed : Bool). cond needed 1 0) true row)
-positions_many at (false ∷ row) = positions_many (at + 1) row ∙ sym (sum_by-cons (λ (needed : Bool). cond needed 1 0) false row ∙ none_more (count_by (λ needed. needed) row))
+positions_many at (false ∷ row) = positions_many (at + 1) row
+    ∙ sym (sum_by-cons (λ (needed : Bool). cond needed 1 0) false row ∙ none_more (count_by (λ needed. needed) row))
 
 -- no position before the first is counted there
 not_before : (at p : ℕ) (row : List Bool) → p < at → count_by (nat_eq p) (positions_from at row) ≡ 0
@@ -138,7 +148,8 @@ positions_once at (suc p) (false ∷ row) = ap (λ q. count_by (nat_eq q) (posit
     moved at p = omega arith
 
 -- a unit needs another once or not at all
-pub needed_once : (us : List UnitTree) (i j : ℕ) → i < length us → j < length us → times (map (positions_from 0) (need_table us)) i j ≡ cond (needs_unit (unit_at us i) (unit_at us j).name) 1 0
+pub needed_once : (us : List UnitTree) (i j : ℕ) → i < length us → j < length us → times (map (positions_from 0) (need_table us)) i j ≡ cond
+    (needs_unit (unit_at us i) (unit_at us j).name) 1 0
 needed_once us i j lt within =
     ap (count_by (nat_eq j)) (list_at us i lt)
     ∙ ap (λ q. count_by (nat_eq q) (positions_from 0 (map (λ v. needs_unit (unit_at us i) v.name) us))) (from_zero j)
@@ -157,5 +168,8 @@ pub list_short : (us : List UnitTree) → All (λ list. length list ≤ length u
 list_short us = λ i d lt.
     let within : i < length us = omega (arith, lt, list_count us) in
     let row = map (λ v. needs_unit (unit_at us i) v.name) us in
-    let short : length (positions_from 0 row) ≤ length us = omega (arith, positions_many 0 row, count_by-le-length (λ (needed : Bool). needed) row, length-map us (λ v. needs_unit (unit_at us i) v.name)) in
-    subst (λ (list : List ℕ). length list ≤ length us) (sym (get_or_default (map (positions_from 0) (need_table us)) i d [] lt ∙ list_at us i within)) short
+    let short : length (positions_from 0 row) ≤ length us =
+    omega (arith, positions_many 0 row, count_by-le-length (λ (needed : Bool). needed) row, length-map us (λ v. needs_unit (unit_at us i) v.name))
+    in
+    subst (λ (list : List ℕ). length list ≤ length us) (sym (get_or_default (map (positions_from 0) (need_table us)) i d [] lt ∙ list_at us i within))
+    short

@@ -1,5 +1,6 @@
 -- The taking turn by turn: the positions that are taken, and how each unit waits.
-use Rattle.std.proofs.Common.{◌≡◌, ℕ, ◌+◌, ◌-◌, ◌<◌, ◌≤◌, suc, zero, inl, inr, length, get_or, List, [], ◌∷◌, ◌++◌, All, Bool, true, false, ◌&&◌, ◌||◌, cond, Option, Some, None, option_map, count_by, map, nat_eq, refl, ap, sym, ◌∙◌, arith}
+use Rattle.std.proofs.Common.{◌≡◌, ℕ, ◌+◌, ◌-◌, ◌<◌, ◌≤◌, suc, zero, inl, inr, length, get_or, List, [], ◌∷◌, ◌++◌, All, Bool, true, false, ◌&&◌}
+use Rattle.std.proofs.Common.{◌||◌, cond, Option, Some, None, option_map, count_by, map, nat_eq, refl, ap, sym, ◌∙◌, arith}
 use Rattle.std.specs.List.{position}
 use Rattle.std.proofs.lemmas.Bool.{and_parts, not-true, cases_Bool, cases_eq, eq-eqb, ne_eqb, false_from_ne_true}
 use Rattle.std.proofs.lemmas.Slice.Eq.{bytes_eq-Decides}
@@ -47,12 +48,14 @@ none_taken u (v ∷ us) =
 abbrev pub at_first : List ℕ → Waiting
 at_first list = record { missing = length list; taken = false }
 
-pub turns_start : {L : Type 0} (us : List UnitTree) (out : L → List ℕ) (lists : List L) (waiting : List Waiting) → map out lists ≡ map (positions_from 0) (need_table us) → waiting ≡ map (λ list. at_first (out list)) lists → Turns us [] waiting
+pub turns_start : {L : Type 0} (us : List UnitTree) (out : L → List ℕ) (lists : List L) (waiting : List Waiting)
+    → map out lists ≡ map (positions_from 0) (need_table us) → waiting ≡ map (λ list. at_first (out list)) lists → Turns us [] waiting
 turns_start us out lists waiting needs first = record {
   inside = All-nil (λ at. at < length us);
   waits = first ∙ sym (map_through at_first out (λ list. at_first (out list)) (λ list. refl) lists) ∙ ap (map at_first) needs
       ∙ map_through at_first (positions_from 0) (λ row. at_first (positions_from 0 row)) (λ row. refl) (need_table us)
-      ∙ map_through (λ row. at_first (positions_from 0 row)) (λ u. map (λ v. needs_unit u v.name) us) (waiting_of [] us) (λ u. ap (λ n. record { missing = n; taken = false }) (positions_many 0 (map (λ v. needs_unit u v.name) us) ∙ none_taken u us)) us;
+      ∙ map_through (λ row. at_first (positions_from 0 row)) (λ u. map (λ v. needs_unit u v.name) us) (waiting_of [] us)
+      (λ u. ap (λ n. record { missing = n; taken = false }) (positions_many 0 (map (λ v. needs_unit u v.name) us) ∙ none_taken u us)) us;
   left = omega (arith, count_all us);
   goes = ap (λ n. taking n us []) (nothing_off (length us));
 }
@@ -61,40 +64,51 @@ turns_start us out lists waiting needs first = record {
     nothing_off n = omega arith
 
 -- the unit that is taken next was not taken
-pub fresh_at : (us : List UnitTree) (order : List ℕ) (waiting : List Waiting) (at : ℕ) → Turns us order waiting → position is_free waiting ≡ Some at → (at < length us) × (is_among (names_at us order) (unit_at us at).name ≡ false)
+pub fresh_at : (us : List UnitTree) (order : List ℕ) (waiting : List Waiting) (at : ℕ) → Turns us order waiting
+    → position is_free waiting ≡ Some at → (at < length us) × (is_among (names_at us order) (unit_at us at).name ≡ false)
 fresh_at us order waiting at t free =
     let taken = names_at us order in
     let wait = waiting_of taken us in
     let found = position-Some is_free waiting at (wait blank) free in
     let within : at < length us = omega (arith, found.0, ap length t.waits, length-map us wait) in
-    let is : get_or waiting at (wait blank) ≡ wait (unit_at us at) = ap (λ l. get_or l at (wait blank)) t.waits ∙ get_or-map wait us at blank (wait blank) within in
+    let is : get_or waiting at (wait blank) ≡ wait (unit_at us at) = ap (λ l. get_or l at (wait blank)) t.waits
+    ∙ get_or-map wait us at blank (wait blank) within in
     (within, not-true _ (and_parts _ _ (sym (ap is_free is) ∙ found.1)).0)
 
 -- how a unit waits after a turn
-waits_then : (us : List UnitTree) (taken : List (List ℕ)) (at k : ℕ) → AreApart us → at < length us → k < length us → is_among taken (unit_at us at).name ≡ false → waits_after (needs_unit (unit_at us k) (unit_at us at).name) (nat_eq k at) (waiting_of taken us (unit_at us k)) ≡ waiting_of (taken ++ (unit_at us at).name ∷ []) us (unit_at us k)
+waits_then : (us : List UnitTree) (taken : List (List ℕ)) (at k : ℕ) → AreApart us → at < length us → k < length us
+    → is_among taken (unit_at us at).name ≡ false → waits_after (needs_unit (unit_at us k) (unit_at us at).name) (nat_eq k at)
+    (waiting_of taken us (unit_at us k)) ≡ waiting_of (taken ++ (unit_at us at).name ∷ []) us (unit_at us k)
 waits_then us taken at k apart lt within fresh =
     let less = left_less_at us taken at (λ v. needs_unit (unit_at us k) v.name) apart lt fresh in
-    let missing : open_needs taken us (unit_at us k) - cond (needs_unit (unit_at us k) (unit_at us at).name) 1 0 ≡ open_needs (taken ++ (unit_at us at).name ∷ []) us (unit_at us k) = omega (arith, less) in
+    let missing : open_needs taken us (unit_at us k) - cond (needs_unit (unit_at us k) (unit_at us at).name) 1 0 ≡ open_needs
+    (taken ++ (unit_at us at).name ∷ []) us (unit_at us k) = omega (arith, less) in
     ap (λ n. record { missing = n; taken = is_among taken (unit_at us k).name || nat_eq k at }) missing
     ∙ ap (λ b. record { missing = open_needs (taken ++ (unit_at us at).name ∷ []) us (unit_at us k); taken = b })
     (ap (λ b. is_among taken (unit_at us k).name || b) (elim (cases_eq k at) [
       | inl e ↦ eq-eqb k at e ∙ sym ((bytes_eq-Decides (unit_at us at).name (unit_at us k).name).1 (ap (λ p. (unit_at us p).name) (sym e)))
-      | inr ne ↦ ne_eqb k at ne ∙ sym (false_from_ne_true _ (λ e. apart at k lt within (λ s. ne (sym s)) ((bytes_eq-Decides (unit_at us at).name (unit_at us k).name).0 e)))
+      | inr ne ↦ ne_eqb k at ne
+          ∙ sym (false_from_ne_true _ (λ e. apart at k lt within (λ s. ne (sym s)) ((bytes_eq-Decides (unit_at us at).name (unit_at us k).name).0 e)))
     ])
     ∙ sym (among_more taken (unit_at us at).name (unit_at us k).name))
 
-one_turn : (us : List UnitTree) (taken : List (List ℕ)) (n : ℕ) (name : List ℕ) → first_ready us taken us ≡ Some name → taking (suc n) us taken ≡ taking n us (taken ++ name ∷ [])
+one_turn : (us : List UnitTree) (taken : List (List ℕ)) (n : ℕ) (name : List ℕ) → first_ready us taken us ≡ Some name
+    → taking (suc n) us taken ≡ taking n us (taken ++ name ∷ [])
 unfolding taking
 one_turn us taken n name next = ap (λ o. go_on taken o (taking n us)) next
 
-ready_name : (us : List UnitTree) (order : List ℕ) (waiting : List Waiting) (found : Option ℕ) → Turns us order waiting → position is_free waiting ≡ found → first_ready us (names_at us order) us ≡ option_map (λ k. (unit_at us k).name) found
+ready_name : (us : List UnitTree) (order : List ℕ) (waiting : List Waiting) (found : Option ℕ) → Turns us order waiting
+    → position is_free waiting ≡ found → first_ready us (names_at us order) us ≡ option_map (λ k. (unit_at us k).name) found
 ready_name us order waiting found t is =
     first_at (names_at us order) us us blank
     ∙ ap (λ l. option_map (λ k. (unit_at us k).name) (position is_free l)) (sym t.waits)
     ∙ ap (option_map (λ k. (unit_at us k).name)) is
 
 -- one turn
-pub turns_more : (us : List UnitTree) (order : List ℕ) (waiting later : List Waiting) (at : ℕ) → AreApart us → Turns us order waiting → position is_free waiting ≡ Some at → length later ≡ length waiting → ((k : ℕ) (d : Waiting) → k < length waiting → get_or later k d ≡ waits_after (needs_unit (unit_at us k) (unit_at us at).name) (nat_eq k at) (get_or waiting k d)) → Turns us (order ++ at ∷ []) later
+pub turns_more : (us : List UnitTree) (order : List ℕ) (waiting later : List Waiting) (at : ℕ) → AreApart us → Turns us order waiting
+    → position is_free waiting ≡ Some at → length later ≡ length waiting
+    → ((k : ℕ) (d : Waiting) → k < length waiting → get_or later k d ≡ waits_after (needs_unit (unit_at us k) (unit_at us at).name) (nat_eq k at)
+    (get_or waiting k d)) → Turns us (order ++ at ∷ []) later
 turns_more us order waiting later at apart t free size each =
     let taken = names_at us order in
     let fresh = fresh_at us order waiting at t free in
@@ -105,15 +119,18 @@ turns_more us order waiting later at apart t free size each =
     let off : length us - length order ≡ suc (length us - length (order ++ at ∷ [])) = omega (arith, t.left, less, length_push order at) in
     record {
       inside = All-push (λ p. p < length us) order at t.inside fresh.0;
-      waits = rw names (same_lists later (map (waiting_of (taken ++ name ∷ []) us) us) (omega (arith, size, many, length-map us (waiting_of (taken ++ name ∷ []) us)))
+      waits = rw names (same_lists later (map (waiting_of (taken ++ name ∷ []) us) us)
+          (omega (arith, size, many, length-map us (waiting_of (taken ++ name ∷ []) us)))
           (λ k d lt.
           let within : k < length us = omega (arith, lt, size, many) in
           each k d (omega (arith, lt, size))
-          ∙ ap (waits_after (needs_unit (unit_at us k) name) (nat_eq k at)) (ap (λ l. get_or l k d) t.waits ∙ get_or-map (waiting_of taken us) us k blank d within)
+          ∙ ap (waits_after (needs_unit (unit_at us k) name) (nat_eq k at))
+          (ap (λ l. get_or l k d) t.waits ∙ get_or-map (waiting_of taken us) us k blank d within)
           ∙ waits_then us taken at k apart fresh.0 within fresh.1
           ∙ sym (get_or-map (waiting_of (taken ++ name ∷ []) us) us k blank d within)));
       left = rw names (omega (arith, less, t.left, length_push order at));
-      goes = rw names (sym (one_turn us taken (length us - length (order ++ at ∷ [])) name (ready_name us order waiting (Some at) t free)) ∙ ap (λ n. taking n us taken) (sym off) ∙ t.goes);
+      goes = rw names (sym (one_turn us taken (length us - length (order ++ at ∷ [])) name (ready_name us order waiting (Some at) t free))
+          ∙ ap (λ n. taking n us taken) (sym off) ∙ t.goes);
     }
 
 stays : (us : List UnitTree) (taken : List (List ℕ)) → first_ready us taken us ≡ None → (n : ℕ) → taking n us taken ≡ taken
@@ -122,13 +139,15 @@ stays us taken none zero = refl
 stays us taken none (suc n) = ap (λ o. go_on taken o (taking n us)) none
 
 -- if no unit is free, the taking ends
-pub turns_stop : (us : List UnitTree) (order : List ℕ) (waiting : List Waiting) → Turns us order waiting → position is_free waiting ≡ None → (names_at us order ≡ derived_order us) × (first_ready us (names_at us order) us ≡ None)
+pub turns_stop : (us : List UnitTree) (order : List ℕ) (waiting : List Waiting) → Turns us order waiting → position is_free waiting ≡ None
+    → (names_at us order ≡ derived_order us) × (first_ready us (names_at us order) us ≡ None)
 turns_stop us order waiting t free =
     let none = ready_name us order waiting None t free in
     (sym (stays us (names_at us order) none (length us - length order)) ∙ t.goes, none)
 
 -- if all units are taken, it ends too
-pub turns_end : (us : List UnitTree) (order : List ℕ) (waiting : List Waiting) → Turns us order waiting → length us ≤ length order → names_at us order ≡ derived_order us
+pub turns_end : (us : List UnitTree) (order : List ℕ) (waiting : List Waiting) → Turns us order waiting → length us ≤ length order
+    → names_at us order ≡ derived_order us
 unfolding taking
 turns_end us order waiting t all =
     let nothing : length us - length order ≡ 0 = omega (arith, all) in

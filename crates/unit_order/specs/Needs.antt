@@ -18,7 +18,8 @@ positions_from at (needed ∷ row) = cond needed (at ∷ positions_from (at + 1)
 pub record AreNeeds (units : List UnitTree) (lists : List (List ℕ)) : Type 0 where
   pub size : length lists ≡ length units
   pub inside : All (All (λ at. at < length units)) lists
-  pub exact : (i j : ℕ) → i < length units → j < length units → list_any (nat_eq j) (get_or lists i []) ≡ needs_unit (unit_at units i) (unit_at units j).name
+  pub exact : (i j : ℕ) → i < length units → j < length units → list_any (nat_eq j) (get_or lists i []) ≡ needs_unit (unit_at units i)
+      (unit_at units j).name
 
 -- how often a position is in one of these lists
 abbrev pub times : List (List ℕ) → ℕ → ℕ → ℕ

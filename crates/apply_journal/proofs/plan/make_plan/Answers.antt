@@ -11,8 +11,10 @@ copy_files-requires c = subst (λ (fs : List SourceFile). All (λ n. n < length 
 pub invariant_of-result : goal.invariant_of-result
 invariant_of-result c =
     let copied = c.in_ok-files.files.items in
-    let found : copied ≡ files_at c.args.files.now.entries c.args.changed.now = c.in_ok-files.ensures ∙ ap (λ (fs : List SourceFile). files_at fs c.args.changed.now) c.entries.ensures.entries in
+    let found : copied ≡ files_at c.args.files.now.entries c.args.changed.now = c.in_ok-files.ensures
+    ∙ ap (λ (fs : List SourceFile). files_at fs c.args.changed.now) c.entries.ensures.entries in
     let text : c.in_ok-text.text.items ≡ plan_text copied = c.in_ok-text.ensures ∙ ap plan_text c.deref.ensures.value in
     let plan : IsPlan (plan_text copied) copied =
-    subst (λ (fs : List SourceFile). IsPlan (plan_text fs) fs) (sym found) (plan_of_files c.args.files.now c.args.changed.now c.entries.ensures.project c.requires.ordered c.requires.known) in
+    subst (λ (fs : List SourceFile). IsPlan (plan_text fs) fs) (sym found)
+    (plan_of_files c.args.files.now c.args.changed.now c.entries.ensures.project c.requires.ordered c.requires.known) in
     subst (λ (bs : List ℕ). IsPlan bs copied) (sym text) plan

@@ -8,12 +8,15 @@ use Rattle.apply_journal.proofs.reading.read_entries.Goals as goal
 
 pub returns-in-Err-clause-bad : goal.returns-in-Err-clause-bad
 returns-in-Err-clause-bad c = λ is.
-    no_more_entries c.args.bytes.now c.loop.files.items c.loop.rest.now c.args.count c.loop.invariant.read (omega (arith, c.loop.invariant.count, c.loop-test.true)) (c.in-Err.ensures.bad (goes_up c.in-Err.error Bad is))
+    no_more_entries c.args.bytes.now c.loop.files.items c.loop.rest.now c.args.count c.loop.invariant.read
+    (omega (arith, c.loop.invariant.count, c.loop-test.true)) (c.in-Err.ensures.bad (goes_up c.in-Err.error Bad is))
 
 pub loop-preserved : goal.loop-preserved
 loop-preserved c =
     let pushed = c.in_ok-push-in-Ok.ensures.items in
     record {
       count = omega (arith, c.loop.invariant.count, ap length pushed, length-append c.loop.files.items (c.in-Ok.file ∷ []));
-      read = subst (λ (fs : List SourceFile). AreEntries c.args.bytes.now fs c.in-Ok.behind.now) (sym pushed) (entries_push c.args.bytes.now c.loop.files.items c.in-Ok.file c.loop.rest.now c.in-Ok.behind.now c.loop.invariant.read c.in-Ok.ensures.read);
+      read = subst (λ (fs : List SourceFile). AreEntries c.args.bytes.now fs c.in-Ok.behind.now) (sym pushed)
+          (entries_push c.args.bytes.now c.loop.files.items c.in-Ok.file c.loop.rest.now c.in-Ok.behind.now c.loop.invariant.read
+          c.in-Ok.ensures.read);
     }

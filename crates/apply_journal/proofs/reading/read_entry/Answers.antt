@@ -5,7 +5,8 @@ use Rattle.apply_journal.proofs.Recovering.{goes_on}
 use Rattle.apply_journal.proofs.reading.read_entry.Goals as goal
 
 pub returns-in_default-from_utf8-clause-bad : goal.returns-in_default-from_utf8-clause-bad
-returns-in_default-from_utf8-clause-bad c = λ _. no_text c.args.bytes.now c.in-Some.name.now c.in-Some.rest.now c.in-Some.ensures.found c.in_default-from_utf8.ensures.cases.0
+returns-in_default-from_utf8-clause-bad c =
+    λ _. no_text c.args.bytes.now c.in-Some.name.now c.in-Some.rest.now c.in-Some.ensures.found c.in_default-from_utf8.ensures.cases.0
 
 pub returns-then-not-is_source-clause-bad : goal.returns-then-not-is_source-clause-bad
 returns-then-not-is_source-clause-bad c = λ _.

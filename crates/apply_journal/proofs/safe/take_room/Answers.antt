@@ -18,5 +18,9 @@ returns-clause-room g c =
     let plan : length (plan_text files) ≤ last plan_name = subst (λ (bs : List ℕ). length bs ≤ last plan_name) c.text.ensures.text here in
     let some : 1 ≤ last plan_name = omega (arith, here, c.text.ensures.some) in
     let rest : HasRoom last files =
-    keeps_room two last files c.room-2.ensures.room (keeps_room one two files c.room.ensures.room (subst (λ (fs : List SourceFile). HasRoom one fs) c.files.ensures.files c.in_ok-take_room.ensures.room)) in
-    ok_map c.room-2.result _ _ (λ gate. ((plan, some), ((gate, omega (arith, gate)), room_join last files (file_of gate_name [] ∷ []) rest ((omega arith, omega (arith, gate)), tt)))) c.room-2.ensures.made
+    keeps_room two last files c.room-2.ensures.room
+    (keeps_room one two files c.room.ensures.room
+    (subst (λ (fs : List SourceFile). HasRoom one fs) c.files.ensures.files c.in_ok-take_room.ensures.room)) in
+    ok_map c.room-2.result _ _ (λ gate.
+    ((plan, some), ((gate, omega (arith, gate)), room_join last files (file_of gate_name [] ∷ []) rest ((omega arith, omega (arith, gate)), tt))))
+    c.room-2.ensures.made

@@ -16,7 +16,8 @@ loop-i-preserved c =
     let O : Option Ref → Type 0 = λ o. Tells of_ref o c.thing_at-in-loop-i.result c.capture.result in
     let N : Option Ref → Type 0 = λ o. Tells of_ref (slice_get c.args.old.now c.loop-i.i) o c.capture.result in
     let told = subst N c.thing_at-in-loop-i.ensures (subst O c.thing_at.ensures c.capture.ensures) in
-    subst P (sym c.earlier_change-least.ensures) (best_more of_ref keeps_ref c.args.old.now c.args.new.now c.loop-i.i c.loop-i.least c.capture.result told c.loop-i.invariant)
+    subst P (sym c.earlier_change-least.ensures)
+    (best_more of_ref keeps_ref c.args.old.now c.args.new.now c.loop-i.i c.loop-i.least c.capture.result told c.loop-i.invariant)
 
 pub returns : goal.returns
 returns c = best_all of_ref keeps_ref c.args.old.now c.args.new.now c.loop-i.i c.loop-i.least c.loop-i-test.false c.loop-i.invariant

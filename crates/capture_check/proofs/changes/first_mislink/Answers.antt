@@ -16,7 +16,8 @@ loop-i-preserved c =
     let O : Option Link → Type 0 = λ o. Tells of_link o c.thing_at-in-loop-i.result c.mislink.result in
     let N : Option Link → Type 0 = λ o. Tells of_link (slice_get c.args.old.now c.loop-i.i) o c.mislink.result in
     let told = subst N c.thing_at-in-loop-i.ensures (subst O c.thing_at.ensures c.mislink.ensures) in
-    subst P (sym c.earlier_change-least.ensures) (best_more of_link keeps_link c.args.old.now c.args.new.now c.loop-i.i c.loop-i.least c.mislink.result told c.loop-i.invariant)
+    subst P (sym c.earlier_change-least.ensures)
+    (best_more of_link keeps_link c.args.old.now c.args.new.now c.loop-i.i c.loop-i.least c.mislink.result told c.loop-i.invariant)
 
 pub returns : goal.returns
 returns c = best_all of_link keeps_link c.args.old.now c.args.new.now c.loop-i.i c.loop-i.least c.loop-i-test.false c.loop-i.invariant

@@ -28,7 +28,8 @@ returns c =
     let J : List LinkLook → Type 0 = λ ls. HasLinkLooks ls c.in_ok-link_looks.link_looks in
     let E : List Ref → Type 0 = λ rs. c.in_ok-refs.refs.items ≡ map (ref_by members c.in_ok-ref_looks.ref_looks) rs in
     let G : List Link → Type 0 = λ ls. c.in_ok-links.links.items ≡ links_by members c.in_ok-link_looks.link_looks 0 ls in
-    let N : List Place → Type 0 = λ ds. (d : Place) → get place_cmp c.name_all.new.names d ≡ renamed_at ds w.new (get place_cmp c.in_ok-names.names d) d in
+    let N : List Place → Type 0 = λ ds. (d : Place) → get place_cmp c.name_all.new.names d ≡ renamed_at ds w.new
+    (get place_cmp c.in_ok-names.names d) d in
     let A : List (List Place) → Type 0 = λ gs. IsFirstRepeat (named c.name_all.new.names) gs c.in_ok-repeat.repeat in
     let B : List Ref → Type 0 = λ rs. IsFirstChange of_ref rs c.deref.result.now c.first_capture-capture.result in
     let BB : List Ref → Type 0 = λ rs. IsFirstChange of_ref c.args.facts.now.refs rs c.first_capture-capture.result in
@@ -36,7 +37,8 @@ returns c =
     let CC : List Link → Type 0 = λ ls. IsFirstChange of_link c.args.facts.now.links ls c.first_mislink-mislink.result in
     subst (IsLocalFault us w) (sym c.fault_of.ensures)
     (local_is us w c.requires.sound c.requires.watched c.args.facts.now c.args.looks.now c.requires.facts c.requires.looks members m
-    c.in_ok-ref_looks.ref_looks c.in_ok-link_looks.link_looks c.in_ok-refs.refs.items c.in_ok-links.links.items c.in_ok-names.names c.name_all.new.names
+    c.in_ok-ref_looks.ref_looks c.in_ok-link_looks.link_looks c.in_ok-refs.refs.items c.in_ok-links.links.items c.in_ok-names.names
+    c.name_all.new.names
     c.in_ok-repeat.repeat c.first_capture-capture.result c.first_mislink-mislink.result
     (subst H c.as_slice-2.ensures c.in_ok-ref_looks.ensures)
     (subst J c.as_slice-4.ensures c.in_ok-link_looks.ensures)

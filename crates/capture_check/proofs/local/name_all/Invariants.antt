@@ -7,4 +7,5 @@ use Rattle.capture_check.proofs.local.name_all.Given as goal
 
 -- with the places that are left, the names are new at all of them
 abbrev pub invariant-loop-place : goal.invariant-loop-place
-invariant-loop-place l = (d : Place) → renamed_at (drop l.place-index l.places) l.name (get place_cmp l.names d) d ≡ renamed_at l.places l.name (get place_cmp l.fn.names d) d
+invariant-loop-place l = (d : Place) → renamed_at (drop l.place-index l.places) l.name (get place_cmp l.names d) d ≡ renamed_at l.places l.name
+    (get place_cmp l.fn.names d) d

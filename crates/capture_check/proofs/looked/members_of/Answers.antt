@@ -7,5 +7,6 @@ use Rattle.capture_check.proofs.looked.members_of.Goals as goal
 pub loop-place-preserved : goal.loop-place-preserved
 loop-place-preserved c =
     let default : Place = record { file = 0; token = 0 } in
-    members_more c.args.decls.now c.loop-place.place-index (get_or c.args.decls.now c.loop-place.place-index default) c.loop-place.members c.insert.new.self
+    members_more c.args.decls.now c.loop-place.place-index (get_or c.args.decls.now c.loop-place.place-index default) c.loop-place.members
+    c.insert.new.self
     (drop_more c.args.decls.now c.loop-place.place-index default c.loop-place-test.true) c.in_ok-insert.ensures.updates.0 c.loop-place.invariant

@@ -14,9 +14,11 @@ loop-group-preserved c =
     let F : List Place → Type 0 = λ x. IsFirstRepeat (named c.args.names.now) (x ∷ []) c.in_ok-found.found in
     let G : Option Repeat → Type 0 = IsBestPair (Below (named c.args.names.now) c.args.groups.now (c.loop-group.group-index + 1)) in
     subst G (sym c.earlier_repeat-least.ensures)
-    (groups_more (named c.args.names.now) c.args.groups.now c.loop-group.group-index c.loop-group.least c.in_ok-found.found g c.loop-group-test.true is
+    (groups_more (named c.args.names.now) c.args.groups.now c.loop-group.group-index c.loop-group.least c.in_ok-found.found g c.loop-group-test.true
+    is
     (subst F c.as_slice.ensures c.in_ok-found.ensures)
     c.loop-group.invariant)
 
 pub returns : goal.returns
-returns c = groups_end (named c.args.names.now) c.args.groups.now c.loop-group.group-index c.loop-group.least c.loop-group.auto.group-index-end c.loop-group-test.false c.loop-group.invariant
+returns c = groups_end (named c.args.names.now) c.args.groups.now c.loop-group.group-index c.loop-group.least c.loop-group.auto.group-index-end
+    c.loop-group-test.false c.loop-group.invariant

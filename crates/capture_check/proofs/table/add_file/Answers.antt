@@ -15,15 +15,19 @@ loop-mark-init c = λ d. refl
 pub loop-mark-preserved : goal.loop-mark-preserved
 loop-mark-preserved c =
     let name : c.in_ok-name.name ≡ c.mark-item.result.name = c.in_ok-name.ensures ∙ c.as_bytes.ensures in
-    let P : List ℕ → Type 0 = λ x. (q : Place) → get place_cmp c.insert.new.self q ≡ cond (is_at (place_cmp (here c.number_of-file.result c.mark-item.result.token)) q) (Some x) (get place_cmp c.loop-mark.table q) in
+    let P : List ℕ → Type 0 = λ x. (q : Place)
+    → get place_cmp c.insert.new.self q ≡ cond (is_at (place_cmp (here c.number_of-file.result c.mark-item.result.token)) q) (Some x)
+    (get place_cmp c.loop-mark.table q) in
     let more = drop_more c.deref-mark-items.result.now c.loop-mark.mark-index c.mark-item.result c.loop-mark-test.true
     ∙ ap (λ (m : Mark). m ∷ drop (c.loop-mark.mark-index + 1) c.deref-mark-items.result.now) (sym c.mark-item.is) in
-    marks_more c.number_of-file.result c.deref-mark-items.result.now c.loop-mark.mark-index c.mark-item.result c.loop-mark.table c.insert.new.self c.args.table.now more
+    marks_more c.number_of-file.result c.deref-mark-items.result.now c.loop-mark.mark-index c.mark-item.result c.loop-mark.table c.insert.new.self
+    c.args.table.now more
     (subst P name c.in_ok-insert.ensures.updates.0) c.loop-mark.invariant
 
 pub returns : goal.returns
 returns c = λ d.
-    file_filed (view_file c.args.tree.now) c.number_of-file.result c.deref-mark-items.result.now _ (get place_cmp c.args.table.now d) (get place_cmp c.loop-mark.table d) d
+    file_filed (view_file c.args.tree.now) c.number_of-file.result c.deref-mark-items.result.now _ (get place_cmp c.args.table.now d)
+    (get place_cmp c.loop-mark.table d) d
     c.number_of-file.ensures
     (c.deref-mark-items.ensures.value ∙ c.in_ok-marks.ensures)
     (drop_all c.loop-mark.mark-index c.deref-mark-items.result.now c.loop-mark-test.false)

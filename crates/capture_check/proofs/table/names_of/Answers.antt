@@ -20,5 +20,6 @@ loop-unit-preserved c = λ d.
 
 pub returns : goal.returns
 returns c = λ d.
-    sym (ap (λ (us : List UnitTree). filed (places (map view_unit us)) (get place_cmp c.loop-unit.table d) d) (drop_all c.loop-unit.unit-index c.deref-unit-items.result.now c.loop-unit-test.false))
+    sym (ap (λ (us : List UnitTree). filed (places (map view_unit us)) (get place_cmp c.loop-unit.table d) d)
+    (drop_all c.loop-unit.unit-index c.deref-unit-items.result.now c.loop-unit-test.false))
     ∙ c.loop-unit.invariant d

@@ -9,4 +9,5 @@ use Rattle.capture_check.proofs.table.names_of.Given as goal
 
 -- with the units that are left, the table is that of all of them
 abbrev pub invariant-loop-unit : goal.invariant-loop-unit
-invariant-loop-unit l = (d : Place) → filed (places (map view_unit (drop l.unit-index l.unit-items))) (get place_cmp l.table d) d ≡ filed (places (view_project l.project)) None d
+invariant-loop-unit l = (d : Place) → filed (places (map view_unit (drop l.unit-index l.unit-items))) (get place_cmp l.table d) d ≡ filed
+    (places (view_project l.project)) None d

@@ -17,7 +17,8 @@ loop-link-init c = fixed_begin c.args.links.now c.new-fixed.result c.new-fixed.e
 
 pub loop-link-preserved : goal.loop-link-preserved
 loop-link-preserved c =
-    let is : link_at c.args.links.now c.loop-link.link-index ≡ get_or c.args.links.now c.loop-link.link-index (link_at c.args.links.now c.loop-link.link-index)
+    let is : link_at c.args.links.now c.loop-link.link-index ≡ get_or c.args.links.now c.loop-link.link-index
+    (link_at c.args.links.now c.loop-link.link-index)
     = get_or_default c.args.links.now c.loop-link.link-index _ _ c.loop-link-test.true in
     let P : BTreeSet Place → Type 0 = IsFixedSet (c.loop-link.link-index + 1) c.args.links.now in
     elim c.match-fixed_end.branch [

@@ -33,11 +33,14 @@ pub loop-place-smaller : goal.loop-place-smaller
 loop-place-smaller c =
     elim c.match-remove.branch [
       | in-Some-remove+in_ok-extend_from_slice w ↦
-          falls c.loop-place.neighbors c.remove.new.self c.in-Some.place c.remove.result c.loop-place.todo.items c.pop.new.self.items c.match-remove.todo.items w.in-Some-remove.next.items
+          falls c.loop-place.neighbors c.remove.new.self c.in-Some.place c.remove.result c.loop-place.todo.items c.pop.new.self.items
+          c.match-remove.todo.items w.in-Some-remove.next.items
           c.remove.ensures.entries c.remove.ensures.value (inl (w.in-Some-remove.next, w.in-Some-remove.is, refl)) c.in-Some.ensures.items
-          (ap items w.todo-is ∙ (w.in_ok-extend_from_slice.ensures.items ∙ ap (λ (xs : List Place). c.pop.new.self.items ++ xs) w.deref.ensures.value))
+          (ap items w.todo-is ∙ (w.in_ok-extend_from_slice.ensures.items
+          ∙ ap (λ (xs : List Place). c.pop.new.self.items ++ xs) w.deref.ensures.value))
       | in_default-remove w ↦
-          falls c.loop-place.neighbors c.remove.new.self c.in-Some.place c.remove.result c.loop-place.todo.items c.pop.new.self.items c.match-remove.todo.items []
+          falls c.loop-place.neighbors c.remove.new.self c.in-Some.place c.remove.result c.loop-place.todo.items c.pop.new.self.items
+          c.match-remove.todo.items []
           c.remove.ensures.entries c.remove.ensures.value (inr (w.in_default-remove.is, refl)) c.in-Some.ensures.items
           (ap items w.todo-is ∙ sym (append-nil c.pop.new.self.items))
     ]
@@ -48,10 +51,13 @@ loop-place-preserved c =
       | in-Some-remove+in_ok-extend_from_slice w ↦
           works_on c.args.links.now c.args.d c.loop-place.neighbors c.remove.new.self c.loop-place.decls c.insert.new.self
           c.loop-place.todo.items c.pop.new.self.items c.match-remove.todo.items w.in-Some-remove.next.items c.in-Some.place c.in-Some.ensures.items
-          (ap items w.todo-is ∙ (w.in_ok-extend_from_slice.ensures.items ∙ ap (λ (xs : List Place). c.pop.new.self.items ++ xs) w.deref.ensures.value))
+          (ap items w.todo-is ∙ (w.in_ok-extend_from_slice.ensures.items
+          ∙ ap (λ (xs : List Place). c.pop.new.self.items ++ xs) w.deref.ensures.value))
           c.remove.ensures.updates.0
-          (taken_has c.loop-place.neighbors c.in-Some.place c.remove.result w.in-Some-remove.next.items c.remove.ensures.value (inl (w.in-Some-remove.next, w.in-Some-remove.is, refl)))
-          (taken_only c.loop-place.neighbors c.in-Some.place c.remove.result w.in-Some-remove.next.items c.remove.ensures.value (inl (w.in-Some-remove.next, w.in-Some-remove.is, refl)))
+          (taken_has c.loop-place.neighbors c.in-Some.place c.remove.result w.in-Some-remove.next.items c.remove.ensures.value
+          (inl (w.in-Some-remove.next, w.in-Some-remove.is, refl)))
+          (taken_only c.loop-place.neighbors c.in-Some.place c.remove.result w.in-Some-remove.next.items c.remove.ensures.value
+          (inl (w.in-Some-remove.next, w.in-Some-remove.is, refl)))
           c.in_ok-insert.ensures.updates.0 c.loop-place.invariant
       | in_default-remove w ↦
           works_on c.args.links.now c.args.d c.loop-place.neighbors c.remove.new.self c.loop-place.decls c.insert.new.self
@@ -65,14 +71,19 @@ loop-place-preserved c =
 
 pub returns-clause-reached : goal.returns-clause-reached
 returns-clause-reached c =
-    if_ok (λ (list : Vec Place). list.items ≡ c.loop-place.decls.keys) (λ (list : Vec Place). (p : Place) → Contains list.items p → Path c.args.links.now c.args.d p) c.in_order.result
-    (λ list is p h. let P : List Place → Type 0 = λ ps. Contains ps p in c.loop-place.invariant.sound p (inl (found_listed c.loop-place.decls.keys p (subst P is h))))
+    if_ok (λ (list : Vec Place). list.items ≡ c.loop-place.decls.keys)
+    (λ (list : Vec Place). (p : Place) → Contains list.items p → Path c.args.links.now c.args.d p) c.in_order.result
+    (λ list is p h. let P : List Place → Type 0 = λ ps. Contains ps p in
+    c.loop-place.invariant.sound p (inl (found_listed c.loop-place.decls.keys p (subst P is h))))
     c.in_order.ensures.same
 
 pub returns-clause-all : goal.returns-clause-all
 returns-clause-all c =
-    if_ok (λ (list : Vec Place). list.items ≡ c.loop-place.decls.keys) (λ (list : Vec Place). (p : Place) → Path c.args.links.now c.args.d p → Contains list.items p) c.in_order.result
-    (λ list is p h. let P : List Place → Type 0 = λ ps. Contains ps p in subst P (sym is) (listed c.loop-place.decls.keys p (all_taken c.args.links.now c.args.d c.loop-place.neighbors c.loop-place.decls
+    if_ok (λ (list : Vec Place). list.items ≡ c.loop-place.decls.keys)
+    (λ (list : Vec Place). (p : Place) → Path c.args.links.now c.args.d p → Contains list.items p) c.in_order.result
+    (λ list is p h. let P : List Place → Type 0 = λ ps. Contains ps p in
+    subst P (sym is) (listed c.loop-place.decls.keys p (all_taken c.args.links.now c.args.d c.loop-place.neighbors c.loop-place.decls
     (let W : List Place → Type 0 = Works c.args.links.now c.args.d c.loop-place.neighbors c.loop-place.decls in
-    subst W (no_items c.loop-place.todo.items c.pop.new.self.items (vec_len c.loop-place.todo) c.in_default.ensures.items c.in_default.ensures.rest c.in_default.ensures.cases.0) c.loop-place.invariant) p h)))
+    subst W (no_items c.loop-place.todo.items c.pop.new.self.items (vec_len c.loop-place.todo) c.in_default.ensures.items c.in_default.ensures.rest
+    c.in_default.ensures.cases.0) c.loop-place.invariant) p h)))
     c.in_order.ensures.same

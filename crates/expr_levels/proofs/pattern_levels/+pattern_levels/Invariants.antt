@@ -7,4 +7,5 @@ abbrev pub invariant-patterns_fit-loop-pat : goal.invariant-patterns_fit-loop-pa
 invariant-patterns_fit-loop-pat l = nat_le (pats_height (pats (drop l.pat-index l.list))) l.levels ≡ nat_le (pats_height (pats l.list)) l.levels
 
 abbrev pub invariant-fields_fit-loop-field : goal.invariant-fields_fit-loop-field
-invariant-fields_fit-loop-field l = nat_le (pat_fields_height (pat_fields (drop l.field-index l.list))) l.levels ≡ nat_le (pat_fields_height (pat_fields l.list)) l.levels
+invariant-fields_fit-loop-field l = nat_le (pat_fields_height (pat_fields (drop l.field-index l.list))) l.levels ≡ nat_le
+    (pat_fields_height (pat_fields l.list)) l.levels

@@ -14,15 +14,19 @@ local_arguments-returns-in-Err-Syntax t c =
     let part = r.local_part (read_local c.args.depth) in
     let here = from c.args.tokens.now c.loop-turn.at in
     let failed : part here ≡ None = rw c.in-Err-Syntax.field-0-is at c.in-Err-Syntax.ensures in
-    ap Some (turn_none pure.no_local r.cons_local always part (map local_of c.loop-turn.found.items) c.args.depth c.loop-turn._turn here _ c.loop-turn-test.true failed c.loop-turn.invariant ∙ ap (λ (l : pure.LocalArguments). (l, here)) (locals_before c.loop-turn.found.items))
+    ap Some (turn_none pure.no_local r.cons_local always part (map local_of c.loop-turn.found.items) c.args.depth c.loop-turn._turn here
+    _ c.loop-turn-test.true failed c.loop-turn.invariant ∙ ap (λ (l : pure.LocalArguments). (l, here)) (locals_before c.loop-turn.found.items))
 
 pub local_arguments-loop-turn-preserved : goal.local_arguments-loop-turn-preserved
 local_arguments-loop-turn-preserved t c =
     let part = r.local_part (read_local c.args.depth) in
-    pushed pure.no_local r.cons_local always part local_of c.loop-turn.found.items c.push.new.self.items c.in-Ok.next c.args.depth c.loop-turn._turn (from c.args.tokens.now c.loop-turn.at) (from c.args.tokens.now c.in-Ok.after) _ c.in_ok-push-in-Ok.ensures.items c.loop-turn-test.true c.in-Ok.ensures refl c.loop-turn.invariant
+    pushed pure.no_local r.cons_local always part local_of c.loop-turn.found.items c.push.new.self.items c.in-Ok.next c.args.depth c.loop-turn._turn
+    (from c.args.tokens.now c.loop-turn.at) (from c.args.tokens.now c.in-Ok.after) _ c.in_ok-push-in-Ok.ensures.items c.loop-turn-test.true
+    c.in-Ok.ensures refl c.loop-turn.invariant
 
 pub local_arguments-returns : goal.local_arguments-returns
 local_arguments-returns t c =
     let part = r.local_part (read_local c.args.depth) in
     let here = from c.args.tokens.now c.loop-turn.at in
-    ap Some (turn_end pure.no_local r.cons_local always part (map local_of c.loop-turn.found.items) c.args.depth c.loop-turn._turn here _ c.loop-turn-test.false c.loop-turn.invariant ∙ ap (λ (l : pure.LocalArguments). (l, here)) (locals_before c.loop-turn.found.items))
+    ap Some (turn_end pure.no_local r.cons_local always part (map local_of c.loop-turn.found.items) c.args.depth c.loop-turn._turn here
+    _ c.loop-turn-test.false c.loop-turn.invariant ∙ ap (λ (l : pure.LocalArguments). (l, here)) (locals_before c.loop-turn.found.items))

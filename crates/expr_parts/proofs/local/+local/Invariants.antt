@@ -11,7 +11,8 @@ use Rattle.expr_parts.proofs.local.+local.Given as goal
 abbrev pub invariant-local_arguments-loop-turn : goal.invariant-local_arguments-loop-turn
 invariant-local_arguments-loop-turn l =
     let part = r.local_part (read_local l.depth) in
-    Left pure.no_local r.cons_local always part (map local_of l.found.items) (l.depth - l._turn) (from l.tokens l.at) (many pure.no_local r.cons_local always part l.depth (from l.tokens l.fn.at))
+    Left pure.no_local r.cons_local always part (map local_of l.found.items) (l.depth - l._turn) (from l.tokens l.at)
+    (many pure.no_local r.cons_local always part l.depth (from l.tokens l.fn.at))
 
 abbrev pub decreases-local_module : goal.decreases-local_module
 decreases-local_module l = 3 * l.depth

@@ -4,7 +4,8 @@ use Rattle.ml_syntax.proofs.Variants.{at_expr_let, at_expr_match, at_expr_try, a
 use Rattle.binding_model.specs.Facts.{decls}
 use Rattle.binding_model.specs.Scopes.{bound, let_bound}
 use Rattle.binding_model.specs.Variables.{for_variables}
-use Rattle.group_walk.specs.Groups.{expr_groups, optional_groups, branches_groups, binding_groups, bindings_groups, case_groups, cases_groups, field_groups, fields_groups}
+use Rattle.group_walk.specs.Groups.{expr_groups, optional_groups, branches_groups, binding_groups, bindings_groups, case_groups, cases_groups}
+use Rattle.group_walk.specs.Groups.{field_groups, fields_groups}
 use Rattle.group_walk.proofs.Found.{tail_same}
 use Rattle.group_walk.proofs.Grown.{three_grown, four_grown, on_ok}
 use Rattle.group_walk.proofs.expressions.+expressions.Goals as goal
@@ -25,7 +26,8 @@ expression-returns-in_ok-more_bindings-in-Let t c =
     let h2 = c.in_ok-binding-in-Let.ensures ∙ ap (λ x. g1 ++ map decls (binding_groups file (view_binding x))) c.deref-in-Let-3.ensures in
     let h3 = c.in_ok-more_bindings-in-Let.ensures ∙ ap (λ l. g2 ++ map decls (bindings_groups file (bindings l))) c.deref-in-Let-4.ensures.value in
     on_ok c.expression-in-Let.result _ _
-    (λ h. four_grown g0 g1 g2 g3 c.expression-in-Let.new.found.groups (let_bound file b bs ∷ []) (binding_groups file b) (bindings_groups file bs) (expr_groups file (view c.in-Let.body.value))
+    (λ h. four_grown g0 g1 g2 g3 c.expression-in-Let.new.found.groups (let_bound file b bs ∷ []) (binding_groups file b) (bindings_groups file bs)
+    (expr_groups file (view c.in-Let.body.value))
     h1 h2 h3 (h ∙ ap (λ x. g3 ++ map decls (expr_groups file (view x))) c.deref-in-Let-5.ensures)
     ∙ sym (ap (λ x. g0 ++ map decls (expr_groups file x)) shape))
     c.expression-in-Let.ensures
@@ -40,7 +42,8 @@ expression-returns-in_ok-case-in-Match t c =
     let h1 = c.in_ok-expression-in-Match.ensures ∙ ap (λ x. g0 ++ map decls (expr_groups file (view x))) c.deref-in-Match.ensures in
     let h2 = c.in_ok-case-in-Match.ensures ∙ ap (λ x. g1 ++ map decls (case_groups file (view_case x))) c.deref-in-Match-2.ensures in
     on_ok c.more_cases-in-Match.result _ _
-    (λ h. three_grown g0 g1 g2 c.more_cases-in-Match.new.found.groups (expr_groups file (view c.in-Match.subject.value)) (case_groups file (view_case c.in-Match.first.value)) (cases_groups file (cases c.in-Match.rest.items))
+    (λ h. three_grown g0 g1 g2 c.more_cases-in-Match.new.found.groups (expr_groups file (view c.in-Match.subject.value))
+    (case_groups file (view_case c.in-Match.first.value)) (cases_groups file (cases c.in-Match.rest.items))
     h1 h2 (h ∙ ap (λ l. g2 ++ map decls (cases_groups file (cases l))) c.deref-in-Match-3.ensures.value)
     ∙ sym (ap (λ x. g0 ++ map decls (expr_groups file x)) shape))
     c.more_cases-in-Match.ensures
@@ -55,7 +58,8 @@ expression-returns-in_ok-case-in-Try t c =
     let h1 = c.in_ok-expression-in-Try.ensures ∙ ap (λ x. g0 ++ map decls (expr_groups file (view x))) c.deref-in-Try.ensures in
     let h2 = c.in_ok-case-in-Try.ensures ∙ ap (λ x. g1 ++ map decls (case_groups file (view_case x))) c.deref-in-Try-2.ensures in
     on_ok c.more_cases-in-Try.result _ _
-    (λ h. three_grown g0 g1 g2 c.more_cases-in-Try.new.found.groups (expr_groups file (view c.in-Try.subject.value)) (case_groups file (view_case c.in-Try.first.value)) (cases_groups file (cases c.in-Try.rest.items))
+    (λ h. three_grown g0 g1 g2 c.more_cases-in-Try.new.found.groups (expr_groups file (view c.in-Try.subject.value))
+    (case_groups file (view_case c.in-Try.first.value)) (cases_groups file (cases c.in-Try.rest.items))
     h1 h2 (h ∙ ap (λ l. g2 ++ map decls (cases_groups file (cases l))) c.deref-in-Try-3.ensures.value)
     ∙ sym (ap (λ x. g0 ++ map decls (expr_groups file x)) shape))
     c.more_cases-in-Try.ensures
@@ -77,7 +81,8 @@ expression-returns-in_ok-branches-in-If t c =
     let h2 = c.in_ok-expression-in-If-2.ensures ∙ ap (λ x. g1 ++ map decls (expr_groups file (view x))) c.deref-in-If-2.ensures in
     let h3 = c.in_ok-branches-in-If.ensures ∙ ap (λ l. g2 ++ map decls (branches_groups file l)) c.deref-in-If-3.ensures.value in
     on_ok c.optional.result _ _
-    (λ h. four_grown g0 g1 g2 g3 c.optional.new.found.groups e1 e2 (branches_groups file bs) (optional_groups file (maybe o)) h1 h2 h3 h ∙ sym (ap (λ x. g0 ++ map decls x) all))
+    (λ h. four_grown g0 g1 g2 g3 c.optional.new.found.groups e1 e2 (branches_groups file bs) (optional_groups file (maybe o)) h1 h2 h3 h
+    ∙ sym (ap (λ x. g0 ++ map decls x) all))
     c.optional.ensures
 
 pub expression-returns-in_ok-one_field-in-Record : goal.expression-returns-in_ok-one_field-in-Record
@@ -89,7 +94,8 @@ expression-returns-in_ok-one_field-in-Record t c =
     let shape = ap view c.in-Record.is ∙ at_expr_record c.in-Record.at c.in-Record.base c.in-Record.first c.in-Record.rest c.in-Record.last in
     let h2 = c.in_ok-one_field-in-Record.ensures ∙ ap (λ x. g1 ++ map decls (field_groups file (view_field x))) c.deref-in-Record.ensures in
     on_ok c.more_fields.result _ _
-    (λ h. three_grown g0 g1 g2 c.more_fields.new.found.groups (optional_groups file (maybe c.in-Record.base)) (field_groups file (view_field c.in-Record.first.value)) (fields_groups file (fields c.in-Record.rest.items))
+    (λ h. three_grown g0 g1 g2 c.more_fields.new.found.groups (optional_groups file (maybe c.in-Record.base))
+    (field_groups file (view_field c.in-Record.first.value)) (fields_groups file (fields c.in-Record.rest.items))
     c.in_ok-optional-in-Record.ensures h2 (h ∙ ap (λ l. g2 ++ map decls (fields_groups file (fields l))) c.deref-in-Record-2.ensures.value)
     ∙ sym (ap (λ x. g0 ++ map decls (expr_groups file x)) shape))
     c.more_fields.ensures
@@ -101,11 +107,13 @@ expression-returns-in_ok-loop_variable-in-For t c =
     let g1 = c.expression-in-For.new.found.groups in
     let g2 = c.expression-in-For-2.new.found.groups in
     let g3 = c.loop_variable.new.found.groups in
-    let shape = ap view c.in-For.is ∙ at_expr_for c.in-For.at c.in-For.variable c.in-For.equals c.in-For.from c.in-For.down c.in-For.to c.in-For.body in
+    let shape = ap view c.in-For.is ∙ at_expr_for c.in-For.at c.in-For.variable c.in-For.equals c.in-For.from c.in-For.down c.in-For.to
+    c.in-For.body in
     let h1 = c.in_ok-expression-in-For.ensures ∙ ap (λ x. g0 ++ map decls (expr_groups file (view x))) c.deref-in-For.ensures in
     let h2 = c.in_ok-expression-in-For-2.ensures ∙ ap (λ x. g1 ++ map decls (expr_groups file (view x))) c.deref-in-For-2.ensures in
     on_ok c.expression-in-For-3.result _ _
-    (λ h. four_grown g0 g1 g2 g3 c.expression-in-For-3.new.found.groups (expr_groups file (view c.in-For.from.value)) (expr_groups file (view c.in-For.to.value))
+    (λ h. four_grown g0 g1 g2 g3 c.expression-in-For-3.new.found.groups (expr_groups file (view c.in-For.from.value))
+    (expr_groups file (view c.in-For.to.value))
     (bound file (for_variables (view_variable c.in-For.variable)) ∷ []) (expr_groups file (view c.in-For.body.value))
     h1 h2 c.in_ok-loop_variable-in-For.ensures (h ∙ ap (λ x. g3 ++ map decls (expr_groups file (view x))) c.deref-in-For-3.ensures)
     ∙ sym (ap (λ x. g0 ++ map decls (expr_groups file x)) shape))

@@ -5,4 +5,5 @@ use Rattle.group_walk.specs.Groups.{units_groups}
 use Rattle.group_walk.proofs.walk.units.Given as goal
 
 abbrev pub invariant-loop-tree : goal.invariant-loop-tree
-invariant-loop-tree l = l.found.groups ++ map decls (units_groups (map view_unit (drop l.tree-index l.list))) ≡ l.fn.found.groups ++ map decls (units_groups (map view_unit l.list))
+invariant-loop-tree l = l.found.groups ++ map decls (units_groups (map view_unit (drop l.tree-index l.list))) ≡ l.fn.found.groups ++ map decls
+    (units_groups (map view_unit l.list))

@@ -17,7 +17,8 @@ pub loop-rest-preserved : goal.loop-rest-preserved
 loop-rest-preserved c = elim c.match-piece_at.branch [
   | in-Trivia w ↦
       let fits : Within (Trivia w.in-Trivia.len) c.loop-rest.rest.now = rw w.in-Trivia.is at c.piece_at.ensures.within in
-      rw (c.after-rest.ensures, w.tokens-is, w.len-is) (left_trivia _ _ _ c.loop-rest.invariant _ fits.1 (sym c.piece_at.ensures.value ∙ w.in-Trivia.is))
+      rw (c.after-rest.ensures, w.tokens-is, w.len-is)
+      (left_trivia _ _ _ c.loop-rest.invariant _ fits.1 (sym c.piece_at.ensures.value ∙ w.in-Trivia.is))
   | in-Lexeme+in_ok-push-in-Lexeme w ↦
       let fits : Within (Lexeme w.in-Lexeme.class w.in-Lexeme.len) c.loop-rest.rest.now = rw w.in-Lexeme.is at c.piece_at.ensures.within in
       rw (c.after-rest.ensures, w.len-is)

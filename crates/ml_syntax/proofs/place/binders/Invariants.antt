@@ -5,4 +5,5 @@ use Rattle.ml_syntax.specs.Sites.{view_sites}
 use Rattle.ml_syntax.proofs.place.binders.Given as goal
 
 abbrev pub invariant-loop-site : goal.invariant-loop-site
-invariant-loop-site l = l.marks.items ++ map mark (filter (λ x. x.binds) (view_sites l.site-iterator.rest.items)) ≡ map mark (filter (λ x. x.binds) (view_sites l.initial.site-iterator.rest.items))
+invariant-loop-site l = l.marks.items ++ map mark (filter (λ x. x.binds) (view_sites l.site-iterator.rest.items)) ≡ map mark
+    (filter (λ x. x.binds) (view_sites l.initial.site-iterator.rest.items))

@@ -15,17 +15,20 @@ use Rattle.mod_resolve.proofs.project.units.Goals as goal
 pub returns-in_err-shape-clause-heavy : goal.returns-in_err-shape-clause-heavy
 returns-in_err-shape-clause-heavy c =
     let rest = drop (c.loop-tree.tree-index + 1) c.args.list.now in
-    let d = drop_more c.args.list.now c.loop-tree.tree-index c.tree-item.result (omega (arith, c.loop-tree-test.true)) ∙ ap (λ (x : UnitTree). x ∷ rest) (sym c.tree-item.is) in
+    let d = drop_more c.args.list.now c.loop-tree.tree-index c.tree-item.result (omega (arith, c.loop-tree-test.true))
+    ∙ ap (λ (x : UnitTree). x ∷ rest) (sym c.tree-item.is) in
     let sc = entries_of c.loop-tree.scope in
     let more = units_steps (after_unit sc (view_unit c.tree-item.result)) (map view_unit rest) in
-    passed c.from_residual.result c.in_err-shape.field-0.0 c.args.found.now (units_steps (entries_of c.args.scope.now) (map view_unit c.args.list.now)) c.from_residual.ensures.0 c.from_residual.ensures.1
+    passed c.from_residual.result c.in_err-shape.field-0.0 c.args.found.now
+    (units_steps (entries_of c.args.scope.now) (map view_unit c.args.list.now)) c.from_residual.ensures.0 c.from_residual.ensures.1
     (λ at h. sym c.loop-tree.invariant.0 ∙ ap (λ (l : List UnitTree). taken (Going c.loop-tree.found) (units_steps sc (map view_unit l))) d
     ∙ ap (λ s. taken s more) (c.in_err-shape.ensures.heavy at h) ∙ heavy_stays more at)
 
 pub loop-tree-preserved : goal.loop-tree-preserved
 loop-tree-preserved c =
     let rest = drop (c.loop-tree.tree-index + 1) c.args.list.now in
-    let d = drop_more c.args.list.now c.loop-tree.tree-index c.tree-item.result (omega (arith, c.loop-tree-test.true)) ∙ ap (λ (x : UnitTree). x ∷ rest) (sym c.tree-item.is) in
+    let d = drop_more c.args.list.now c.loop-tree.tree-index c.tree-item.result (omega (arith, c.loop-tree-test.true))
+    ∙ ap (λ (x : UnitTree). x ∷ rest) (sym c.tree-item.is) in
     let sc = entries_of c.loop-tree.scope in
     let u = view_unit c.tree-item.result in
     let e : entries_of c.push.new.self ≡ after_unit sc u =

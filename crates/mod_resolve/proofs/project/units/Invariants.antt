@@ -8,5 +8,6 @@ use Rattle.mod_resolve.proofs.project.units.Given as goal
 
 abbrev pub invariant-loop-tree : goal.invariant-loop-tree
 invariant-loop-tree l =
-    (taken (Going l.found) (units_steps (entries_of l.scope) (map view_unit (drop l.tree-index l.list))) ≡ taken (Going l.fn.found) (units_steps (entries_of l.fn.scope) (map view_unit l.list)))
+    (taken (Going l.found) (units_steps (entries_of l.scope) (map view_unit (drop l.tree-index l.list))) ≡ taken (Going l.fn.found)
+    (units_steps (entries_of l.fn.scope) (map view_unit l.list)))
     × (after_units (entries_of l.scope) (map view_unit (drop l.tree-index l.list)) ≡ after_units (entries_of l.fn.scope) (map view_unit l.list))

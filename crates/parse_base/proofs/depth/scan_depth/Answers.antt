@@ -15,7 +15,8 @@ returns-then-len-gt-MAX_NESTING c =
     let ts = c.args.tokens.now in
     let at = c.loop-at.at in
     let inv = c.loop-at.invariant in
-    let e = one_more_token ts at c.loop-at.before c.role_at-here.result c.role_at-next.result _ _ c.in_ok-step.ensures inv.stack inv.behind c.role_at-here.ensures c.role_at-next.ensures in
+    let e = one_more_token ts at c.loop-at.before c.role_at-here.result c.role_at-next.result _ _ c.in_ok-step.ensures inv.stack inv.behind
+    c.role_at-here.ensures c.role_at-next.ensures in
     let n = nesting_is ts (at + 1) c.step.new.marks.items e in
     rw c.number.ensures (record {
       there = omega arith;
@@ -28,7 +29,8 @@ loop-at-preserved c =
     let ts = c.args.tokens.now in
     let at = c.loop-at.at in
     let inv = c.loop-at.invariant in
-    let e = one_more_token ts at c.loop-at.before c.role_at-here.result c.role_at-next.result _ _ c.in_ok-step.ensures inv.stack inv.behind c.role_at-here.ensures c.role_at-next.ensures in
+    let e = one_more_token ts at c.loop-at.before c.role_at-here.result c.role_at-next.result _ _ c.in_ok-step.ensures inv.stack inv.behind
+    c.role_at-here.ensures c.role_at-next.ensures in
     let n = nesting_is ts (at + 1) c.step.new.marks.items e in
     record {
       stack = e;

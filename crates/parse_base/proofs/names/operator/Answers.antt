@@ -10,4 +10,5 @@ returns-then-not-is c =
     let ts = c.args.tokens.now in
     let e : c.args.at + 2 ≡ c.args.at + 1 + 1 = omega arith in
     let x = from_next ts (c.args.at + 1) (c.is_operator.ensures.within c.if-not-is_operator.false) in
-    operator_unclosed (c.args.at + 1) (from ts (c.args.at + 1)) (from ts (c.args.at + 1 + 1)) x.0 x.1 (sym (ap (λ k. starts key.RightParen (from ts k)) e) ∙ sym c.is.ensures.value ∙ c.if-not-is.true)
+    operator_unclosed (c.args.at + 1) (from ts (c.args.at + 1)) (from ts (c.args.at + 1 + 1)) x.0 x.1
+    (sym (ap (λ k. starts key.RightParen (from ts k)) e) ∙ sym c.is.ensures.value ∙ c.if-not-is.true)

@@ -12,4 +12,5 @@ returns-in-Err-Syntax c =
     declaration_by_length here ∙ ap (cut_at here) failed
 
 pub returns-in_ok-words-in-Ok : goal.returns-in_ok-words-in-Ok
-returns-in_ok-words-in-Ok c = declaration_by_length (from c.args.tokens.now c.args.at) ∙ cut_there c.args.tokens.now c.args.at c.in-Ok.count _ (view_run c.in_ok-words-in-Ok.field-0) c.in-Ok.ensures.value c.in_ok-words-in-Ok.ensures
+returns-in_ok-words-in-Ok c = declaration_by_length (from c.args.tokens.now c.args.at)
+    ∙ cut_there c.args.tokens.now c.args.at c.in-Ok.count _ (view_run c.in_ok-words-in-Ok.field-0) c.in-Ok.ensures.value c.in_ok-words-in-Ok.ensures

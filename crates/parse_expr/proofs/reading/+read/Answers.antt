@@ -6,4 +6,5 @@ use Rattle.parse_expr.proofs.reading.+read.Goals as goal
 
 pub returns-then-fits-clause-reads : goal.returns-then-fits-clause-reads
 unfolding read_expr
-returns-then-fits-clause-reads t c = rw (deeper (λ n. read_expr n c.args.wanted (from c.args.tokens.now c.args.at)) c.args.depth (omega arith)) c.in_ok-tree.ensures
+returns-then-fits-clause-reads t c = rw (deeper (λ n. read_expr n c.args.wanted (from c.args.tokens.now c.args.at)) c.args.depth (omega arith))
+    c.in_ok-tree.ensures

@@ -9,4 +9,5 @@ use Rattle.parse_module.proofs.constraints.more_constraints.Given as goal
 abbrev pub invariant-loop-turn : goal.invariant-loop-turn
 invariant-loop-turn l =
     let part = next_constraint in
-    Left [] ◌∷◌ always part (map view_constraint l.found.items) (l.depth - l._turn) (from l.tokens l.at) (many [] ◌∷◌ always part l.depth (from l.tokens l.fn.at))
+    Left [] ◌∷◌ always part (map view_constraint l.found.items) (l.depth - l._turn) (from l.tokens l.at)
+    (many [] ◌∷◌ always part l.depth (from l.tokens l.fn.at))

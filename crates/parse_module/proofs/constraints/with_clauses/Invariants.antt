@@ -9,4 +9,5 @@ use Rattle.parse_module.proofs.constraints.with_clauses.Given as goal
 abbrev pub invariant-loop-turn : goal.invariant-loop-turn
 invariant-loop-turn l =
     let part = with_clause l.depth in
-    Left [] ◌∷◌ always part (map view_with l.found.items) (l.depth - l._turn) (from l.tokens l.at) (many [] ◌∷◌ always part l.depth (from l.tokens l.fn.at))
+    Left [] ◌∷◌ always part (map view_with l.found.items) (l.depth - l._turn) (from l.tokens l.at)
+    (many [] ◌∷◌ always part l.depth (from l.tokens l.fn.at))

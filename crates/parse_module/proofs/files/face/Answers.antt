@@ -4,7 +4,9 @@ use Rattle.parse_module.proofs.Whole.{face_cut, face_whole}
 use Rattle.parse_module.proofs.files.face.Goals as goal
 
 pub returns-then-after-tokens : goal.returns-then-after-tokens
-returns-then-after-tokens c = face_cut c.args.file (length c.args.tokens.now + 1) (sig_items c.in_ok-items.items.items) c.args.tokens.now c.in_ok-items.after c.in_ok-items.ensures c.if-after-tokens.true
+returns-then-after-tokens c = face_cut c.args.file (length c.args.tokens.now + 1) (sig_items c.in_ok-items.items.items) c.args.tokens.now
+    c.in_ok-items.after c.in_ok-items.ensures c.if-after-tokens.true
 
 pub returns : goal.returns
-returns c = face_whole c.args.file (length c.args.tokens.now + 1) (sig_items c.in_ok-items.items.items) c.args.tokens.now c.in_ok-items.after c.in_ok-items.ensures c.if-after-tokens.false
+returns c = face_whole c.args.file (length c.args.tokens.now + 1) (sig_items c.in_ok-items.items.items) c.args.tokens.now c.in_ok-items.after
+    c.in_ok-items.ensures c.if-after-tokens.false

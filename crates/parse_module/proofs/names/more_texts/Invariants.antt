@@ -9,4 +9,5 @@ use Rattle.parse_module.proofs.names.more_texts.Given as goal
 abbrev pub invariant-loop-turn : goal.invariant-loop-turn
 invariant-loop-turn l =
     let part = text_word in
-    Left [] ◌∷◌ always part (map view_word l.found.items) (l.depth - l._turn) (from l.tokens l.at) (many [] ◌∷◌ always part l.depth (from l.tokens l.fn.at))
+    Left [] ◌∷◌ always part (map view_word l.found.items) (l.depth - l._turn) (from l.tokens l.at)
+    (many [] ◌∷◌ always part l.depth (from l.tokens l.fn.at))

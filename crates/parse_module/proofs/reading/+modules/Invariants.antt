@@ -12,4 +12,5 @@ decreases-read_module_type l = l.depth
 
 -- behind what was read, so much is still to read
 abbrev pub invariant-read_module_type-loop-turn : goal.invariant-read_module_type-loop-turn
-invariant-read_module_type-loop-turn l = read_type l.fn.depth (from l.tokens l.fn.at) ≡ before_arrows (from l.tokens) l.before.items (read_type (l.depth - l.turn) (from l.tokens l.at))
+invariant-read_module_type-loop-turn l = read_type l.fn.depth (from l.tokens l.fn.at) ≡ before_arrows (from l.tokens) l.before.items
+    (read_type (l.depth - l.turn) (from l.tokens l.at))

@@ -17,30 +17,36 @@ use Rattle.rename_files.proofs.Refusals.{rejects, not_shown, no_target_shown}
 use Rattle.rename_project.proofs.Aimed.{mark_name}
 use Rattle.rename_files.proofs.calls.foot.Goals as goal
 
-three : (a b : List ℕ) (f : Foot) (m n : ℕ) → a ≡ b → m ≡ n → let x : FootReport = record { old = a; foot = f; refs = m } in let y : FootReport = record { old = b; foot = f; refs = n } in x ≡ y
+three : (a b : List ℕ) (f : Foot) (m n : ℕ) → a ≡ b → m ≡ n → let x : FootReport = record { old = a; foot = f; refs = m } in let y : FootReport =
+    record { old = b; foot = f; refs = n } in x ≡ y
 three a b f m n h k = cc
 
 pub returns-in_err-resolved-clause-refused : goal.returns-in_err-resolved-clause-refused
 returns-in_err-resolved-clause-refused c =
     let files = c.args.files.now in
     let e = c.in_err-resolved.field-0.0 in
-    stopped c.from_residual-in_err-resolved.result e (IsRefusedFor (λ why. Shows files c.args.target.now (Err why))) c.from_residual-in_err-resolved.ensures
-    (not_shown files c.args.target.now e (rejects files (view_project c.in_ok-read.read.project) e c.in_ok-read.ensures.project c.in_err-resolved.ensures.refused))
+    stopped c.from_residual-in_err-resolved.result e (IsRefusedFor (λ why. Shows files c.args.target.now (Err why)))
+    c.from_residual-in_err-resolved.ensures
+    (not_shown files c.args.target.now e
+    (rejects files (view_project c.in_ok-read.read.project) e c.in_ok-read.ensures.project c.in_err-resolved.ensures.refused))
 
 pub returns-in_err-aim-clause-refused : goal.returns-in_err-aim-clause-refused
 returns-in_err-aim-clause-refused c =
     let files = c.args.files.now in
     let e = c.in_err-aim.field-0.0 in
     stopped c.from_residual-in_err-aim.result e (IsRefusedFor (λ why. Shows files c.args.target.now (Err why))) c.from_residual-in_err-aim.ensures
-    (no_target_shown files (view_project c.in_ok-read.read.project) c.args.target.now e c.in_ok-read.ensures.project c.in_ok-resolved.ensures.passed c.in_err-aim.ensures.refused)
+    (no_target_shown files (view_project c.in_ok-read.read.project) c.args.target.now e c.in_ok-read.ensures.project c.in_ok-resolved.ensures.passed
+    c.in_err-aim.ensures.refused)
 
 pub returns-in_err-foot-clause-refused : goal.returns-in_err-foot-clause-refused
 returns-in_err-foot-clause-refused c =
-    stopped c.from_residual-in_err-foot.result refusal.Memory (IsRefusedFor (λ why. Shows c.args.files.now c.args.target.now (Err why))) c.from_residual-in_err-foot.ensures (inr refl)
+    stopped c.from_residual-in_err-foot.result refusal.Memory (IsRefusedFor (λ why. Shows c.args.files.now c.args.target.now (Err why)))
+    c.from_residual-in_err-foot.ensures (inr refl)
 
 pub returns-in_err-members-clause-refused : goal.returns-in_err-members-clause-refused
 returns-in_err-members-clause-refused c =
-    stopped c.from_residual-in_err-members.result refusal.Memory (IsRefusedFor (λ why. Shows c.args.files.now c.args.target.now (Err why))) c.from_residual-in_err-members.ensures (inr refl)
+    stopped c.from_residual-in_err-members.result refusal.Memory (IsRefusedFor (λ why. Shows c.args.files.now c.args.target.now (Err why)))
+    c.from_residual-in_err-members.ensures (inr refl)
 
 pub returns-clause-shown : goal.returns-clause-shown
 returns-clause-shown c =
@@ -48,7 +54,8 @@ returns-clause-shown c =
     let d = c.in_ok-aim.aim.place in
     let foot = c.in_ok-foot.foot in
     let fs = c.in_ok-resolved.ensures.facts in
-    let members : IsSetOf foot c.in_ok-members.members = subst (λ (ps : List Place). HasPlaces ps c.in_ok-members.members) c.as_slice.ensures c.in_ok-members.ensures in
+    let members : IsSetOf foot c.in_ok-members.members =
+    subst (λ (ps : List Place). HasPlaces ps c.in_ok-members.members) c.as_slice.ensures c.in_ok-members.ensures in
     let refs : c.as_slice-2.result.now ≡ (facts us).refs = c.as_slice-2.ensures ∙ ap (λ (f : Facts). f.refs) fs in
     record {
       project = us;

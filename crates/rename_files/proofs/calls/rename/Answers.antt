@@ -29,30 +29,38 @@ pub returns-in_err-resolved-clause-refused : goal.returns-in_err-resolved-clause
 returns-in_err-resolved-clause-refused c =
     let files = c.args.files.now in
     let e = c.in_err-resolved.field-0.0 in
-    stopped c.from_residual-in_err-resolved.result e (IsRefusedFor (λ why. Renames files c.args.target.now c.args.name.now (Err why))) c.from_residual-in_err-resolved.ensures
-    (not_renamed files c.args.target.now c.args.name.now e (rejects files (view_project c.in_ok-read.read.project) e c.in_ok-read.ensures.project c.in_err-resolved.ensures.refused))
+    stopped c.from_residual-in_err-resolved.result e (IsRefusedFor (λ why. Renames files c.args.target.now c.args.name.now (Err why)))
+    c.from_residual-in_err-resolved.ensures
+    (not_renamed files c.args.target.now c.args.name.now e
+    (rejects files (view_project c.in_ok-read.read.project) e c.in_ok-read.ensures.project c.in_err-resolved.ensures.refused))
 
 pub returns-in_err-aim-clause-refused : goal.returns-in_err-aim-clause-refused
 returns-in_err-aim-clause-refused c =
     let files = c.args.files.now in
     let e = c.in_err-aim.field-0.0 in
-    stopped c.from_residual-in_err-aim.result e (IsRefusedFor (λ why. Renames files c.args.target.now c.args.name.now (Err why))) c.from_residual-in_err-aim.ensures
-    (no_target_renamed files (view_project c.in_ok-read.read.project) c.args.target.now c.args.name.now e c.in_ok-read.ensures.project c.in_ok-resolved.ensures.passed c.in_err-aim.ensures.refused)
+    stopped c.from_residual-in_err-aim.result e (IsRefusedFor (λ why. Renames files c.args.target.now c.args.name.now (Err why)))
+    c.from_residual-in_err-aim.ensures
+    (no_target_renamed files (view_project c.in_ok-read.read.project) c.args.target.now c.args.name.now e c.in_ok-read.ensures.project
+    c.in_ok-resolved.ensures.passed c.in_err-aim.ensures.refused)
 
 pub returns-in_err-foot-clause-refused : goal.returns-in_err-foot-clause-refused
 returns-in_err-foot-clause-refused c =
-    stopped c.from_residual-in_err-foot.result refusal.Memory (IsRefusedFor (λ why. Renames c.args.files.now c.args.target.now c.args.name.now (Err why))) c.from_residual-in_err-foot.ensures (inr refl)
+    stopped c.from_residual-in_err-foot.result refusal.Memory
+    (IsRefusedFor (λ why. Renames c.args.files.now c.args.target.now c.args.name.now (Err why))) c.from_residual-in_err-foot.ensures (inr refl)
 
 pub returns-in_err-members-clause-refused : goal.returns-in_err-members-clause-refused
 returns-in_err-members-clause-refused c =
-    stopped c.from_residual-in_err-members.result refusal.Memory (IsRefusedFor (λ why. Renames c.args.files.now c.args.target.now c.args.name.now (Err why))) c.from_residual-in_err-members.ensures (inr refl)
+    stopped c.from_residual-in_err-members.result refusal.Memory
+    (IsRefusedFor (λ why. Renames c.args.files.now c.args.target.now c.args.name.now (Err why))) c.from_residual-in_err-members.ensures (inr refl)
 
 pub returns-in_err-new-clause-refused : goal.returns-in_err-new-clause-refused
 returns-in_err-new-clause-refused c =
-    stopped c.from_residual-in_err-new.result refusal.Memory (IsRefusedFor (λ why. Renames c.args.files.now c.args.target.now c.args.name.now (Err why))) c.from_residual-in_err-new.ensures (inr refl)
+    stopped c.from_residual-in_err-new.result refusal.Memory
+    (IsRefusedFor (λ why. Renames c.args.files.now c.args.target.now c.args.name.now (Err why))) c.from_residual-in_err-new.ensures (inr refl)
 
 pub judge-requires-clause-foot : goal.judge-requires-clause-foot
-judge-requires-clause-foot c = subst (λ (f : Facts). IsFoot f.links c.in_ok-aim.aim.place c.in_ok-foot.foot) c.in_ok-resolved.ensures.facts c.in_ok-foot.ensures.foot
+judge-requires-clause-foot c = subst (λ (f : Facts). IsFoot f.links c.in_ok-aim.aim.place c.in_ok-foot.foot) c.in_ok-resolved.ensures.facts
+    c.in_ok-foot.ensures.foot
 
 pub returns-in_err-judged-clause-refused : goal.returns-in_err-judged-clause-refused
 returns-in_err-judged-clause-refused c =
@@ -62,13 +70,16 @@ returns-in_err-judged-clause-refused c =
     let foot = c.in_ok-foot.foot in
     let e = c.in_err-judged.field-0.0 in
     let is : IsFoot (facts us).links d foot = subst (λ (f : Facts). IsFoot f.links d foot) c.in_ok-resolved.ensures.facts c.in_ok-foot.ensures.foot in
-    stopped c.from_residual-in_err-judged.result e (IsRefusedFor (λ why. Renames files c.args.target.now c.args.name.now (Err why))) c.from_residual-in_err-judged.ensures
-    (judged_renamed files us c.args.target.now c.args.name.now d foot e c.in_ok-read.ensures.project c.in_ok-resolved.ensures.passed c.in_ok-aim.ensures.aims is
+    stopped c.from_residual-in_err-judged.result e (IsRefusedFor (λ why. Renames files c.args.target.now c.args.name.now (Err why)))
+    c.from_residual-in_err-judged.ensures
+    (judged_renamed files us c.args.target.now c.args.name.now d foot e c.in_ok-read.ensures.project c.in_ok-resolved.ensures.passed
+    c.in_ok-aim.ensures.aims is
     (subst (λ (n : List ℕ). IsRefusedFor (refusals_of_binder files.entries us d foot n) e) c.in_ok-new.ensures c.in_err-judged.ensures.refused))
 
 pub returns-in_err-changed-clause-refused : goal.returns-in_err-changed-clause-refused
 returns-in_err-changed-clause-refused c =
-    stopped c.from_residual-in_err-changed.result refusal.Memory (IsRefusedFor (λ why. Renames c.args.files.now c.args.target.now c.args.name.now (Err why))) c.from_residual-in_err-changed.ensures (inr refl)
+    stopped c.from_residual-in_err-changed.result refusal.Memory
+    (IsRefusedFor (λ why. Renames c.args.files.now c.args.target.now c.args.name.now (Err why))) c.from_residual-in_err-changed.ensures (inr refl)
 
 pub remake-requires-clause-named : goal.remake-requires-clause-named
 remake-requires-clause-named c = names_kept _ 0 c.args.files.now.entries c.in_ok-judged.judged.sources.items c.in_ok-judged.ensures.sources
@@ -78,9 +89,11 @@ remake-requires-clause-small c = small_enough c.in_ok-judged.judged.sources.item
 
 pub returns-in_err-files-clause-refused : goal.returns-in_err-files-clause-refused
 returns-in_err-files-clause-refused c =
-    stopped c.from_residual-in_err-files.result refusal.Memory (IsRefusedFor (λ why. Renames c.args.files.now c.args.target.now c.args.name.now (Err why))) c.from_residual-in_err-files.ensures (inr refl)
+    stopped c.from_residual-in_err-files.result refusal.Memory
+    (IsRefusedFor (λ why. Renames c.args.files.now c.args.target.now c.args.name.now (Err why))) c.from_residual-in_err-files.ensures (inr refl)
 
-same_watch : (a b : List ℕ) (m n : List ℕ) (foot : Foot) → a ≡ b → m ≡ n → let x : Watch = record { old = a; new = m; foot = foot } in let y : Watch = record { old = b; new = n; foot = foot } in x ≡ y
+same_watch : (a b : List ℕ) (m n : List ℕ) (foot : Foot) → a ≡ b → m ≡ n → let x : Watch = record { old = a; new = m; foot = foot } in let y : Watch =
+    record { old = b; new = n; foot = foot } in x ≡ y
 same_watch a b m n foot e f = cc
 
 pub returns-clause-done : goal.returns-clause-done
@@ -94,10 +107,12 @@ returns-clause-done c =
     let is : IsFoot (facts us).links d foot = subst (λ (f : Facts). IsFoot f.links d foot) fs c.in_ok-foot.ensures.foot in
     let old = mark_name us d c.in_ok-aim.aim.mark c.in_ok-aim.ensures.mark in
     let watch = same_watch c.in_ok-aim.aim.mark.name _ c.in_ok-new.new new foot old c.in_ok-new.ensures in
-    let members : IsSetOf foot c.in_ok-members.members = subst (λ (ps : List Place). HasPlaces ps c.in_ok-members.members) c.as_slice.ensures c.in_ok-members.ensures in
+    let members : IsSetOf foot c.in_ok-members.members =
+    subst (λ (ps : List Place). HasPlaces ps c.in_ok-members.members) c.as_slice.ensures c.in_ok-members.ensures in
     let refs : c.as_slice-2.result.now ≡ (facts us).refs = c.as_slice-2.ensures ∙ ap (λ (f : Facts). f.refs) fs in
     let sources : AreRespelled (in_file (renamed_words us (watch_of us d foot new))) 0 files.entries c.in_ok-judged.judged.sources.items =
-    subst (λ (w : Watch). AreRespelled (in_file (renamed_words us w)) 0 files.entries c.in_ok-judged.judged.sources.items) watch c.in_ok-judged.ensures.sources in
+    subst (λ (w : Watch). AreRespelled (in_file (renamed_words us w)) 0 files.entries c.in_ok-judged.judged.sources.items) watch
+    c.in_ok-judged.ensures.sources in
     record {
       project = us;
       binder = d;
@@ -107,7 +122,8 @@ returns-clause-done c =
       is_foot = is;
       none = subst (λ (n : List ℕ). IsFreeOf (refusals_of_binder files.entries us d foot n)) c.in_ok-new.ensures c.in_ok-judged.ensures.passed;
       renaming = record {
-        sources = subst (AreRespelled (in_file (renamed_words us (watch_of us d foot new))) 0 files.entries) (sym (ap (λ (f : FileSet). f.entries) c.in_ok-files.ensures)) sources;
+        sources = subst (AreRespelled (in_file (renamed_words us (watch_of us d foot new))) 0 files.entries)
+            (sym (ap (λ (f : FileSet). f.entries) c.in_ok-files.ensures)) sources;
         manifest = ap (λ (f : FileSet). f.manifest) c.in_ok-files.ensures;
         changed =
             c.from_vec.ensures

@@ -13,4 +13,5 @@ returns-in-None-clause-passed c =
 pub returns-clause-refused : goal.returns-clause-refused
 returns-clause-refused c =
     let us = view_project c.args.read.now.project in
-    inl (subst (LastRungs us c.args.watch.now) (sym c.refusal_of_fault.ensures) (some_fault us c.args.watch.now c.in-Some.fault (subst (IsLocalFault us c.args.watch.now) c.in-Some.is c.in_ok-local_fault.ensures)))
+    inl (subst (LastRungs us c.args.watch.now) (sym c.refusal_of_fault.ensures)
+    (some_fault us c.args.watch.now c.in-Some.fault (subst (IsLocalFault us c.args.watch.now) c.in-Some.is c.in_ok-local_fault.ensures)))

@@ -14,8 +14,10 @@ view list = view_tokens list.items
 pub bounds-lists-at : goal.bounds-lists-at
 bounds-lists-at c =
     let n = c.loop-at.at in
-    let w : n < length c.args.files.now.entries = subst (λ (l : List SourceFile). n < length l) c.entries-entries.ensures.entries c.loop-at-test.true in
-    subst (λ (l : List (Vec Token)). n < length l) (sym c.as_slice-lists.ensures.value) (within view c.args.files.now.entries c.args.read.now.tokens.items c.requires.cut n w)
+    let w : n < length c.args.files.now.entries =
+    subst (λ (l : List SourceFile). n < length l) c.entries-entries.ensures.entries c.loop-at-test.true in
+    subst (λ (l : List (Vec Token)). n < length l) (sym c.as_slice-lists.ensures.value)
+    (within view c.args.files.now.entries c.args.read.now.tokens.items c.requires.cut n w)
 
 pub new_source-requires-clause-cut : goal.new_source-requires-clause-cut
 new_source-requires-clause-cut c =
@@ -29,12 +31,14 @@ new_source-requires-clause-cut c =
     let there : t ≡ get_or lists n t = c.index-lists-at.is ∙ ap (λ (l : List (Vec Token)). get_or l n t) c.as_slice-lists.ensures.value in
     let cut : Lexed (get_or files n s).bytes (view (get_or lists n t)) = lexed_at view files lists c.requires.cut n s t w in
     subst (λ (xs : List Token). Lexed s.bytes (view_tokens xs)) (sym c.as_slice.ensures.value)
-    (subst (λ (z : Vec Token). Lexed s.bytes (view z)) (sym there) (subst (λ (z : SourceFile). Lexed z.bytes (view (get_or lists n t))) (sym here) cut))
+    (subst (λ (z : Vec Token). Lexed s.bytes (view z)) (sym there)
+    (subst (λ (z : SourceFile). Lexed z.bytes (view (get_or lists n t))) (sym here) cut))
 
 pub loop-at-preserved : goal.loop-at-preserved
 loop-at-preserved c = record {
   count = grind (arith, common_steps, c.in_ok-push.ensures.items, c.loop-at.invariant.count);
   made =
-      made_more c.args.set.now c.args.new.now c.entries-entries.result.now c.loop-at.at c.index-entries-at.result c.loop-at.sources.items c.push.new.self.items c.in_ok-source.source
+      made_more c.args.set.now c.args.new.now c.entries-entries.result.now c.loop-at.at c.index-entries-at.result c.loop-at.sources.items
+      c.push.new.self.items c.in_ok-source.source
       c.loop-at-test.true c.index-entries-at.is c.loop-at.invariant.made c.in_ok-source.ensures c.in_ok-push.ensures.items;
 }

@@ -14,4 +14,5 @@ returns c =
     c.loop-mark.invariant
     ∙ (ap (λ (l : List Mark). c.args.list.now.items ++ map (λ (m : Mark). here c.number_of_file-file.result m.token) l) all
     ∙ ap (λ (l : List Place). c.args.list.now.items ++ l)
-    (file_spots (view_file c.args.tree.now) c.number_of_file-file.result ms c.number_of_file-file.ensures (c.deref-mark-items.ensures.value ∙ c.in_ok-marks.ensures)))
+    (file_spots (view_file c.args.tree.now) c.number_of_file-file.result ms c.number_of_file-file.ensures
+    (c.deref-mark-items.ensures.value ∙ c.in_ok-marks.ensures)))

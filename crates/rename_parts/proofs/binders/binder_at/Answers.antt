@@ -18,7 +18,8 @@ returns-in-Some c =
     let here : Some c.in-Some.found ≡ mark_at (file_places (view_unit u).body) c.args.place = sym c.in-Some.is ∙ c.in_ok-found.ensures in
     let found : Some c.in-Some.found ≡ mark_at (places (map view_unit us)) c.args.place =
     unit_mark (view_unit u) (map view_unit rest) c.args.place (Some c.in-Some.found) _ _ here refl seen in
-    mark_is (view_project c.args.project.now) c.requires c.args.place (Some c.in-Some.found) (found ∙ ap (λ (l : List UnitTree). mark_at (places (map view_unit l)) c.args.place) c.deref-unit-items.ensures.value)
+    mark_is (view_project c.args.project.now) c.requires c.args.place (Some c.in-Some.found)
+    (found ∙ ap (λ (l : List UnitTree). mark_at (places (map view_unit l)) c.args.place) c.deref-unit-items.ensures.value)
 
 pub returns-in-Some-2 : goal.returns-in-Some-2
 returns-in-Some-2 c =
@@ -32,7 +33,8 @@ returns-in-Some-2 c =
     let here : Some c.in-Some-2.found ≡ mark_at (file_places (view_unit u).face) c.args.place = sym c.in-Some-2.is ∙ c.in_ok-found-2.ensures in
     let found : Some c.in-Some-2.found ≡ mark_at (places (map view_unit us)) c.args.place =
     unit_mark (view_unit u) (map view_unit rest) c.args.place None (Some c.in-Some-2.found) _ none here seen in
-    mark_is (view_project c.args.project.now) c.requires c.args.place (Some c.in-Some-2.found) (found ∙ ap (λ (l : List UnitTree). mark_at (places (map view_unit l)) c.args.place) c.deref-unit-items.ensures.value)
+    mark_is (view_project c.args.project.now) c.requires c.args.place (Some c.in-Some-2.found)
+    (found ∙ ap (λ (l : List UnitTree). mark_at (places (map view_unit l)) c.args.place) c.deref-unit-items.ensures.value)
 
 pub loop-unit-preserved : goal.loop-unit-preserved
 loop-unit-preserved c =
@@ -50,5 +52,7 @@ pub returns : goal.returns
 returns c =
     let us = c.deref-unit-items.result.now in
     let none : None ≡ mark_at (places (map view_unit us)) c.args.place =
-    sym (ap (λ (l : List UnitTree). mark_at (places (map view_unit l)) c.args.place) (drop_all c.loop-unit.unit-index us c.loop-unit-test.false)) ∙ c.loop-unit.invariant in
-    mark_is (view_project c.args.project.now) c.requires c.args.place None (none ∙ ap (λ (l : List UnitTree). mark_at (places (map view_unit l)) c.args.place) c.deref-unit-items.ensures.value)
+    sym (ap (λ (l : List UnitTree). mark_at (places (map view_unit l)) c.args.place) (drop_all c.loop-unit.unit-index us c.loop-unit-test.false))
+    ∙ c.loop-unit.invariant in
+    mark_is (view_project c.args.project.now) c.requires c.args.place None
+    (none ∙ ap (λ (l : List UnitTree). mark_at (places (map view_unit l)) c.args.place) c.deref-unit-items.ensures.value)

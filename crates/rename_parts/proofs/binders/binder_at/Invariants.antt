@@ -6,4 +6,5 @@ use Rattle.rename_parts.proofs.binders.binder_at.Given as goal
 
 -- no unit so far has it
 abbrev pub invariant-loop-unit : goal.invariant-loop-unit
-invariant-loop-unit l = mark_at (places (map view_unit (drop l.unit-index l.unit-items))) l.place ≡ mark_at (places (map view_unit l.unit-items)) l.place
+invariant-loop-unit l = mark_at (places (map view_unit (drop l.unit-index l.unit-items))) l.place ≡ mark_at
+    (places (map view_unit l.unit-items)) l.place

@@ -11,5 +11,6 @@ invariant-loop-file l = record {
   total : l.total ≡ sum_by (λ file. length file.bytes) (take l.file-index l.files);
   within : l.total ≤ 8388608;
   passed : are_over (take l.file-index l.files) ≡ false;
-  first : position_with are_over l.files ≡ counted l.number (position_with (λ front. are_over (take l.file-index l.files ++ front)) (drop l.file-index l.files));
+  first : position_with are_over l.files ≡ counted l.number
+      (position_with (λ front. are_over (take l.file-index l.files ++ front)) (drop l.file-index l.files));
 }

@@ -19,7 +19,8 @@ length_map f [] = refl
 length_map f (x ∷ xs) = let k : length (map f xs) ≡ length xs = length_map f xs in omega (arith, k)
 
 few : (src : List ℕ) (ts : List Token) → Lexed src (view_tokens ts) → length src ≤ 1048576 → length ts ≤ 1048576
-few src ts h w = let k : length (view_tokens ts) ≤ length src = lexemes_are_few src (view_tokens ts) h in let l : length (view_tokens ts) ≡ length ts = length_map view_token ts in omega (arith, k, w, l)
+few src ts h w = let k : length (view_tokens ts) ≤ length src = lexemes_are_few src (view_tokens ts) h in
+    let l : length (view_tokens ts) ≡ length ts = length_map view_token ts in omega (arith, k, w, l)
 
 pub edits_of-requires-clause-tokens : goal.edits_of-requires-clause-tokens
 edits_of-requires-clause-tokens c = few c.args.source.now c.args.tokens.now c.requires.cut c.requires.source
@@ -28,7 +29,8 @@ pub apply-requires-clause-spans : goal.apply-requires-clause-spans
 apply-requires-clause-spans c =
     let xs = view_tokens c.args.tokens.now in
     subst (λ (es : List Edit). AreInOrder 0 (length c.args.source.now) es) (sym c.deref.ensures.value)
-    (replaced_is_respelled c.args.source.now xs (hit_words c.args.set.now c.args.file c.args.new.now 1 xs) c.in_ok-edits.edits.items c.requires.cut c.in_ok-edits.ensures.words).0
+    (replaced_is_respelled c.args.source.now xs (hit_words c.args.set.now c.args.file c.args.new.now 1 xs) c.in_ok-edits.edits.items c.requires.cut
+    c.in_ok-edits.ensures.words).0
 
 pub returns : goal.returns
 returns c =

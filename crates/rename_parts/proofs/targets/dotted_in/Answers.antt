@@ -16,5 +16,6 @@ returns-in_err-inside c =
     let i = c.loop-at.at in
     let es = entries_in c.loop-at.inside.now in
     let more = drop_more path i c.index-path-at.result c.loop-at-test.true ∙ ap (λ (x : Name). x ∷ drop (i + 1) path) (sym c.index-path-at.is) in
-    let none = ends_nowhere es c.index-path-at.result (drop (i + 1) path) (option_copied c.step_in.result) (some_left path i c.loop-at-test.true c.if-at-path.false) c.step_in.ensures (ap option_copied c.in_err-inside.was) in
+    let none = ends_nowhere es c.index-path-at.result (drop (i + 1) path) (option_copied c.step_in.result)
+    (some_left path i c.loop-at-test.true c.if-at-path.false) c.step_in.ensures (ap option_copied c.in_err-inside.was) in
     c.from_residual.ensures ∙ (none ∙ (sym (ap (dotted es) more) ∙ c.loop-at.invariant))

@@ -16,16 +16,19 @@ hit : (offset n i : ℕ) (ts : List Token) (d : Token) → i < length ts → n �
     → counted i (first_at (test offset) (drop i ts)) ≡ first_at (test offset) ts → Some n ≡ lexeme_over offset (view_tokens ts)
 hit offset n i ts d w e low high h =
     let passes : test offset (get_or ts i d) ≡ true = grind arith in
-    let k : Some i ≡ first_at (test offset) ts = search_hit (test offset) ts i i (get_or ts i d) (first_at (test offset) ts) (drop_more ts i d w) passes h in
+    let k : Some i ≡ first_at (test offset) ts = search_hit (test offset) ts i i (get_or ts i d) (first_at (test offset) ts)
+    (drop_more ts i d w) passes h in
     let s : n ≡ suc i = omega (arith, e) in
     ap (λ m. Some m) s ∙ over_is offset ts (Some i) k
 
 pub returns-then-offset-token : goal.returns-then-offset-token
 returns-then-offset-token c =
-    hit c.args.offset c.loop-token.number c.loop-token.token-index c.args.tokens.now _ c.loop-token-test.true c.loop-token.invariant.count c.if-token-offset.true c.if-offset-token.true c.loop-token.invariant.left
+    hit c.args.offset c.loop-token.number c.loop-token.token-index c.args.tokens.now _ c.loop-token-test.true c.loop-token.invariant.count
+    c.if-token-offset.true c.if-offset-token.true c.loop-token.invariant.left
 
 pub returns : goal.returns
 returns c =
     over_is c.args.offset c.args.tokens.now None
-    (search_end (test c.args.offset) c.args.tokens.now c.loop-token.token-index c.loop-token.token-index (first_at (test c.args.offset) c.args.tokens.now)
+    (search_end (test c.args.offset) c.args.tokens.now c.loop-token.token-index c.loop-token.token-index
+    (first_at (test c.args.offset) c.args.tokens.now)
     (drop_all c.loop-token.token-index c.args.tokens.now c.loop-token-test.false) c.loop-token.invariant.left)

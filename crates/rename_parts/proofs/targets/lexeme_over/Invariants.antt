@@ -8,5 +8,6 @@ use Rattle.rename_parts.proofs.targets.lexeme_over.Given as goal
 abbrev pub invariant-loop-token : goal.invariant-loop-token
 invariant-loop-token l = record {
   count : l.number ≡ l.token-index + 1;
-  left : counted l.token-index (first_at (λ t. holds l.offset (view_token t)) (drop l.token-index l.tokens)) ≡ first_at (λ t. holds l.offset (view_token t)) l.tokens;
+  left : counted l.token-index (first_at (λ t. holds l.offset (view_token t)) (drop l.token-index l.tokens)) ≡ first_at
+      (λ t. holds l.offset (view_token t)) l.tokens;
 }

@@ -9,5 +9,6 @@ invariant-loop-byte l = record {
   count : l.offset ≡ l.byte-index;
   low : l.at_line ≤ l.byte-index + 1;
   left_of : l.at_column ≤ l.byte-index + 1;
-  left : counted l.byte-index (offset_from (l.line, l.column) (l.at_line, l.at_column) (drop l.byte-index l.bytes)) ≡ offset_of (l.line, l.column) l.bytes;
+  left : counted l.byte-index (offset_from (l.line, l.column) (l.at_line, l.at_column) (drop l.byte-index l.bytes)) ≡ offset_of
+      (l.line, l.column) l.bytes;
 }

@@ -13,5 +13,6 @@ returns-in-None-clause-passed c =
     let us = view_project c.args.project.now in
     let G : List (List Place) → Type 0 = λ gs. IsFirstRepeat (name_of us) gs None in
     let O : Option Repeat → Type 0 = IsFirstRepeat (name_of us) c.as_slice.result.now in
-    let none : IsFirstRepeat (name_of us) (facts us).groups None = subst G (c.as_slice.ensures ∙ c.in_ok-groups.ensures) (subst O c.in-None.is c.in_ok-first_duplicate.ensures) in
+    let none : IsFirstRepeat (name_of us) (facts us).groups None =
+    subst G (c.as_slice.ensures ∙ c.in_ok-groups.ensures) (subst O c.in-None.is c.in_ok-first_duplicate.ensures) in
     λ met. duplicate_free us none met.0 met.1

@@ -13,6 +13,7 @@ returns-in_err-check_links-clause-refused c =
     let us = view_project c.args.project.now in
     let same : c.as_slice.result.now ≡ (facts us).links = c.as_slice.ensures ∙ ap (λ (fs : Facts). fs.links) c.in_ok-resolved.ensures.facts in
     let said = c.in_err-check_links.ensures.refused in
-    stopped c.from_residual-in_err-check_links.result c.in_err-check_links.field-0.0 (IsRefusedFor (refusals_of_project us)) c.from_residual-in_err-check_links.ensures
+    stopped c.from_residual-in_err-check_links.result c.in_err-check_links.field-0.0 (IsRefusedFor (refusals_of_project us))
+    c.from_residual-in_err-check_links.ensures
     (unmatched_is us c.in_err-check_links.field-0.0 c.in_ok-check_groups.ensures.passed c.in_ok-resolved.ensures.light
     (said.0, sym (ap (λ (ls : List Link). least (unmatched_items ls)) same) ∙ said.1, said.2))

@@ -13,8 +13,10 @@ use Rattle.rename_respell.proofs.calls.respell_all.Goals as goal
 pub bounds-lists-at : goal.bounds-lists-at
 bounds-lists-at c =
     let n = c.loop-at.at in
-    let w : n < length c.args.files.now.entries = subst (λ (l : List SourceFile). n < length l) c.entries-entries.ensures.entries c.loop-at-test.true in
-    subst (λ (l : List (Vec Token)). n < length l) (sym c.as_slice-lists.ensures.value) (within view c.args.files.now.entries c.args.read.now.tokens.items c.requires n w)
+    let w : n < length c.args.files.now.entries =
+    subst (λ (l : List SourceFile). n < length l) c.entries-entries.ensures.entries c.loop-at-test.true in
+    subst (λ (l : List (Vec Token)). n < length l) (sym c.as_slice-lists.ensures.value)
+    (within view c.args.files.now.entries c.args.read.now.tokens.items c.requires n w)
 
 pub respell_source-requires-clause-cut : goal.respell_source-requires-clause-cut
 respell_source-requires-clause-cut c =
@@ -50,7 +52,8 @@ loop-at-preserved c =
     record {
       count = grind (arith, common_steps, c.in_ok-push.ensures.items, c.loop-at.invariant.count);
       made =
-          bytes_more words c.entries-entries.result.now n s (map (λ (b : Vec ℕ). b.items) c.loop-at.sources.items) (map (λ (b : Vec ℕ). b.items) c.push.new.self.items) out.items
+          bytes_more words c.entries-entries.result.now n s (map (λ (b : Vec ℕ). b.items) c.loop-at.sources.items)
+          (map (λ (b : Vec ℕ). b.items) c.push.new.self.items) out.items
           c.loop-at-test.true c.loop-at.invariant.made
           (subst (λ (b : List ℕ). IsRespelledBytes words n b out.items) c.as_slice-source.ensures one)
           (ap (map (λ (b : Vec ℕ). b.items)) c.in_ok-push.ensures.items ∙ mapped_push c.loop-at.sources.items out);

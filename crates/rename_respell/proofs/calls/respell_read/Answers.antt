@@ -19,4 +19,5 @@ returns c =
     let words = words_are names goals (changed us r) (facts us).refs
     (λ p. c.in_ok-new_names.ensures p ∙ ap (λ (l : Renaming). at_place l p) same)
     (λ p. c.in_ok-goal_table.ensures p ∙ ap (λ (l : List Ref). goal_at l p) (c.as_slice.ensures ∙ ap (λ (fs : Facts). fs.refs) c.requires.facts)) in
-    ok_more c.respell_all.result _ _ (λ sources h. bytes_same (words_in names goals) (mapped_words us r) words 0 c.args.files.now.entries _ h) c.respell_all.ensures
+    ok_more c.respell_all.result _ _ (λ sources h. bytes_same (words_in names goals) (mapped_words us r) words 0 c.args.files.now.entries _ h)
+    c.respell_all.ensures

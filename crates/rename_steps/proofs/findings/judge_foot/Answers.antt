@@ -14,24 +14,34 @@ pub returns-in-Some-clause-refused : goal.returns-in-Some-clause-refused
 returns-in-Some-clause-refused c = λ d n.
     let us = view_project c.args.project.now in
     let foot = c.args.watch.now.foot in
-    let members : IsSetOf foot c.in_ok-members.members = subst (λ (ps : List Place). HasPlaces ps c.in_ok-members.members) c.as_slice.ensures c.in_ok-members.ensures in
-    let listed : c.deref.result.now ≡ hits (facts us).refs foot = c.deref.ensures.value ∙ (c.in_ok-list.ensures ∙ ap (λ (rs : List Ref). hits rs foot) (c.as_slice-2.ensures ∙ ap (λ (f : Facts). f.refs) c.requires.facts)) in
-    let places : HasPlaces (hits (facts us).refs foot) c.in_ok-set.set = subst (λ (ps : List Place). HasPlaces ps c.in_ok-set.set) listed c.in_ok-set.ensures in
+    let members : IsSetOf foot c.in_ok-members.members =
+    subst (λ (ps : List Place). HasPlaces ps c.in_ok-members.members) c.as_slice.ensures c.in_ok-members.ensures in
+    let listed : c.deref.result.now ≡ hits (facts us).refs foot = c.deref.ensures.value
+    ∙ (c.in_ok-list.ensures ∙ ap (λ (rs : List Ref). hits rs foot) (c.as_slice-2.ensures ∙ ap (λ (f : Facts). f.refs) c.requires.facts)) in
+    let places : HasPlaces (hits (facts us).refs foot) c.in_ok-set.set =
+    subst (λ (ps : List Place). HasPlaces ps c.in_ok-set.set) listed c.in_ok-set.ensures in
     let found = c.find_all-found in
     let all : Told us d foot c.args.watch.now.new c.first_refusal.result =
-    judged us c.args.facts.now foot c.args.watch.now.new c.args.watch.now.old c.in_ok-members.members c.in_ok-set.set c.deref-2.result.now c.requires.sound c.requires.facts members places
-    (c.deref-2.ensures.value ∙ c.in_ok-marks.ensures) found.result found.ensures.operator found.ensures.valid found.ensures.same found.ensures.outside found.ensures.pun found.ensures.blurred c.first_refusal.result c.first_refusal.ensures d n in
+    judged us c.args.facts.now foot c.args.watch.now.new c.args.watch.now.old c.in_ok-members.members c.in_ok-set.set c.deref-2.result.now
+    c.requires.sound c.requires.facts members places
+    (c.deref-2.ensures.value ∙ c.in_ok-marks.ensures) found.result found.ensures.operator found.ensures.valid found.ensures.same found.ensures.outside
+    found.ensures.pun found.ensures.blurred c.first_refusal.result c.first_refusal.ensures d n in
     inl (subst (Told us d foot c.args.watch.now.new) c.in-Some.is all)
 
 pub returns-clause-free : goal.returns-clause-free
 returns-clause-free c = λ d n.
     let us = view_project c.args.project.now in
     let foot = c.args.watch.now.foot in
-    let members : IsSetOf foot c.in_ok-members.members = subst (λ (ps : List Place). HasPlaces ps c.in_ok-members.members) c.as_slice.ensures c.in_ok-members.ensures in
-    let listed : c.deref.result.now ≡ hits (facts us).refs foot = c.deref.ensures.value ∙ (c.in_ok-list.ensures ∙ ap (λ (rs : List Ref). hits rs foot) (c.as_slice-2.ensures ∙ ap (λ (f : Facts). f.refs) c.requires.facts)) in
-    let places : HasPlaces (hits (facts us).refs foot) c.in_ok-set.set = subst (λ (ps : List Place). HasPlaces ps c.in_ok-set.set) listed c.in_ok-set.ensures in
+    let members : IsSetOf foot c.in_ok-members.members =
+    subst (λ (ps : List Place). HasPlaces ps c.in_ok-members.members) c.as_slice.ensures c.in_ok-members.ensures in
+    let listed : c.deref.result.now ≡ hits (facts us).refs foot = c.deref.ensures.value
+    ∙ (c.in_ok-list.ensures ∙ ap (λ (rs : List Ref). hits rs foot) (c.as_slice-2.ensures ∙ ap (λ (f : Facts). f.refs) c.requires.facts)) in
+    let places : HasPlaces (hits (facts us).refs foot) c.in_ok-set.set =
+    subst (λ (ps : List Place). HasPlaces ps c.in_ok-set.set) listed c.in_ok-set.ensures in
     let found = c.find_all-found in
     let all : Told us d foot c.args.watch.now.new c.first_refusal.result =
-    judged us c.args.facts.now foot c.args.watch.now.new c.args.watch.now.old c.in_ok-members.members c.in_ok-set.set c.deref-2.result.now c.requires.sound c.requires.facts members places
-    (c.deref-2.ensures.value ∙ c.in_ok-marks.ensures) found.result found.ensures.operator found.ensures.valid found.ensures.same found.ensures.outside found.ensures.pun found.ensures.blurred c.first_refusal.result c.first_refusal.ensures d n in
+    judged us c.args.facts.now foot c.args.watch.now.new c.args.watch.now.old c.in_ok-members.members c.in_ok-set.set c.deref-2.result.now
+    c.requires.sound c.requires.facts members places
+    (c.deref-2.ensures.value ∙ c.in_ok-marks.ensures) found.result found.ensures.operator found.ensures.valid found.ensures.same found.ensures.outside
+    found.ensures.pun found.ensures.blurred c.first_refusal.result c.first_refusal.ensures d n in
     subst (Told us d foot c.args.watch.now.new) c.in-None.is all

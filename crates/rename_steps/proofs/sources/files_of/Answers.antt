@@ -2,4 +2,5 @@ use Rattle.rename_steps.proofs.Numbers.{gathers_more}
 use Rattle.rename_steps.proofs.sources.files_of.Goals as goal
 
 pub loop-place-preserved : goal.loop-place-preserved
-loop-place-preserved c = gathers_more c.args.places.now c.loop-place.place-index _ c.loop-place.set c.insert.new.self c.loop-place-test.true c.in_ok-insert.ensures.updates.0 c.loop-place.invariant
+loop-place-preserved c = gathers_more c.args.places.now c.loop-place.place-index _ c.loop-place.set c.insert.new.self c.loop-place-test.true
+    c.in_ok-insert.ensures.updates.0 c.loop-place.invariant

@@ -6,4 +6,5 @@ use Rattle.rename_survey.proofs.binders.add_file.Given as goal
 
 -- with the marks that are left, they are all
 abbrev pub invariant-loop-mark : goal.invariant-loop-mark
-invariant-loop-mark l = l.list.items ++ map (marked l.file) l.mark-iterator.rest.items ≡ l.fn.list.items ++ listed (file_places (Some (view_file l.fn.tree)))
+invariant-loop-mark l = l.list.items ++ map (marked l.file) l.mark-iterator.rest.items ≡ l.fn.list.items ++ listed
+    (file_places (Some (view_file l.fn.tree)))

@@ -6,4 +6,5 @@ use Rattle.rename_survey.proofs.binders.list_binders.Given as goal
 
 -- with those of the units that are left, they are all
 abbrev pub invariant-loop-unit : goal.invariant-loop-unit
-invariant-loop-unit l = l.list.items ++ listed (places (map view_unit (drop l.unit-index l.unit-items))) ≡ listed (places (map view_unit l.unit-items))
+invariant-loop-unit l = l.list.items ++ listed (places (map view_unit (drop l.unit-index l.unit-items))) ≡ listed
+    (places (map view_unit l.unit-items))

@@ -6,4 +6,5 @@ use Rattle.resolutions.proofs.respelled.one_name.Given as goal
 
 -- with the binders that are left, the places are those of all binders
 abbrev pub invariant-loop-binder : goal.invariant-loop-binder
-invariant-loop-binder l = map (λ (e : Place × Name). e.0) l.map.items ++ map (λ (b : Binder). b.at) (drop l.binder-index l.binders) ≡ map (λ (b : Binder). b.at) l.binders
+invariant-loop-binder l = map (λ (e : Place × Name). e.0) l.map.items ++ map (λ (b : Binder). b.at) (drop l.binder-index l.binders) ≡ map
+    (λ (b : Binder). b.at) l.binders

@@ -13,7 +13,8 @@ pub local_module-loop-part-preserved : goal.local_module-loop-part-preserved
 local_module-loop-part-preserved t c =
     let sc = entries_of c.args.scope.now in
     let rest = drop (c.loop-part.part-index + 1) c.deref-part-items.result.now in
-    let d = drop_more c.deref-part-items.result.now c.loop-part.part-index c.part-item.result (omega (arith, c.loop-part-test.true)) ∙ ap (λ (x : LocalArgument). x ∷ rest) (sym c.part-item.is) in (
+    let d = drop_more c.deref-part-items.result.now c.loop-part.part-index c.part-item.result (omega (arith, c.loop-part-test.true))
+    ∙ ap (λ (x : LocalArgument). x ∷ rest) (sym c.part-item.is) in (
       ap (λ s. taken (Going c.local_argument.new.found) (locals_steps sc s (locals rest))) c.in_ok-shape-2.ensures.shape
           ∙ sym (ap (λ s. taken s (locals_steps sc (applied c.loop-part.shape) (locals rest))) c.in_ok-shape-2.ensures.taken)
           ∙ sym (one_more_local (Going c.loop-part.found) sc c.loop-part.shape c.part-item.result (locals rest))

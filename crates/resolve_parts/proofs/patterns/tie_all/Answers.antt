@@ -11,6 +11,8 @@ use Rattle.resolve_parts.proofs.patterns.tie_all.Goals as goal
 pub returns : goal.returns
 returns c =
     sym (ap (taken (Going c.args.found.now)) (ties_so c.args.file (variables (view_pat c.args.first.now)) (pats c.args.rest.now)))
-    ∙ sym (ap (λ b. taken (Going c.args.found.now) (ties_from c.args.file b (pats c.args.rest.now))) (ap entries_in c.in_ok-before.ensures ∙ c.in_ok-values_of.ensures))
+    ∙ sym (ap (λ b. taken (Going c.args.found.now) (ties_from c.args.file b (pats c.args.rest.now)))
+    (ap entries_in c.in_ok-before.ensures ∙ c.in_ok-values_of.ensures))
     ∙ sym c.loop-part.invariant
-    ∙ ap (λ l. taken (Going c.loop-part.found) (ties_from c.args.file (entries_in c.loop-part.before) (pats l))) (drop_all c.loop-part.part-index c.args.rest.now (omega (arith, c.loop-part-test.false)))
+    ∙ ap (λ l. taken (Going c.loop-part.found) (ties_from c.args.file (entries_in c.loop-part.before) (pats l)))
+    (drop_all c.loop-part.part-index c.args.rest.now (omega (arith, c.loop-part-test.false)))

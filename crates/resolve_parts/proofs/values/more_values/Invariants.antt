@@ -7,4 +7,5 @@ use Rattle.binding_model.specs.Variables.{bindings_variables}
 use Rattle.resolve_parts.proofs.values.more_values.Given as goal
 
 abbrev pub invariant-loop-part : goal.invariant-loop-part
-invariant-loop-part l = entries_of l.made.items ⊕ bound l.file (bindings_variables (bindings (drop l.part-index l.list))) ≡ entries_of l.fn.made.items ⊕ bound l.file (bindings_variables (bindings l.list))
+invariant-loop-part l = entries_of l.made.items ⊕ bound l.file (bindings_variables (bindings (drop l.part-index l.list))) ≡ entries_of l.fn.made.items
+    ⊕ bound l.file (bindings_variables (bindings l.list))

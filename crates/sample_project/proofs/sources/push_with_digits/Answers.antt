@@ -6,7 +6,8 @@ use Rattle.sample_project.proofs.sources.push_with_digits.Goals as goal
 
 pub loop-digit-init : goal.loop-digit-init
 loop-digit-init c =
-    added c.args.units c.args.sources.now.items c.push_source.new.sources.items (c.args.number ∷ []) (flat_map (λ digit. with_digit (10 * c.args.number + digit)) digits) c.in_ok-push_source.ensures
+    added c.args.units c.args.sources.now.items c.push_source.new.sources.items (c.args.number ∷ [])
+    (flat_map (λ digit. with_digit (10 * c.args.number + digit)) digits) c.in_ok-push_source.ensures
 
 pub loop-digit-preserved : goal.loop-digit-preserved
 loop-digit-preserved c =

@@ -9,15 +9,18 @@ use Rattle.sample_project.proofs.sources.sample_files.Goals as goal
 
 pub loop-digit-init : goal.loop-digit-init
 loop-digit-init c =
-    added c.args.units c.new-sources.result.items c.push_source.new.sources.items (0 ∷ []) (flat_map with_digits nonzero_digits) c.in_ok-push_source.ensures
+    added c.args.units c.new-sources.result.items c.push_source.new.sources.items (0 ∷ [])
+    (flat_map with_digits nonzero_digits) c.in_ok-push_source.ensures
     ∙ ap (λ (old : List SourceFile). old ++ sources_below c.args.units numbers) c.new-sources.ensures.items
 
 pub loop-digit-preserved : goal.loop-digit-preserved
 loop-digit-preserved c =
     let n = c.args.units in
     let i = c.loop-digit.digit-index in
-    added n c.loop-digit.sources.items c.push_with_digits.new.sources.items (with_digits _) (flat_map with_digits (drop (i + 1) nonzero_digits)) c.in_ok-push_with_digits.ensures
-    ∙ ap (λ (ds : List ℕ). c.loop-digit.sources.items ++ sources_below n (flat_map with_digits ds)) (sym (drop_more nonzero_digits i _ c.loop-digit-test.true))
+    added n c.loop-digit.sources.items c.push_with_digits.new.sources.items (with_digits _) (flat_map with_digits (drop (i + 1) nonzero_digits))
+    c.in_ok-push_with_digits.ensures
+    ∙ ap (λ (ds : List ℕ). c.loop-digit.sources.items ++ sources_below n (flat_map with_digits ds))
+    (sym (drop_more nonzero_digits i _ c.loop-digit-test.true))
     ∙ c.loop-digit.invariant
 
 pub from_parts-requires : goal.from_parts-requires

@@ -4,4 +4,5 @@ use Rattle.sample_project.proofs.sources.sample_files.Given as goal
 
 -- with the digits that are left, the sources are those of all numbers
 abbrev pub invariant-loop-digit : goal.invariant-loop-digit
-invariant-loop-digit l = l.sources.items ++ sources_below l.units (flat_map with_digits (drop l.digit-index nonzero_digits)) ≡ sources_below l.units numbers
+invariant-loop-digit l = l.sources.items ++ sources_below l.units (flat_map with_digits (drop l.digit-index nonzero_digits)) ≡ sources_below l.units
+    numbers

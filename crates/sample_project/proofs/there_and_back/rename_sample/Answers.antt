@@ -6,14 +6,17 @@ use Rattle.sample_project.proofs.there_and_back.rename_sample.Goals as goal
 
 pub returns-clause-done : goal.returns-clause-done
 returns-clause-done c =
-    same_done c.args.files.now (sample_files c.args.units) c.in_ok-target.target sample_target (codes "renamed") c.rename.result c.requires c.in_ok-target.ensures c.rename.ensures.done
+    same_done c.args.files.now (sample_files c.args.units) c.in_ok-target.target sample_target (codes "renamed") c.rename.result c.requires
+    c.in_ok-target.ensures c.rename.ensures.done
 
 pub returns-clause-undone : goal.returns-clause-undone
 returns-clause-undone c =
-    done_is_undone c.renamings_are_undone.ensures c.undos_have_places.ensures c.args.units c.args.files.now c.in_ok-target.target (codes "renamed") c.rename.result c.requires
+    done_is_undone c.renamings_are_undone.ensures c.undos_have_places.ensures c.args.units c.args.files.now c.in_ok-target.target
+    (codes "renamed") c.rename.result c.requires
     c.rename.ensures.done
 
 pub returns-clause-refused : goal.returns-clause-refused
 returns-clause-refused c =
-    same_refused c.args.files.now (sample_files c.args.units) c.in_ok-target.target sample_target (codes "renamed") c.rename.result c.requires c.in_ok-target.ensures
+    same_refused c.args.files.now (sample_files c.args.units) c.in_ok-target.target sample_target (codes "renamed") c.rename.result c.requires
+    c.in_ok-target.ensures
     c.rename.ensures.refused

@@ -5,7 +5,8 @@ use Rattle.shape_core.proofs.Telling.{front_of, value_left}
 use Rattle.shape_core.proofs.index.take_value_out.Goals as goal
 
 pub returns-in-Val : goal.returns-in-Val
-returns-in-Val c front n h = c.pop.ensures.rest ∙ front_of c.args.values.now front n (h ∙ ap (λ d. front ++ values_from n (and_then d none)) c.in-Val.is)
+returns-in-Val c front n h = c.pop.ensures.rest
+    ∙ front_of c.args.values.now front n (h ∙ ap (λ d. front ++ values_from n (and_then d none)) c.in-Val.is)
 
 pub returns-in-Mod : goal.returns-in-Mod
 returns-in-Mod c front n h = value_left c.args.values.now.items front c.args.entry.now n (ap (λ d. values_from n (and_then d none)) c.in-Mod.is) h

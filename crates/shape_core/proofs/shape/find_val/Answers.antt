@@ -9,6 +9,9 @@ pub loop-entry-preserved : goal.loop-entry-preserved
 loop-entry-preserved c =
     let xs = c.args.list.now in
     let i = c.loop-entry.entry-index in
-    let more = entries_more xs i c.entry-item.result c.loop-entry-test.true ∙ ap (λ z. entries (take i xs) ⊕ view_then z pure.none) (sym c.entry-item.is) in
-    let bound = c.loop-entry.invariant.1 in
-    (subst (λ l. Sees l c.args.name.now c.see-seen.result) (sym more) (c.see-seen.ensures.sees (entries (take i xs)) c.loop-entry.invariant.0), omega (arith, bound, c.see-seen.ensures.bound))
+    let more = entries_more xs i c.entry-item.result c.loop-entry-test.true ∙ ap (λ z. entries (take i xs) ⊕ view_then z pure.none)
+    (sym c.entry-item.is) in
+    let bound = c.loop-entry.invariant.1 in (
+      subst (λ l. Sees l c.args.name.now c.see-seen.result) (sym more) (c.see-seen.ensures.sees (entries (take i xs)) c.loop-entry.invariant.0),
+      omega (arith, bound, c.see-seen.ensures.bound),
+    )

@@ -19,7 +19,8 @@ returns-else-eq-clause-sees c es h =
 
 pub returns-in-Dark-clause-sees : goal.returns-in-Dark-clause-sees
 unfolding view_then
-returns-in-Dark-clause-sees c es h = sees_in es _ _ _ c.args.entry.now (ap (λ z. view_then z pure.none) c.in-Dark.is) (sees_dark es _ c.in-Dark.at _ h)
+returns-in-Dark-clause-sees c es h = sees_in es _ _ _ c.args.entry.now (ap (λ z. view_then z pure.none) c.in-Dark.is)
+    (sees_dark es _ c.in-Dark.at _ h)
 
 pub returns-in-Mod-clause-sees : goal.returns-in-Mod-clause-sees
 unfolding view_then

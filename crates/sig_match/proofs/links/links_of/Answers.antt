@@ -7,7 +7,9 @@ pub loop-meeting-preserved : goal.loop-meeting-preserved
 loop-meeting-preserved c =
     elim c.match-link_at.branch [
       | in-Some+in_ok-push-in-Some w ↦ ap (λ v. v.items) w.links-is
-          ∙ links_some c.loop-meeting.links.items _ w.in-Some.link c.args.meetings.now c.loop-meeting.meeting-index c.meeting-item.result c.loop-meeting-test.true c.meeting-item.is c.loop-meeting.invariant w.in-Some.ensures w.in_ok-push-in-Some.ensures.items
+          ∙ links_some c.loop-meeting.links.items _ w.in-Some.link c.args.meetings.now c.loop-meeting.meeting-index c.meeting-item.result
+          c.loop-meeting-test.true c.meeting-item.is c.loop-meeting.invariant w.in-Some.ensures w.in_ok-push-in-Some.ensures.items
       | in-None w ↦ ap (λ v. v.items) w.links-is
-          ∙ links_none c.loop-meeting.links.items c.args.meetings.now c.loop-meeting.meeting-index c.meeting-item.result c.loop-meeting-test.true c.meeting-item.is c.loop-meeting.invariant w.in-None.ensures
+          ∙ links_none c.loop-meeting.links.items c.args.meetings.now c.loop-meeting.meeting-index c.meeting-item.result c.loop-meeting-test.true
+          c.meeting-item.is c.loop-meeting.invariant w.in-None.ensures
     ]

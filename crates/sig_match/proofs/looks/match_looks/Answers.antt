@@ -13,6 +13,7 @@ returns c =
     let found = c.match_both-walked.new.found in
     if_ok c.looks_after.result (HasLooks r found c.args.watch.now) (λ l. l ≡ pure.match_looks c.args.watch.now c.args.src.now c.args.tgt.now)
     (λ l a. looked r 4294967295 found (links.matched met c.args.src.now c.args.tgt.now) c.args.watch.now l
-    (from_start r 4294967295 c.new-2.result.items (trace_of found) (links.matched met c.args.src.now c.args.tgt.now) c.new-2.ensures.items c.match_both-walked.ensures) a
+    (from_start r 4294967295 c.new-2.result.items (trace_of found) (links.matched met c.args.src.now c.args.tgt.now) c.new-2.ensures.items
+    c.match_both-walked.ensures) a
     ∙ matched_looks c.args.watch.now c.args.src.now c.args.tgt.now)
     c.looks_after.ensures

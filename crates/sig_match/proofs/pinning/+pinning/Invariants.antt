@@ -20,4 +20,5 @@ decreases-pin_option l = depth_of_part l.part
 
 abbrev pub invariant-pin_entries-loop-at : goal.invariant-pin_entries-loop-at
 invariant-pin_entries-loop-at l =
-    Turns l.room (trace_of l.fn.found) (trace_of l.found) (links.pin_entries met (entries_in l.shape)) (links.pin_entries met (entries_from l.at (entries_in l.shape)))
+    Turns l.room (trace_of l.fn.found) (trace_of l.found) (links.pin_entries met (entries_in l.shape))
+    (links.pin_entries met (entries_from l.at (entries_in l.shape)))

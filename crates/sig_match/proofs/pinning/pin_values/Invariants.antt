@@ -7,4 +7,5 @@ use Rattle.sig_match.proofs.pinning.pin_values.Given as goal
 
 abbrev pub invariant-loop-at : goal.invariant-loop-at
 invariant-loop-at l =
-    Turns l.room (trace_of l.fn.found) (trace_of l.found) (pins_at (entries_in l.shape) l.positions) (pins_at (entries_in l.shape) (drop l.at-index l.positions))
+    Turns l.room (trace_of l.fn.found) (trace_of l.found) (pins_at (entries_in l.shape) l.positions)
+    (pins_at (entries_in l.shape) (drop l.at-index l.positions))

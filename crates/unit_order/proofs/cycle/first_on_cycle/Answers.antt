@@ -10,7 +10,8 @@ use Rattle.unit_order.proofs.cycle.first_on_cycle.Goals as goal
 pub loop-at-preserved : goal.loop-at-preserved
 loop-at-preserved c =
     let us = views c.args.units.now in
-    All-more (λ u. LiesOnCycle us u → ⊥) us c.loop-at.at blank (omega (arith, c.loop-at-test.true, length-map c.args.units.now view_unit)) c.loop-at.invariant
+    All-more (λ u. LiesOnCycle us u → ⊥) us c.loop-at.at blank (omega (arith, c.loop-at-test.true, length-map c.args.units.now view_unit))
+    c.loop-at.invariant
     (λ chain. true≢false (sym (c.in_ok-leads_back.ensures.no chain) ∙ c.if-branch.false))
 
 pub returns-clause-none : goal.returns-clause-none

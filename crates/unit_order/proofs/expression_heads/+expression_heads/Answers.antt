@@ -21,7 +21,8 @@ expression-returns-in_ok-more_bindings-in-Let-clause-heads t c =
     subst (λ k. OnOk c.expression-in-Let.result (c.expression-in-Let.new.found.items ≡ k))
     (ap (λ o. expr_heads o (c.more_bindings.new.found.items) (view c.deref-in-Let-3.result.now)) kept'
     ∙ ap (λ s. expr_heads bound s (view c.deref-in-Let-3.result.now)) before
-    ∙ ap (λ b. expr_heads bound (bindings_heads bound (binding_heads bound start (view_binding c.in-Let.first.value)) (bindings c.in-Let.rest.items)) (view b)) c.deref-in-Let-3.ensures ∙ sym (ap (expr_heads bound start) shape))
+    ∙ ap (λ b. expr_heads bound (bindings_heads bound (binding_heads bound start (view_binding c.in-Let.first.value)) (bindings c.in-Let.rest.items))
+    (view b)) c.deref-in-Let-3.ensures ∙ sym (ap (expr_heads bound start) shape))
     c.expression-in-Let.ensures.heads
 
 pub expression-returns-in_ok-case-in-Match-clause-heads : goal.expression-returns-in_ok-case-in-Match-clause-heads
@@ -93,7 +94,8 @@ expression-returns-in-Some-clause-heads t c =
     ∙ ap (λ o. expr_heads o (c.expression-in-If.new.found.items) (view c.deref-in-If-2.result.now)) kept
     ∙ ap (λ e. expr_heads bound (c.expression-in-If.new.found.items) (view e)) c.deref-in-If-2.ensures
     ∙ ap (λ s. expr_heads bound s (view c.in-If.then.value)) test in
-    let done = branches_done bound (c.loop-branch.found.items) (c.expression-in-If-2.new.found.items) c.deref-branch-items.result.now c.loop-branch.branch-index c.in-If.otherwise (omega (arith, c.loop-branch-test.false)) c.loop-branch.invariant.0 in
+    let done = branches_done bound (c.loop-branch.found.items) (c.expression-in-If-2.new.found.items) c.deref-branch-items.result.now
+    c.loop-branch.branch-index c.in-If.otherwise (omega (arith, c.loop-branch-test.false)) c.loop-branch.invariant.0 in
     let last = ap (λ o. tail_heads bound (c.loop-branch.found.items) (otherwise o)) c.in-Some.is in
     subst (λ k. OnOk c.expression-in-Some.result (c.expression-in-Some.new.found.items ≡ k))
     (ap (λ o. expr_heads o (c.loop-branch.found.items) (view c.deref-in-Some.result.now)) c.loop-branch.invariant.1
@@ -114,6 +116,8 @@ expression-returns-in-None-clause-heads t c =
     ∙ ap (λ o. expr_heads o (c.expression-in-If.new.found.items) (view c.deref-in-If-2.result.now)) kept
     ∙ ap (λ e. expr_heads bound (c.expression-in-If.new.found.items) (view e)) c.deref-in-If-2.ensures
     ∙ ap (λ s. expr_heads bound s (view c.in-If.then.value)) test in
-    let done = branches_done bound (c.loop-branch.found.items) (c.expression-in-If-2.new.found.items) c.deref-branch-items.result.now c.loop-branch.branch-index c.in-If.otherwise (omega (arith, c.loop-branch-test.false)) c.loop-branch.invariant.0 in
+    let done = branches_done bound (c.loop-branch.found.items) (c.expression-in-If-2.new.found.items) c.deref-branch-items.result.now
+    c.loop-branch.branch-index c.in-If.otherwise (omega (arith, c.loop-branch-test.false)) c.loop-branch.invariant.0 in
     let last = ap (λ o. tail_heads bound (c.loop-branch.found.items) (otherwise o)) c.in-None.is in
-    sym last ∙ done ∙ ap (λ l. tail_heads bound (c.expression-in-If-2.new.found.items) (tail l c.in-If.otherwise)) c.deref-branch-items.ensures.value ∙ ap (λ s. tail_heads bound s (tail c.in-If.more.items c.in-If.otherwise)) then ∙ sym (ap (expr_heads bound start) shape)
+    sym last ∙ done ∙ ap (λ l. tail_heads bound (c.expression-in-If-2.new.found.items) (tail l c.in-If.otherwise)) c.deref-branch-items.ensures.value
+    ∙ ap (λ s. tail_heads bound s (tail c.in-If.more.items c.in-If.otherwise)) then ∙ sym (ap (expr_heads bound start) shape)

@@ -5,7 +5,8 @@ use Rattle.unit_order.proofs.expression_heads.+expression_heads.Given as goal
 
 abbrev pub invariant-expression-loop-branch : goal.invariant-expression-loop-branch
 invariant-expression-loop-branch l =
-    (tail_heads l.fn.bound l.found.items (tail (drop l.branch-index l.branch-items) l.otherwise) ≡ tail_heads l.fn.bound l.initial.found.items (tail l.branch-items l.otherwise))
+    (tail_heads l.fn.bound l.found.items (tail (drop l.branch-index l.branch-items) l.otherwise) ≡ tail_heads l.fn.bound l.initial.found.items
+    (tail l.branch-items l.otherwise))
     × (l.bound ≡ l.fn.bound)
 
 abbrev pub invariant-expressions-loop-e : goal.invariant-expressions-loop-e

@@ -19,7 +19,8 @@ first_on_cycle-requires c =
 pub returns-in-Some-clause-refused : goal.returns-in-Some-clause-refused
 returns-in-Some-clause-refused c =
     let us = views c.args.units.now in
-    let many : length (derived_order us) ≡ length c.in_ok-taken.taken.items = ap length (sym c.in_ok-taken.ensures.order) ∙ length-map c.in_ok-taken.taken.items (λ at. (unit_at us at).name) in
+    let many : length (derived_order us) ≡ length c.in_ok-taken.taken.items = ap length (sym c.in_ok-taken.ensures.order)
+    ∙ length-map c.in_ok-taken.taken.items (λ at. (unit_at us at).name) in
     let lt : c.in-Some.at < length c.args.units.now = rw c.in-Some.is at c.in_ok-at.ensures.inside in (
       refl,
       ne_eqb (length (derived_order us)) (length us) (λ e. omega (arith, e, many, c.if-len-units.false, length-map c.args.units.now view_unit)),
@@ -32,4 +33,5 @@ pub returns-clause-taken : goal.returns-clause-taken
 returns-clause-taken c =
     let us = views c.args.units.now in
     let lt : length c.in_ok-taken.taken.items < length c.args.units.now = omega (arith, c.if-len-units.false, c.in_ok-taken.ensures.left) in
-    absurd (never_stuck us (names_at us c.in_ok-taken.taken.items) (c.in_ok-taken.ensures.stopped lt) (omega (arith, lt, c.in_ok-taken.ensures.left)) (rw c.in-None.is at c.in_ok-at.ensures.none))
+    absurd (never_stuck us (names_at us c.in_ok-taken.taken.items) (c.in_ok-taken.ensures.stopped lt) (omega (arith, lt, c.in_ok-taken.ensures.left))
+    (rw c.in-None.is at c.in_ok-at.ensures.none))

@@ -9,8 +9,10 @@ item-returns-in_ok-module-in-Module-clause-heads t c =
     let bound = c.args.bound.now in
     let start = c.args.found.now.items in
     let inside = bound_by_params bound (functor_params c.in-Module.params.items) in
-    let shape = ap view_item c.in-Module.is ∙ at_item_module c.in-Module.at c.in-Module.name c.in-Module.params c.in-Module.signature c.in-Module.equals c.in-Module.body in
-    let params = c.in_ok-parameters-in-Module.ensures.heads ∙ ap (λ l. functor_params_heads bound start (functor_params l)) c.deref-in-Module.ensures.value in
+    let shape = ap view_item c.in-Module.is
+    ∙ at_item_module c.in-Module.at c.in-Module.name c.in-Module.params c.in-Module.signature c.in-Module.equals c.in-Module.body in
+    let params = c.in_ok-parameters-in-Module.ensures.heads
+    ∙ ap (λ l. functor_params_heads bound start (functor_params l)) c.deref-in-Module.ensures.value in
     let inner = c.in_ok-parameters-in-Module.ensures.binds ∙ ap (λ l. bound_by_params bound (functor_params l)) c.deref-in-Module.ensures.value in
     let kept = c.in_ok-optional-in-Module.ensures.kept ∙ inner in
     let before =

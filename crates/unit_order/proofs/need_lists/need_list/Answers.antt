@@ -25,7 +25,8 @@ loop-at-preserved c =
     ∙ ap (λ name. is_among (unit_heads u) name && not (bytes_eq name c.as_bytes.result.now)) c.as_bytes-in-loop-at.ensures
     ∙ ap (λ own. is_among (unit_heads u) other && not (bytes_eq other own)) c.as_bytes.ensures
     ∙ sym (get_or-map (λ v. needs_unit u v.name) units at c.index-units-at.result false lt) in
-    let more = positions_more row list (positions_from 0 row) at (omega (arith, lt, length-map units (λ v. needs_unit u v.name))) c.loop-at.invariant in
+    let more = positions_more row list (positions_from 0 row) at (omega (arith, lt, length-map units (λ v. needs_unit u v.name)))
+    c.loop-at.invariant in
     elim c.if-is_needed.branch [
       | then-is_needed+in_ok-push w ↦
           ap (λ l. l.items ++ rest) w.list-is

@@ -13,7 +13,8 @@ loop-user-preserved c =
     let needs = map out c.args.needs.now in
     let user = c.loop-user.user in
     let size : length later ≡ length users.items = c.add_user.ensures.size ∙ ap length c.deref_mut.ensures.value in
-    let list = list_is out c.args.needs.now user c.index-needs-user.result c.deref.result.now (omega (arith, c.loop-user-test.true)) c.index-needs-user.is c.deref.ensures.value in
+    let list = list_is out c.args.needs.now user c.index-needs-user.result c.deref.result.now
+    (omega (arith, c.loop-user-test.true)) c.index-needs-user.is c.deref.ensures.value in
     rw (with_items_is users later (size ∙ sym users.ok.0)) (record {
       size = size ∙ c.loop-user.invariant.size;
       turned = λ i j.

@@ -16,13 +16,19 @@ loop-user-preserved c =
     let size : length (set waiting user unit) ≡ length waiting = length-set waiting user unit in
     record {
       size = size ∙ c.loop-user.invariant.size;
-      each = rw c.after-in-loop-user.ensures (one_released c.args.waiting.now waiting c.args.users.now i c.args.at _ c.loop-user.invariant.size c.loop-user-test.true within c.loop-user.invariant.each);
+      each = rw c.after-in-loop-user.ensures
+          (one_released c.args.waiting.now waiting c.args.users.now i c.args.at _ c.loop-user.invariant.size c.loop-user-test.true within
+          c.loop-user.invariant.each);
       inside = elim c.if-is_free.branch [
         | then-is_free w ↦ omega (arith, w.from-is, w.min-from.ensures, size, c.loop-user.invariant.inside)
         | else-is_free w ↦ omega (arith, w.from-is, size, c.loop-user.invariant.inside)
       ];
       before = elim c.if-is_free.branch [
-        | then-is_free w ↦ rw w.from-is (rw w.min-from.ensures (still_none waiting (min from user) user unit within (λ k d lt. c.loop-user.invariant.before k d (omega (arith, lt))) (λ lt. absurd (omega (arith, lt)))))
-        | else-is_free w ↦ rw w.from-is (still_none waiting from user unit within c.loop-user.invariant.before (λ lt. ap is_free (sym (get_or-set_same waiting user unit _ within)) ∙ sym c.is_free.ensures ∙ w.if-is_free.false))
+        | then-is_free w ↦ rw w.from-is
+            (rw w.min-from.ensures (still_none waiting (min from user) user unit within
+            (λ k d lt. c.loop-user.invariant.before k d (omega (arith, lt))) (λ lt. absurd (omega (arith, lt)))))
+        | else-is_free w ↦ rw w.from-is
+            (still_none waiting from user unit within c.loop-user.invariant.before
+            (λ lt. ap is_free (sym (get_or-set_same waiting user unit _ within)) ∙ sym c.is_free.ensures ∙ w.if-is_free.false))
       ];
     }

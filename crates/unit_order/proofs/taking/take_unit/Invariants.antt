@@ -7,7 +7,11 @@ use Rattle.unit_order.proofs.taking.take_unit.Given as goal
 abbrev pub invariant-loop-user : goal.invariant-loop-user
 invariant-loop-user l = record {
   size : length l.waiting ≡ length l.fn.waiting;
-  each : (k : ℕ) (d : Waiting) → k < length l.fn.waiting → get_or l.waiting k d ≡ record { missing = (get_or l.fn.waiting k d).missing - count_by (nat_eq k) (take l.user-index l.users); taken = (get_or l.fn.waiting k d).taken || nat_eq k l.at };
+  each : (k : ℕ) (d : Waiting) → k < length l.fn.waiting
+      → get_or l.waiting k d ≡ record {
+        missing = (get_or l.fn.waiting k d).missing - count_by (nat_eq k) (take l.user-index l.users);
+        taken = (get_or l.fn.waiting k d).taken || nat_eq k l.at;
+      };
   inside : l.from ≤ length l.waiting;
   before : NoneFreeBefore l.from l.waiting;
 }

@@ -11,4 +11,5 @@ use Rattle.expr_forms.proofs.grammar.Grammar.if_tail.Given as goal
 abbrev pub invariant-loop-turn : goal.invariant-loop-turn
 invariant-loop-turn g l =
     let part = r.else_branch (read_expr l.self.depth) l.self.depth in
-    Left pure.no_else r.cons_branch r.branch_ends part (map branch_of l.found.items) (l._turn-end - l._turn) (from l.tokens l.at) (many pure.no_else r.cons_branch r.branch_ends part l.self.depth (from l.tokens l.fn.at))
+    Left pure.no_else r.cons_branch r.branch_ends part (map branch_of l.found.items) (l._turn-end - l._turn) (from l.tokens l.at)
+    (many pure.no_else r.cons_branch r.branch_ends part l.self.depth (from l.tokens l.fn.at))

@@ -11,4 +11,5 @@ use Rattle.expr_forms.proofs.grammar.Grammar.more_bindings.Given as goal
 abbrev pub invariant-loop-turn : goal.invariant-loop-turn
 invariant-loop-turn g l =
     let part = r.next_binding (read_expr l.self.depth) l.self.depth in
-    Left pure.no_binding pure.more_binding always part (map view_binding l.found.items) (l._turn-end - l._turn) (from l.tokens l.at) (many pure.no_binding pure.more_binding always part l.self.depth (from l.tokens l.fn.at))
+    Left pure.no_binding pure.more_binding always part (map view_binding l.found.items) (l._turn-end - l._turn) (from l.tokens l.at)
+    (many pure.no_binding pure.more_binding always part l.self.depth (from l.tokens l.fn.at))

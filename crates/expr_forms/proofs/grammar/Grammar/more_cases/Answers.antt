@@ -13,21 +13,30 @@ returns-in-Err-Syntax g c =
     let part = r.next_case (read_expr c.args.self.now.depth) c.args.self.now.depth in
     let here = from c.args.tokens.now c.loop-turn.at in
     let failed : part here ≡ None = rw c.in-Err-Syntax.field-0-is at c.in-Err-Syntax.ensures in
-    ap Some (turn_none pure.no_case pure.more_case r.no_cases part (map view_case c.loop-turn.found.items) c.args.self.now.depth c.loop-turn._turn here _ c.loop-turn-test.true failed c.loop-turn.invariant ∙ ap (λ (l : pure.Cases). (l, here)) (cases_before c.loop-turn.found.items))
+    ap Some (turn_none pure.no_case pure.more_case r.no_cases part (map view_case c.loop-turn.found.items) c.args.self.now.depth c.loop-turn._turn
+    here _ c.loop-turn-test.true failed c.loop-turn.invariant ∙ ap (λ (l : pure.Cases). (l, here)) (cases_before c.loop-turn.found.items))
 
 pub loop-turn-preserved : goal.loop-turn-preserved
 loop-turn-preserved g c =
     let part = r.next_case (read_expr c.args.self.now.depth) c.args.self.now.depth in
-    pushed pure.no_case pure.more_case r.no_cases part view_case c.loop-turn.found.items c.push_boxed.new.row.items c.in-Ok.next.value c.args.self.now.depth c.loop-turn._turn (from c.args.tokens.now c.loop-turn.at) (from c.args.tokens.now c.in-Ok.after) _ c.in_ok-push_boxed-in-Ok.ensures.items c.loop-turn-test.true c.in-Ok.ensures (sym (ap (λ k. r.no_cases (view_case k)) c.deref.ensures) ∙ sym c.ends_case-goes_on.ensures ∙ c.if-not-goes_on.false) c.loop-turn.invariant
+    pushed pure.no_case pure.more_case r.no_cases part view_case c.loop-turn.found.items c.push_boxed.new.row.items c.in-Ok.next.value
+    c.args.self.now.depth c.loop-turn._turn (from c.args.tokens.now c.loop-turn.at)
+    (from c.args.tokens.now c.in-Ok.after) _ c.in_ok-push_boxed-in-Ok.ensures.items c.loop-turn-test.true c.in-Ok.ensures
+    (sym (ap (λ k. r.no_cases (view_case k)) c.deref.ensures) ∙ sym c.ends_case-goes_on.ensures ∙ c.if-not-goes_on.false) c.loop-turn.invariant
 
 pub returns : goal.returns
 returns g c =
     let part = r.next_case (read_expr c.args.self.now.depth) c.args.self.now.depth in
     let here = from c.args.tokens.now c.loop-turn.at in
-    ap Some (turn_end pure.no_case pure.more_case r.no_cases part (map view_case c.loop-turn.found.items) c.args.self.now.depth c.loop-turn._turn here _ c.loop-turn-test.false c.loop-turn.invariant ∙ ap (λ (l : pure.Cases). (l, here)) (cases_before c.loop-turn.found.items))
+    ap Some (turn_end pure.no_case pure.more_case r.no_cases part (map view_case c.loop-turn.found.items) c.args.self.now.depth c.loop-turn._turn here
+    _ c.loop-turn-test.false c.loop-turn.invariant ∙ ap (λ (l : pure.Cases). (l, here)) (cases_before c.loop-turn.found.items))
 
 pub returns-then-not-goes_on : goal.returns-then-not-goes_on
 returns-then-not-goes_on g c =
     let part = r.next_case (read_expr c.args.self.now.depth) c.args.self.now.depth in
     let after = from c.args.tokens.now c.in-Ok.after in
-    ap Some (pushed_last pure.no_case pure.more_case r.no_cases part view_case c.loop-turn.found.items c.push_boxed.new.row.items c.in-Ok.next.value c.args.self.now.depth c.loop-turn._turn (from c.args.tokens.now c.loop-turn.at) after _ c.in_ok-push_boxed-in-Ok.ensures.items c.loop-turn-test.true c.in-Ok.ensures (sym (ap (λ k. r.no_cases (view_case k)) c.deref.ensures) ∙ sym c.ends_case-goes_on.ensures ∙ c.if-not-goes_on.true) c.loop-turn.invariant ∙ ap (λ (l : pure.Cases). (l, after)) (cases_before c.push_boxed.new.row.items))
+    ap Some (pushed_last pure.no_case pure.more_case r.no_cases part view_case c.loop-turn.found.items c.push_boxed.new.row.items c.in-Ok.next.value
+    c.args.self.now.depth c.loop-turn._turn (from c.args.tokens.now c.loop-turn.at) after _ c.in_ok-push_boxed-in-Ok.ensures.items
+    c.loop-turn-test.true c.in-Ok.ensures
+    (sym (ap (λ k. r.no_cases (view_case k)) c.deref.ensures) ∙ sym c.ends_case-goes_on.ensures ∙ c.if-not-goes_on.true) c.loop-turn.invariant
+    ∙ ap (λ (l : pure.Cases). (l, after)) (cases_before c.push_boxed.new.row.items))

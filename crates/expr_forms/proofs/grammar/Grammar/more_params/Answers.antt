@@ -14,15 +14,20 @@ returns-in-Err-Syntax g c =
     let part = r.param (read_expr c.args.self.now.depth) c.args.self.now.depth in
     let here = from c.args.tokens.now c.loop-turn.at in
     let failed : part here ≡ None = rw c.in-Err-Syntax.field-0-is at c.in-Err-Syntax.ensures in
-    ap Some (turn_none pure.no_param pure.more_param always part (map view_param c.loop-turn.found.items) c.args.self.now.depth c.loop-turn._turn here _ c.loop-turn-test.true failed c.loop-turn.invariant ∙ ap (λ (l : pure.Params). (l, here)) (params_before c.loop-turn.found.items))
+    ap Some (turn_none pure.no_param pure.more_param always part (map view_param c.loop-turn.found.items) c.args.self.now.depth c.loop-turn._turn here
+    _ c.loop-turn-test.true failed c.loop-turn.invariant ∙ ap (λ (l : pure.Params). (l, here)) (params_before c.loop-turn.found.items))
 
 pub loop-turn-preserved : goal.loop-turn-preserved
 loop-turn-preserved g c =
     let part = r.param (read_expr c.args.self.now.depth) c.args.self.now.depth in
-    pushed pure.no_param pure.more_param always part view_param c.loop-turn.found.items c.push_boxed.new.row.items c.in-Ok.next.value c.args.self.now.depth c.loop-turn._turn (from c.args.tokens.now c.loop-turn.at) (from c.args.tokens.now c.in-Ok.after) _ c.in_ok-push_boxed-in-Ok.ensures.items c.loop-turn-test.true c.in-Ok.ensures refl c.loop-turn.invariant
+    pushed pure.no_param pure.more_param always part view_param c.loop-turn.found.items c.push_boxed.new.row.items c.in-Ok.next.value
+    c.args.self.now.depth c.loop-turn._turn (from c.args.tokens.now c.loop-turn.at)
+    (from c.args.tokens.now c.in-Ok.after) _ c.in_ok-push_boxed-in-Ok.ensures.items c.loop-turn-test.true c.in-Ok.ensures refl
+    c.loop-turn.invariant
 
 pub returns : goal.returns
 returns g c =
     let part = r.param (read_expr c.args.self.now.depth) c.args.self.now.depth in
     let here = from c.args.tokens.now c.loop-turn.at in
-    ap Some (turn_end pure.no_param pure.more_param always part (map view_param c.loop-turn.found.items) c.args.self.now.depth c.loop-turn._turn here _ c.loop-turn-test.false c.loop-turn.invariant ∙ ap (λ (l : pure.Params). (l, here)) (params_before c.loop-turn.found.items))
+    ap Some (turn_end pure.no_param pure.more_param always part (map view_param c.loop-turn.found.items) c.args.self.now.depth c.loop-turn._turn here
+    _ c.loop-turn-test.false c.loop-turn.invariant ∙ ap (λ (l : pure.Params). (l, here)) (params_before c.loop-turn.found.items))

@@ -11,4 +11,5 @@ use Rattle.expr_forms.proofs.grammar.Grammar.more_params.Given as goal
 abbrev pub invariant-loop-turn : goal.invariant-loop-turn
 invariant-loop-turn g l =
     let part = r.param (read_expr l.self.depth) l.self.depth in
-    Left pure.no_param pure.more_param always part (map view_param l.found.items) (l._turn-end - l._turn) (from l.tokens l.at) (many pure.no_param pure.more_param always part l.self.depth (from l.tokens l.fn.at))
+    Left pure.no_param pure.more_param always part (map view_param l.found.items) (l._turn-end - l._turn) (from l.tokens l.at)
+    (many pure.no_param pure.more_param always part l.self.depth (from l.tokens l.fn.at))

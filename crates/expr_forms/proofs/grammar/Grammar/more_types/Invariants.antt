@@ -9,4 +9,5 @@ use Rattle.expr_forms.proofs.grammar.Grammar.more_types.Given as goal
 abbrev pub invariant-loop-turn : goal.invariant-loop-turn
 invariant-loop-turn g l =
     let part = lower_word in
-    Left [] ◌∷◌ always part (map view_word l.found.items) (l._turn-end - l._turn) (from l.tokens l.at) (many [] ◌∷◌ always part l.self.depth (from l.tokens l.fn.at))
+    Left [] ◌∷◌ always part (map view_word l.found.items) (l._turn-end - l._turn) (from l.tokens l.at)
+    (many [] ◌∷◌ always part l.self.depth (from l.tokens l.fn.at))

@@ -14,4 +14,5 @@ use Rattle.parse_base.proofs.patterns.Grammar.more_fields.Given as goal
 abbrev pub invariant-loop-turn : goal.invariant-loop-turn
 invariant-loop-turn g l =
     let part = r.next_field (read_pat l.self.depth) l.self.depth in
-    Left pure.no_pat_field pure.more_pat_field always part (map view_pat_field l.found.items) (l._turn-end - l._turn) (from l.tokens l.at) (many pure.no_pat_field pure.more_pat_field always part l.self.depth (from l.tokens l.fn.at))
+    Left pure.no_pat_field pure.more_pat_field always part (map view_pat_field l.found.items) (l._turn-end - l._turn) (from l.tokens l.at)
+    (many pure.no_pat_field pure.more_pat_field always part l.self.depth (from l.tokens l.fn.at))

@@ -14,4 +14,5 @@ use Rattle.parse_base.proofs.patterns.Grammar.more_names.Given as goal
 abbrev pub invariant-loop-turn : goal.invariant-loop-turn
 invariant-loop-turn g l =
     let part = r.as_name (read_pat l.self.depth) l.self.depth in
-    Left [] ◌∷◌ always part (map view_name l.found.items) (l._turn-end - l._turn) (from l.tokens l.at) (many [] ◌∷◌ always part l.self.depth (from l.tokens l.fn.at))
+    Left [] ◌∷◌ always part (map view_name l.found.items) (l._turn-end - l._turn) (from l.tokens l.at)
+    (many [] ◌∷◌ always part l.self.depth (from l.tokens l.fn.at))

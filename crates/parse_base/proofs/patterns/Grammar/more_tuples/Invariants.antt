@@ -14,4 +14,5 @@ use Rattle.parse_base.proofs.patterns.Grammar.more_tuples.Given as goal
 abbrev pub invariant-loop-turn : goal.invariant-loop-turn
 invariant-loop-turn g l =
     let part = r.next_pat (read_pat l.self.depth) l.self.depth key.Bar (r.tuple_pat (read_pat l.self.depth) l.self.depth) in
-    Left pure.no_pat pure.more_pat always part (map view_pat l.found.items) (l._turn-end - l._turn) (from l.tokens l.at) (many pure.no_pat pure.more_pat always part l.self.depth (from l.tokens l.fn.at))
+    Left pure.no_pat pure.more_pat always part (map view_pat l.found.items) (l._turn-end - l._turn) (from l.tokens l.at)
+    (many pure.no_pat pure.more_pat always part l.self.depth (from l.tokens l.fn.at))

@@ -11,8 +11,10 @@ use Rattle.parse_expr.proofs.readers.Readers.+tier.Given as goal
 
 abbrev pub invariant-more_operands-loop-turn : goal.invariant-more_operands-loop-turn
 invariant-more_operands-loop-turn g l =
-    let part = r.operator_part (read_expr l.self.grammar.depth) l.self.grammar.depth (12 - l.tier) (r.tier (read_expr l.self.grammar.depth) l.self.grammar.depth l.tier) in
-    Left pure.no_link r.cons_operand (λ x. x.2) part (map operand_of l.found.items) (l._turn-end - l._turn) (from l.tokens l.at) (many pure.no_link r.cons_operand (λ x. x.2) part l.self.grammar.depth (from l.tokens l.fn.at))
+    let part = r.operator_part (read_expr l.self.grammar.depth) l.self.grammar.depth (12 - l.tier)
+    (r.tier (read_expr l.self.grammar.depth) l.self.grammar.depth l.tier) in
+    Left pure.no_link r.cons_operand (λ x. x.2) part (map operand_of l.found.items) (l._turn-end - l._turn) (from l.tokens l.at)
+    (many pure.no_link r.cons_operand (λ x. x.2) part l.self.grammar.depth (from l.tokens l.fn.at))
 
 abbrev pub decreases-tier : goal.decreases-tier
 decreases-tier g l = 4 * l.tier
@@ -25,11 +27,14 @@ decreases-more_operands g l = 4 * l.tier + 2
 
 abbrev pub invariant-more_in_tuple-loop-turn : goal.invariant-more_in_tuple-loop-turn
 invariant-more_in_tuple-loop-turn g l =
-    let part = r.operator_part (read_expr l.self.grammar.depth) l.self.grammar.depth 4 (r.tier (read_expr l.self.grammar.depth) l.self.grammar.depth 8) in
-    Left pure.no_link r.cons_operand (λ x. x.2) part (map comma_of l.found.items) (l._turn-end - l._turn) (from l.tokens l.at) (many pure.no_link r.cons_operand (λ x. x.2) part l.self.grammar.depth (from l.tokens l.fn.at))
+    let part = r.operator_part (read_expr l.self.grammar.depth) l.self.grammar.depth 4
+    (r.tier (read_expr l.self.grammar.depth) l.self.grammar.depth 8) in
+    Left pure.no_link r.cons_operand (λ x. x.2) part (map comma_of l.found.items) (l._turn-end - l._turn) (from l.tokens l.at)
+    (many pure.no_link r.cons_operand (λ x. x.2) part l.self.grammar.depth (from l.tokens l.fn.at))
 
 abbrev pub invariant-tier-loop-above : goal.invariant-tier-loop-above
-invariant-tier-loop-above g l = r.tier (read_expr l.self.grammar.depth) l.self.grammar.depth l.above (from l.tokens l.at) ≡ Some (view l.whole.value, from l.tokens l.end)
+invariant-tier-loop-above g l = r.tier (read_expr l.self.grammar.depth) l.self.grammar.depth l.above (from l.tokens l.at) ≡ Some
+    (view l.whole.value, from l.tokens l.end)
 
 abbrev pub decreases-grow : goal.decreases-grow
 decreases-grow g l = 4 * l.tier + 3

@@ -11,4 +11,5 @@ use Rattle.parse_expr.proofs.readers.Readers.more_arguments.Given as goal
 abbrev pub invariant-loop-turn : goal.invariant-loop-turn
 invariant-loop-turn g l =
     let part = r.argument (read_expr l.self.grammar.depth) l.self.grammar.depth in
-    Left pure.no_argument pure.more_argument always part (map view_argument l.found.items) (l._turn-end - l._turn) (from l.tokens l.at) (many pure.no_argument pure.more_argument always part l.self.grammar.depth (from l.tokens l.fn.at))
+    Left pure.no_argument pure.more_argument always part (map view_argument l.found.items) (l._turn-end - l._turn) (from l.tokens l.at)
+    (many pure.no_argument pure.more_argument always part l.self.grammar.depth (from l.tokens l.fn.at))

@@ -12,4 +12,5 @@ use Rattle.parse_expr.proofs.readers.Readers.more_items.Given as goal
 abbrev pub invariant-loop-turn : goal.invariant-loop-turn
 invariant-loop-turn g l =
     let part = r.semicolon_part (read_expr l.self.grammar.depth) l.self.grammar.depth (item_of l.self.grammar.depth true) in
-    Left pure.no_link r.cons_link (λ x. r.no_form x.1) part (map link_of l.found.items) (l._turn-end - l._turn) (from l.tokens l.at) (many pure.no_link r.cons_link (λ x. r.no_form x.1) part l.self.grammar.depth (from l.tokens l.fn.at))
+    Left pure.no_link r.cons_link (λ x. r.no_form x.1) part (map link_of l.found.items) (l._turn-end - l._turn) (from l.tokens l.at)
+    (many pure.no_link r.cons_link (λ x. r.no_form x.1) part l.self.grammar.depth (from l.tokens l.fn.at))

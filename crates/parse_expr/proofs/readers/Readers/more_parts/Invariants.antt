@@ -11,4 +11,5 @@ use Rattle.parse_expr.proofs.readers.Readers.more_parts.Given as goal
 abbrev pub invariant-loop-turn : goal.invariant-loop-turn
 invariant-loop-turn g l =
     let part = r.part_behind (read_expr l.self.grammar.depth) l.self.grammar.depth in
-    Left pure.no_part pure.more_part always part (map view_part l.found.items) (l._turn-end - l._turn) (from l.tokens l.at) (many pure.no_part pure.more_part always part l.self.grammar.depth (from l.tokens l.fn.at))
+    Left pure.no_part pure.more_part always part (map view_part l.found.items) (l._turn-end - l._turn) (from l.tokens l.at)
+    (many pure.no_part pure.more_part always part l.self.grammar.depth (from l.tokens l.fn.at))

@@ -19,4 +19,5 @@ pub returns-in_ok-operator_value-in-Ok : goal.returns-in_ok-operator_value-in-Ok
 returns-in_ok-operator_value-in-Ok g c =
     let d = c.args.self.now.grammar.depth in
     let after = from c.args.tokens.now c.in-Ok.after in
-    paren_operator (read_expr d) d (c.args.at + 1) (from c.args.tokens.now (c.args.at + 1)) (view_name c.in-Ok.name) after c.in-Ok.ensures ∙ ap (λ (e : pure.Expr). Some (e, after)) (some_is c.in_ok-operator_value-in-Ok.ensures)
+    paren_operator (read_expr d) d (c.args.at + 1) (from c.args.tokens.now (c.args.at + 1)) (view_name c.in-Ok.name) after c.in-Ok.ensures
+    ∙ ap (λ (e : pure.Expr). Some (e, after)) (some_is c.in_ok-operator_value-in-Ok.ensures)

@@ -10,4 +10,5 @@ use Rattle.parse_module.proofs.modules.Modules.functor_params.Given as goal
 abbrev pub invariant-loop-turn : goal.invariant-loop-turn
 invariant-loop-turn g l =
     let part = functor_param (read_mod l.self.depth) (read_type l.self.depth) l.self.depth in
-    Left pure.no_functor_param pure.more_functor_param always part (map view_functor_param l.found.items) (l._turn-end - l._turn) (from l.tokens l.at) (many pure.no_functor_param pure.more_functor_param always part l.self.depth (from l.tokens l.fn.at))
+    Left pure.no_functor_param pure.more_functor_param always part (map view_functor_param l.found.items) (l._turn-end - l._turn) (from l.tokens l.at)
+    (many pure.no_functor_param pure.more_functor_param always part l.self.depth (from l.tokens l.fn.at))

@@ -11,15 +11,19 @@ returns-in-Err-Syntax g c =
     let d = c.args.self.now.depth in
     let here = from c.args.tokens.now c.loop-turn.at in
     let failed : item_of (read_mod d) (read_type d) d c.loop-turn.fresh here ≡ None = rw c.in-Err-Syntax.field-0-is at c.in-Err-Syntax.ensures in
-    ap Some (item_none d (map view_item c.loop-turn.found.items) d c.loop-turn._turn c.loop-turn.fresh here _ c.loop-turn-test.true failed c.loop-turn.invariant ∙ ap (λ (l : pure.Items). (l, here)) (items_before c.loop-turn.found.items))
+    ap Some (item_none d (map view_item c.loop-turn.found.items) d c.loop-turn._turn c.loop-turn.fresh here _ c.loop-turn-test.true failed
+    c.loop-turn.invariant ∙ ap (λ (l : pure.Items). (l, here)) (items_before c.loop-turn.found.items))
 
 pub loop-turn-preserved : goal.loop-turn-preserved
 loop-turn-preserved g c =
     let d = c.args.self.now.depth in
-    item_pushed d c.loop-turn.found.items c.push.new.self.items c.in-Ok.next d c.loop-turn._turn c.loop-turn.fresh c.is_separator-fresh.result (from c.args.tokens.now c.loop-turn.at) (from c.args.tokens.now c.in-Ok.after) _ c.in_ok-push-in-Ok.ensures.items c.loop-turn-test.true c.in-Ok.ensures c.is_separator-fresh.ensures c.loop-turn.invariant
+    item_pushed d c.loop-turn.found.items c.push.new.self.items c.in-Ok.next d c.loop-turn._turn c.loop-turn.fresh c.is_separator-fresh.result
+    (from c.args.tokens.now c.loop-turn.at) (from c.args.tokens.now c.in-Ok.after) _ c.in_ok-push-in-Ok.ensures.items c.loop-turn-test.true
+    c.in-Ok.ensures c.is_separator-fresh.ensures c.loop-turn.invariant
 
 pub returns : goal.returns
 returns g c =
     let d = c.args.self.now.depth in
     let here = from c.args.tokens.now c.loop-turn.at in
-    ap Some (items_end d (map view_item c.loop-turn.found.items) d c.loop-turn._turn c.loop-turn.fresh here _ c.loop-turn-test.false c.loop-turn.invariant ∙ ap (λ (l : pure.Items). (l, here)) (items_before c.loop-turn.found.items))
+    ap Some (items_end d (map view_item c.loop-turn.found.items) d c.loop-turn._turn c.loop-turn.fresh here _ c.loop-turn-test.false
+    c.loop-turn.invariant ∙ ap (λ (l : pure.Items). (l, here)) (items_before c.loop-turn.found.items))

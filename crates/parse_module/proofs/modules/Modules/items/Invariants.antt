@@ -6,4 +6,5 @@ use Rattle.parse_module.proofs.ItemTurns.{LeftItems}
 use Rattle.parse_module.proofs.modules.Modules.items.Given as goal
 
 abbrev pub invariant-loop-turn : goal.invariant-loop-turn
-invariant-loop-turn g l = LeftItems l.self.depth (map view_item l.found.items) (l._turn-end - l._turn) l.fresh (from l.tokens l.at) (items_of (read_mod l.self.depth) (read_type l.self.depth) l.self.depth l.self.depth true (from l.tokens l.fn.at))
+invariant-loop-turn g l = LeftItems l.self.depth (map view_item l.found.items) (l._turn-end - l._turn) l.fresh (from l.tokens l.at)
+    (items_of (read_mod l.self.depth) (read_type l.self.depth) l.self.depth l.self.depth true (from l.tokens l.fn.at))

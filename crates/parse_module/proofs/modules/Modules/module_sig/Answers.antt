@@ -11,8 +11,10 @@ returns-then-is g c =
 
 pub returns-then-is_named : goal.returns-then-is_named
 returns-then-is_named g c =
-    rw (sig_alias c.args.self.now.depth (c.args.at + 1) (from c.args.tokens.now (c.args.at + 1)) (sym c.is_named.ensures ∙ c.if-is_named.true)) c.alias.ensures
+    rw (sig_alias c.args.self.now.depth (c.args.at + 1) (from c.args.tokens.now (c.args.at + 1)) (sym c.is_named.ensures ∙ c.if-is_named.true))
+    c.alias.ensures
 
 pub returns : goal.returns
 returns g c =
-    rw (sig_rest c.args.self.now.depth (c.args.at + 1) (from c.args.tokens.now (c.args.at + 1)) (sym c.is.ensures.value ∙ c.if-is.false) (sym c.is_named.ensures ∙ c.if-is_named.false)) c.module_sig_rest.ensures
+    rw (sig_rest c.args.self.now.depth (c.args.at + 1) (from c.args.tokens.now (c.args.at + 1)) (sym c.is.ensures.value ∙ c.if-is.false)
+    (sym c.is_named.ensures ∙ c.if-is_named.false)) c.module_sig_rest.ensures

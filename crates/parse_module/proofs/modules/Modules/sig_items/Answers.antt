@@ -13,15 +13,21 @@ returns-in-Err-Syntax g c =
     let part = sig_item (read_mod c.args.self.now.depth) (read_type c.args.self.now.depth) c.args.self.now.depth in
     let here = from c.args.tokens.now c.loop-turn.at in
     let failed : part here ≡ None = rw c.in-Err-Syntax.field-0-is at c.in-Err-Syntax.ensures in
-    ap Some (turn_none pure.no_sig_item pure.more_sig_item always part (map view_sig_item c.loop-turn.found.items) c.args.self.now.depth c.loop-turn._turn here _ c.loop-turn-test.true failed c.loop-turn.invariant ∙ ap (λ (l : pure.SigItems). (l, here)) (sig_items_before c.loop-turn.found.items))
+    ap Some (turn_none pure.no_sig_item pure.more_sig_item always part (map view_sig_item c.loop-turn.found.items) c.args.self.now.depth
+    c.loop-turn._turn here _ c.loop-turn-test.true failed c.loop-turn.invariant
+    ∙ ap (λ (l : pure.SigItems). (l, here)) (sig_items_before c.loop-turn.found.items))
 
 pub loop-turn-preserved : goal.loop-turn-preserved
 loop-turn-preserved g c =
     let part = sig_item (read_mod c.args.self.now.depth) (read_type c.args.self.now.depth) c.args.self.now.depth in
-    pushed pure.no_sig_item pure.more_sig_item always part view_sig_item c.loop-turn.found.items c.push.new.self.items c.in-Ok.next c.args.self.now.depth c.loop-turn._turn (from c.args.tokens.now c.loop-turn.at) (from c.args.tokens.now c.in-Ok.after) _ c.in_ok-push-in-Ok.ensures.items c.loop-turn-test.true c.in-Ok.ensures refl c.loop-turn.invariant
+    pushed pure.no_sig_item pure.more_sig_item always part view_sig_item c.loop-turn.found.items c.push.new.self.items c.in-Ok.next
+    c.args.self.now.depth c.loop-turn._turn (from c.args.tokens.now c.loop-turn.at)
+    (from c.args.tokens.now c.in-Ok.after) _ c.in_ok-push-in-Ok.ensures.items c.loop-turn-test.true c.in-Ok.ensures refl c.loop-turn.invariant
 
 pub returns : goal.returns
 returns g c =
     let part = sig_item (read_mod c.args.self.now.depth) (read_type c.args.self.now.depth) c.args.self.now.depth in
     let here = from c.args.tokens.now c.loop-turn.at in
-    ap Some (turn_end pure.no_sig_item pure.more_sig_item always part (map view_sig_item c.loop-turn.found.items) c.args.self.now.depth c.loop-turn._turn here _ c.loop-turn-test.false c.loop-turn.invariant ∙ ap (λ (l : pure.SigItems). (l, here)) (sig_items_before c.loop-turn.found.items))
+    ap Some (turn_end pure.no_sig_item pure.more_sig_item always part (map view_sig_item c.loop-turn.found.items) c.args.self.now.depth
+    c.loop-turn._turn here _ c.loop-turn-test.false c.loop-turn.invariant
+    ∙ ap (λ (l : pure.SigItems). (l, here)) (sig_items_before c.loop-turn.found.items))

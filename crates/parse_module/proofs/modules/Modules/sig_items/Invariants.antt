@@ -10,4 +10,5 @@ use Rattle.parse_module.proofs.modules.Modules.sig_items.Given as goal
 abbrev pub invariant-loop-turn : goal.invariant-loop-turn
 invariant-loop-turn g l =
     let part = sig_item (read_mod l.self.depth) (read_type l.self.depth) l.self.depth in
-    Left pure.no_sig_item pure.more_sig_item always part (map view_sig_item l.found.items) (l._turn-end - l._turn) (from l.tokens l.at) (many pure.no_sig_item pure.more_sig_item always part l.self.depth (from l.tokens l.fn.at))
+    Left pure.no_sig_item pure.more_sig_item always part (map view_sig_item l.found.items) (l._turn-end - l._turn) (from l.tokens l.at)
+    (many pure.no_sig_item pure.more_sig_item always part l.self.depth (from l.tokens l.fn.at))

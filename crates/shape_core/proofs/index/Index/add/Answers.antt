@@ -4,8 +4,11 @@ use Rattle.shape_core.proofs.index.Index.add.Goals as goal
 
 pub forget-requires : goal.forget-requires
 forget-requires c =
-    let h = c.requires.1 in
-    (c.requires.0, c.in_ok-before.ensures.noted c.requires.0 (befores_length c.args.self.now.befores c.requires.0 h.befores ∙ sym c.len-position.ensures) h.tables)
+    let h = c.requires.1 in (
+      c.requires.0,
+      c.in_ok-before.ensures.noted c.requires.0
+          (befores_length c.args.self.now.befores c.requires.0 h.befores ∙ sym c.len-position.ensures) h.tables,
+    )
 
 pub returns-in-Ok-clause-added : goal.returns-in-Ok-clause-added
 returns-in-Ok-clause-added c list h =
@@ -18,7 +21,9 @@ returns-in-Ok-clause-added c list h =
 
 pub returns-in-Err-clause-kept : goal.returns-in-Err-clause-kept
 returns-in-Err-clause-kept c list h = record {
-  tables = c.forget.ensures list (c.in_ok-before.ensures.noted list (befores_length c.args.self.now.befores list h.befores ∙ sym c.len-position.ensures) h.tables) (c.in_ok-before.ensures.before list h.tables);
+  tables = c.forget.ensures list
+      (c.in_ok-before.ensures.noted list (befores_length c.args.self.now.befores list h.befores ∙ sym c.len-position.ensures) h.tables)
+      (c.in_ok-before.ensures.before list h.tables);
   befores = c.in-Err.ensures.befores_kept ∙ h.befores;
   values = c.in-Err.ensures.values_kept ∙ h.values;
 }

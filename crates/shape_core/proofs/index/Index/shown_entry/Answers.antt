@@ -8,7 +8,8 @@ pub returns-in-Val : goal.returns-in-Val
 returns-in-Val c list h k =
     let here = k ∙ ap Some c.in-Val.is in
     c.is_spot.ensures
-    ∙ ap (position_is c.args.at) (ap position_of (c.get.ensures ∙ ap (at c.args.self.now.tables.vals) c.as_bytes.ensures ∙ h.tables.vals c.in-Val.x) ∙ val_at list c.in-Val.x)
+    ∙ ap (position_is c.args.at)
+    (ap position_of (c.get.ensures ∙ ap (at c.args.self.now.tables.vals) c.as_bytes.ensures ∙ h.tables.vals c.in-Val.x) ∙ val_at list c.in-Val.x)
     ∙ shown_val list c.args.at c.in-Val.x _ here
     ∙ sym (shown_is c.args.at list _ here)
 

@@ -22,19 +22,26 @@ restore-requires-in-Mty c =
 
 pub returns-in-Val : goal.returns-in-Val
 returns-in-Val c list t k =
-    untells_val c.args.self.now.vals c.restore.new.self _ _ _ list c.in-Val.x c.in-Val.field-1 c.args.before.spot (ap (λ b. b.spot) (k ∙ ap (before_of list) c.in-Val.is))
-    (by_name c.args.self.now.vals c.restore.new.self _ c.in-Val.x c.args.before.spot c.as_bytes.ensures c.restore.ensures) (at_entry _ list c.args.entry.now _ c.in-Val.is t)
+    untells_val c.args.self.now.vals c.restore.new.self _ _ _ list c.in-Val.x c.in-Val.field-1 c.args.before.spot
+    (ap (λ b. b.spot) (k ∙ ap (before_of list) c.in-Val.is))
+    (by_name c.args.self.now.vals c.restore.new.self _ c.in-Val.x c.args.before.spot c.as_bytes.ensures c.restore.ensures)
+    (at_entry _ list c.args.entry.now _ c.in-Val.is t)
 
 pub returns-in-Mod : goal.returns-in-Mod
 returns-in-Mod c list t k =
-    untells_mod _ c.args.self.now.mods c.restore-in-Mod.new.self _ _ list c.in-Mod.x c.in-Mod.field-1 c.args.before.position (ap (λ b. b.position) (k ∙ ap (before_of list) c.in-Mod.is))
-    (by_name c.args.self.now.mods c.restore-in-Mod.new.self _ c.in-Mod.x c.args.before.position c.as_bytes-in-Mod.ensures c.restore-in-Mod.ensures) (at_entry _ list c.args.entry.now _ c.in-Mod.is t)
+    untells_mod _ c.args.self.now.mods c.restore-in-Mod.new.self _ _ list c.in-Mod.x c.in-Mod.field-1 c.args.before.position
+    (ap (λ b. b.position) (k ∙ ap (before_of list) c.in-Mod.is))
+    (by_name c.args.self.now.mods c.restore-in-Mod.new.self _ c.in-Mod.x c.args.before.position c.as_bytes-in-Mod.ensures c.restore-in-Mod.ensures)
+    (at_entry _ list c.args.entry.now _ c.in-Mod.is t)
 
 pub returns-in-Mty : goal.returns-in-Mty
 returns-in-Mty c list t k =
-    untells_mty _ _ c.args.self.now.mtys c.restore-in-Mty.new.self _ list c.in-Mty.x c.in-Mty.field-1 c.args.before.position (ap (λ b. b.position) (k ∙ ap (before_of list) c.in-Mty.is))
-    (by_name c.args.self.now.mtys c.restore-in-Mty.new.self _ c.in-Mty.x c.args.before.position c.as_bytes-in-Mty.ensures c.restore-in-Mty.ensures) (at_entry _ list c.args.entry.now _ c.in-Mty.is t)
+    untells_mty _ _ c.args.self.now.mtys c.restore-in-Mty.new.self _ list c.in-Mty.x c.in-Mty.field-1 c.args.before.position
+    (ap (λ b. b.position) (k ∙ ap (before_of list) c.in-Mty.is))
+    (by_name c.args.self.now.mtys c.restore-in-Mty.new.self _ c.in-Mty.x c.args.before.position c.as_bytes-in-Mty.ensures c.restore-in-Mty.ensures)
+    (at_entry _ list c.args.entry.now _ c.in-Mty.is t)
 
 pub returns-in-Dark : goal.returns-in-Dark
 returns-in-Dark c list t k =
-    untells_dark _ _ _ c.args.self.now.darks c.pop.new.self list c.in-Dark.field-0 (λ h. c.pop.ensures.rest ∙ front_of c.args.self.now.darks _ c.in-Dark.field-0 h) (at_entry _ list c.args.entry.now _ c.in-Dark.is t)
+    untells_dark _ _ _ c.args.self.now.darks c.pop.new.self list c.in-Dark.field-0
+    (λ h. c.pop.ensures.rest ∙ front_of c.args.self.now.darks _ c.in-Dark.field-0 h) (at_entry _ list c.args.entry.now _ c.in-Dark.is t)

@@ -7,4 +7,5 @@ use Rattle.shape_core.proofs.names.Names.put.Goals as goal
 pub returns-clause-put : goal.returns-clause-put
 returns-clause-put g c =
     let h = updated c.args.self.now.map c.insert.new.self c.in_ok-key.key.items (Some c.args.value) c.in_ok-insert.ensures.updates in
-    subst (λ (z : List ℕ). (x : List ℕ) → at (record { map = c.insert.new.self }) x ≡ (if bytes_eq z x then Some c.args.value else at c.args.self.now x)) c.in_ok-key.ensures.items h
+    subst (λ (z : List ℕ). (x : List ℕ)
+    → at (record { map = c.insert.new.self }) x ≡ (if bytes_eq z x then Some c.args.value else at c.args.self.now x)) c.in_ok-key.ensures.items h

@@ -7,9 +7,13 @@ use Rattle.shape_core.proofs.names.Names.restore.Goals as goal
 pub returns-in-None : goal.returns-in-None
 returns-in-None g c =
     let h = updated c.args.self.now.map c.swap_remove.new.self c.args.name.now _ c.swap_remove.ensures.updates in
-    subst (λ (o : Option g.row.V.Denot). (x : List ℕ) → at (record { map = c.swap_remove.new.self }) x ≡ (if bytes_eq c.args.name.now x then o else at c.args.self.now x)) (sym c.in-None.is) h
+    subst (λ (o : Option g.row.V.Denot). (x : List ℕ)
+    → at (record { map = c.swap_remove.new.self }) x ≡ (if bytes_eq c.args.name.now x then o else at c.args.self.now x)) (sym c.in-None.is) h
 
 pub returns-in-Some-get_mut : goal.returns-in-Some-get_mut
 returns-in-Some-get_mut g c =
-    let h = updated c.args.self.now.map (c.get_mut.follows.lender c.in-Some.value) c.args.name.now (Some c.in-Some.value) ((c.get_mut.follows.holds c.in-Some.value).3 c.requires) in
-    subst (λ (o : Option g.row.V.Denot). (x : List ℕ) → at (record { map = c.get_mut.follows.lender c.in-Some.value }) x ≡ (if bytes_eq c.args.name.now x then o else at c.args.self.now x)) (sym c.in-Some.is) h
+    let h = updated c.args.self.now.map (c.get_mut.follows.lender c.in-Some.value) c.args.name.now (Some c.in-Some.value)
+    ((c.get_mut.follows.holds c.in-Some.value).3 c.requires) in
+    subst (λ (o : Option g.row.V.Denot). (x : List ℕ)
+    → at (record { map = c.get_mut.follows.lender c.in-Some.value }) x ≡ (if bytes_eq c.args.name.now x then o else at c.args.self.now x))
+    (sym c.in-Some.is) h

@@ -32,4 +32,5 @@ pub returns : goal.returns
 returns c =
     let slots = c.args.self.now.slots.items in
     let all = take_all c.loop-slot.slot-index slots (omega (arith, ap length c.deref-slot-items.ensures.value)) in
-    subst (λ names. IsPermutation (keys (from_entries {R = slice_cmp nat_cmp} (files_in slots))) names) (sym (c.loop-slot.invariant ∙ ap names_in all)) (keys_listed slots c.args.self.now.distinct)
+    subst (λ names. IsPermutation (keys (from_entries {R = slice_cmp nat_cmp} (files_in slots))) names)
+    (sym (c.loop-slot.invariant ∙ ap names_in all)) (keys_listed slots c.args.self.now.distinct)

@@ -4,16 +4,24 @@ use Rattle.tree_io.proofs.Slots.{spot_of, has_spot, spot_within, spot_name, room
 use Rattle.tree_io.proofs.store.Store.put.Goals as goal
 
 pub unwrap-at-requires : goal.unwrap-at-requires
-unwrap-at-requires c = has_spot c.args.name.now c.args.self.now.slots.items c.deref.result.now c.position.result c.deref.ensures.value c.position.ensures c.requires.placed
+unwrap-at-requires c = has_spot c.args.name.now c.args.self.now.slots.items c.deref.result.now c.position.result c.deref.ensures.value
+    c.position.ensures c.requires.placed
 
 pub index_mut-requires : goal.index_mut-requires
 index_mut-requires c =
-    let spot = spot_of c.args.name.now c.args.self.now.slots.items c.deref.result.now c.position.result c.unwrap-at.result c.deref.ensures.value c.position.ensures c.unwrap-at.ensures in
-    omega (arith, spot_within c.args.name.now c.args.self.now.slots.items c.unwrap-at.result spot, c.deref.ensures.len, ap length c.deref.ensures.value)
+    let spot = spot_of c.args.name.now c.args.self.now.slots.items c.deref.result.now c.position.result c.unwrap-at.result c.deref.ensures.value
+    c.position.ensures c.unwrap-at.ensures in
+    omega (
+      arith,
+      spot_within c.args.name.now c.args.self.now.slots.items c.unwrap-at.result spot,
+      c.deref.ensures.len,
+      ap length c.deref.ensures.value,
+    )
 
 pub fill-requires : goal.fill-requires
 fill-requires c =
-    let spot = spot_of c.args.name.now c.args.self.now.slots.items c.deref.result.now c.position.result c.unwrap-at.result c.deref.ensures.value c.position.ensures c.unwrap-at.ensures in
+    let spot = spot_of c.args.name.now c.args.self.now.slots.items c.deref.result.now c.position.result c.unwrap-at.result c.deref.ensures.value
+    c.position.ensures c.unwrap-at.ensures in
     let room = room_at c.args.name.now c.args.self.now.slots.items c.unwrap-at.result c.index_mut.result.now spot in
     let same = ap (λ slot. vec_capacity slot.bytes) c.index_mut.ensures.value in
     omega (arith, c.requires.fits, room, same)
@@ -21,13 +29,18 @@ fill-requires c =
 pub invariant_of-self : goal.invariant_of-self
 invariant_of-self c =
     let name = c.fill.ensures.name ∙ ap (λ slot. slot.name) c.index_mut.ensures.value in
-    record { distinct = ap are_distinct (names_kept c.args.self.now.slots.items c.unwrap-at.result c.fill.new.self c.index_mut.result.now name) ∙ c.args.self.now.distinct }
+    record {
+      distinct = ap are_distinct (names_kept c.args.self.now.slots.items c.unwrap-at.result c.fill.new.self c.index_mut.result.now name)
+          ∙ c.args.self.now.distinct;
+    }
 
 pub returns-clause-content : goal.returns-clause-content
 returns-clause-content c =
-    let spot = spot_of c.args.name.now c.args.self.now.slots.items c.deref.result.now c.position.result c.unwrap-at.result c.deref.ensures.value c.position.ensures c.unwrap-at.ensures in
+    let spot = spot_of c.args.name.now c.args.self.now.slots.items c.deref.result.now c.position.result c.unwrap-at.result c.deref.ensures.value
+    c.position.ensures c.unwrap-at.ensures in
     let items = c.args.self.now.slots.items in
-    let name = c.fill.ensures.name ∙ ap (λ slot. slot.name) c.index_mut.ensures.value ∙ spot_name c.args.name.now items c.unwrap-at.result c.index_mut.result.now spot in
+    let name = c.fill.ensures.name ∙ ap (λ slot. slot.name) c.index_mut.ensures.value
+    ∙ spot_name c.args.name.now items c.unwrap-at.result c.index_mut.result.now spot in
     files_filled c.args.name.now c.args.bytes.now items c.unwrap-at.result c.fill.new.self spot name c.fill.ensures.there c.fill.ensures.bytes
 
 pub returns-clause-room : goal.returns-clause-room

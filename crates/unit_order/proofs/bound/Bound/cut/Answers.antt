@@ -10,5 +10,6 @@ loop-self-preserved-in-Some c =
     let split = c.in-Some.ensures.items in
     let enough : len ≤ length front = omega (arith, c.in-Some.ensures.cases, c.loop-self-test.true, c.len.ensures) in
     let kept = sym (take-append-le len front (c.in-Some.name ∷ []) enough) ∙ ap (take len) (sym split) ∙ c.loop-self.invariant.0 in
-    let counts = subst (AreCounts c.loop-self.self-inside.counts) (split ∙ ap (λ x. front ++ x ∷ []) (sym c.as_bytes.ensures)) c.loop-self.invariant.1 in
+    let counts = subst (AreCounts c.loop-self.self-inside.counts) (split ∙ ap (λ x. front ++ x ∷ []) (sym c.as_bytes.ensures))
+    c.loop-self.invariant.1 in
     (kept, c.take_out.ensures front counts)
