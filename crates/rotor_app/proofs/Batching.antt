@@ -1,5 +1,6 @@
 -- The reply to a batch.
-use Rattle.std.proofs.Common.{◌≡◌, ℕ, ◌<◌, ◌≤◌, ◌||◌, List, [], Bool, true, false, cond, Option, Some, None, option_map, Result, Ok, Err, IfOk, ◌∷◌, ◌⊎◌, inl, inr, IfSome, take, length, length-take, codes, bytes_eq, refl, sym, ap, subst, ◌∙◌, arith}
+use Rattle.std.proofs.Common.{◌≡◌, ℕ, ◌<◌, ◌≤◌, ◌||◌, List, [], Bool, true, false, cond, Option, Some, None, option_map, Result, Ok, Err, IfOk, ◌∷◌}
+use Rattle.std.proofs.Common.{◌⊎◌, inl, inr, IfSome, take, length, length-take, codes, bytes_eq, refl, sym, ap, subst, ◌∙◌, arith}
 use Rattle.std.specs.FinMap.{get}
 use Rattle.std.proofs.lemmas.List.{take_all}
 use Rattle.rotor_base.specs.Files.{FileSet, names_of}
@@ -24,7 +25,8 @@ use Rattle.rename_batch.specs.Reading.{AreSteps, IsBatch, IsUnread}
 use Rattle.rotor_app.specs.declared.status.Status.TheVariants.{Done, Usage}
 use Rattle.rotor_app.specs.declared.reply.Reply.{Reply}
 use Rattle.rotor_app.specs.Words.{batch_file}
-use Rattle.rotor_app.specs.Said.{bad_batch, stopped_batch, batched_reply, reply_by, batch_in, IsReply, SaysSteps, stopped, batched, SaysBatch, lacks, large, unread, runs, Permits, SaysTo, batches}
+use Rattle.rotor_app.specs.Said.{bad_batch, stopped_batch, batched_reply, reply_by, batch_in, IsReply, SaysSteps, stopped, batched, SaysBatch, lacks}
+use Rattle.rotor_app.specs.Said.{large, unread, runs, Permits, SaysTo, batches}
 use Rattle.rotor_app.proofs.Saying.{refusal_kind, no_usage_refusal}
 
 -- ---- the bytes that are read
@@ -41,17 +43,23 @@ no_batch (Some held) file holds limit e t = ap (λ (b : Bool). option_map (take 
 held_batch : (held : FileMap) (file : List ℕ) (holds : Bool) → holds ≡ refuses file → holds ≡ false → get held file ≡ batch_in held file
 held_batch held file holds e t = ap (λ (b : Bool). cond b None (get held file)) (sym (sym e ∙ t))
 
-pub batch_read : (content : Option FileMap) (file : List ℕ) (holds : Bool) (limit : ℕ) (found : Option (List ℕ)) → holds ≡ refuses file → holds ≡ false
-    → IfSome content (λ held. found ≡ option_map (take limit) (get held file)) → IfSome content (λ held. found ≡ option_map (take limit) (batch_in held file))
+pub batch_read : (content : Option FileMap) (file : List ℕ) (holds : Bool) (limit : ℕ) (found : Option (List ℕ)) → holds ≡ refuses file
+    → holds ≡ false
+    → IfSome content (λ held. found ≡ option_map (take limit) (get held file))
+    → IfSome content (λ held. found ≡ option_map (take limit) (batch_in held file))
 batch_read None file holds limit found e t h = tt
 batch_read (Some held) file holds limit found e t h = h ∙ ap (option_map (take limit)) (held_batch held file holds e t)
 
-pub front_read : (content now : Option FileMap) (file bytes : List ℕ) (holds : Bool) → now ≡ content → holds ≡ refuses file → holds ≡ false → IfSome now (λ held. IsFront 1048577 (get held file) bytes)
+pub front_read : (content now : Option FileMap) (file bytes : List ℕ) (holds : Bool) → now ≡ content → holds ≡ refuses file → holds ≡ false
+    → IfSome now (λ held. IsFront 1048577 (get held file) bytes)
     → IfSome content (λ held. Some bytes ≡ option_map (take 1048577) (batch_in held file))
-front_read content now file bytes holds same e t h = batch_read content file holds 1048577 (Some bytes) e t (turned content (subst (λ (o : Option FileMap). IfSome o (λ held. IsFront 1048577 (get held file) bytes)) same h)) where
-  turned : (content : Option FileMap) → IfSome content (λ held. IsFront 1048577 (get held file) bytes) → IfSome content (λ held. Some bytes ≡ option_map (take 1048577) (get held file))
-  turned None h = tt
-  turned (Some held) h = sym h
+front_read content now file bytes holds same e t h =
+    batch_read content file holds 1048577 (Some bytes) e t
+    (turned content (subst (λ (o : Option FileMap). IfSome o (λ held. IsFront 1048577 (get held file) bytes)) same h)) where
+      turned : (content : Option FileMap) → IfSome content (λ held. IsFront 1048577 (get held file) bytes)
+          → IfSome content (λ held. Some bytes ≡ option_map (take 1048577) (get held file))
+      turned None h = tt
+      turned (Some held) h = sym h
 
 -- ---- what is said
 
@@ -63,7 +71,8 @@ module _ (c : Command) (file : List ℕ) (files : FileSet) (reply : Reply) where
       e ∙ take_all 1048577 whole short
 
   -- all bytes of a file decide what its first bytes decide
-  widened : (whole bytes : List ℕ) → bytes ≡ take 1048577 whole → SaysBatch c file (Some bytes) files reply → SaysBatch c file (Some whole) files reply
+  widened : (whole bytes : List ℕ) → bytes ≡ take 1048577 whole → SaysBatch c file (Some bytes) files reply
+      → SaysBatch c file (Some whole) files reply
   widened whole bytes e (lacks f r) = cc
   widened whole bytes e (large b f l r) = large whole refl (longer b f l) r where
     longer : (b : List ℕ) → Some bytes ≡ Some b → 1048576 < length b → 1048576 < length whole
@@ -73,10 +82,13 @@ module _ (c : Command) (file : List ℕ) (files : FileSet) (reply : Reply) where
       where
         by : (b : List ℕ) → Some bytes ≡ Some b → b ≡ bytes
         by b f = cc
-  widened whole bytes e (unread b n f l bad r) = subst (λ (v : List ℕ). SaysBatch c file (Some v) files reply) (all_of whole bytes b e f l) (unread b n f l bad r)
-  widened whole bytes e (runs b steps f l is s) = subst (λ (v : List ℕ). SaysBatch c file (Some v) files reply) (all_of whole bytes b e f l) (runs b steps f l is s)
+  widened whole bytes e (unread b n f l bad r) = subst (λ (v : List ℕ). SaysBatch c file (Some v) files reply) (all_of whole bytes b e f l)
+      (unread b n f l bad r)
+  widened whole bytes e (runs b steps f l is s) = subst (λ (v : List ℕ). SaysBatch c file (Some v) files reply) (all_of whole bytes b e f l)
+      (runs b steps f l is s)
 
-  pub said_lacking : (content : Option FileMap) (found : Option (List ℕ)) → found ≡ None → IfSome content (λ held. found ≡ option_map (take 1048577) (batch_in held file)) → reply ≡ bad_batch 0
+  pub said_lacking : (content : Option FileMap) (found : Option (List ℕ)) → found ≡ None
+      → IfSome content (λ held. found ≡ option_map (take 1048577) (batch_in held file)) → reply ≡ bad_batch 0
       → IfSome content (λ held. SaysBatch c file (batch_in held file) files reply)
   said_lacking None found n h r = tt
   said_lacking (Some held) found n h r = by (batch_in held file) (sym n ∙ h) where
@@ -84,7 +96,8 @@ module _ (c : Command) (file : List ℕ) (files : FileSet) (reply : Reply) where
     by None e = lacks refl r
     by (Some whole) e = cc
 
-  pub said_found : (content : Option FileMap) (found : Option (List ℕ)) (bytes : List ℕ) → found ≡ Some bytes → IfSome content (λ held. found ≡ option_map (take 1048577) (batch_in held file))
+  pub said_found : (content : Option FileMap) (found : Option (List ℕ)) (bytes : List ℕ) → found ≡ Some bytes
+      → IfSome content (λ held. found ≡ option_map (take 1048577) (batch_in held file))
       → SaysBatch c file (Some bytes) files reply → IfSome content (λ held. SaysBatch c file (batch_in held file) files reply)
   said_found None found bytes n h s = tt
   said_found (Some held) found bytes n h s = by (batch_in held file) (sym n ∙ h) where
@@ -95,16 +108,20 @@ module _ (c : Command) (file : List ℕ) (files : FileSet) (reply : Reply) where
       one e = cc
 
 -- a batch over the files that the folder loads as
-pub said_batch : (c : Command) (file : List ℕ) (files : FileSet) (content now : Option FileMap) (may : Bool) (result : Result Reply TreeError) → now ≡ content → may ≡ true → batch_file c ≡ Some file
+pub said_batch : (c : Command) (file : List ℕ) (files : FileSet) (content now : Option FileMap) (may : Bool) (result : Result Reply TreeError)
+    → now ≡ content → may ≡ true → batch_file c ≡ Some file
     → IfSome content (λ held. loaded held ≡ Ok files) → IfSome content (λ held. Permits c held may)
-    → IfOk result (λ reply. IfSome now (λ held. SaysBatch c file (batch_in held file) files reply)) → IfOk result (λ reply. IfSome content (λ held. SaysTo c held reply))
+    → IfOk result (λ reply. IfSome now (λ held. SaysBatch c file (batch_in held file) files reply))
+    → IfOk result (λ reply. IfSome content (λ held. SaysTo c held reply))
 said_batch c file files content now may (Err e) same t b l p s = tt
-said_batch c file files content now may (Ok reply) same t b l p s = by content may t l p (subst (λ (o : Option FileMap). IfSome o (λ held. SaysBatch c file (batch_in held file) files reply)) same s) where
-  by : (content : Option FileMap) (may : Bool) → may ≡ true → IfSome content (λ held. loaded held ≡ Ok files) → IfSome content (λ held. Permits c held may)
-      → IfSome content (λ held. SaysBatch c file (batch_in held file) files reply) → IfSome content (λ held. SaysTo c held reply)
-  by None may t l p s = tt
-  by (Some held) true t l p s = batches file files b l p s
-  by (Some held) false t l p s = cc
+said_batch c file files content now may (Ok reply) same t b l p s =
+    by content may t l p (subst (λ (o : Option FileMap). IfSome o (λ held. SaysBatch c file (batch_in held file) files reply)) same s) where
+      by : (content : Option FileMap) (may : Bool) → may ≡ true → IfSome content (λ held. loaded held ≡ Ok files)
+          → IfSome content (λ held. Permits c held may)
+          → IfSome content (λ held. SaysBatch c file (batch_in held file) files reply) → IfSome content (λ held. SaysTo c held reply)
+      by None may t l p s = tt
+      by (Some held) true t l p s = batches file files b l p s
+      by (Some held) false t l p s = cc
 
 -- ---- the replies to the steps
 
@@ -117,13 +134,16 @@ steps_count (l ∷ lines) (step ∷ steps) h = omega (arith, steps_count lines s
 pub few_steps : (lines : List (List ℕ)) (steps these : List Step) → IsBatch lines steps → these ≡ steps → length these < 4294967296
 few_steps lines steps these is e = omega (arith, ap (λ (l : List Step). length l) e, steps_count lines steps is.each, is.few)
 
-pub said_done : (c : Command) (files : FileSet) (steps : List Step) (names : List (List ℕ)) (done : Batched) (result : Result Reply Memory) → names ≡ names_of files.entries → Batches files steps (Ok done)
+pub said_done : (c : Command) (files : FileSet) (steps : List Step) (names : List (List ℕ)) (done : Batched) (result : Result Reply Memory)
+    → names ≡ names_of files.entries → Batches files steps (Ok done)
     → IfOk result (λ reply. reply ≡ batched_reply c names done) → IfOk result (SaysSteps c files steps)
 said_done c files steps names done (Err m) n a h = tt
 said_done c files steps names done (Ok reply) n a h = batched done a (h ∙ ap (λ (ns : List (List ℕ)). batched_reply c ns done) n)
 
-pub said_stop : (c : Command) (files : FileSet) (steps : List Step) (names : List (List ℕ)) (step : ℕ) (why : Refusal) (error : BatchError) (result : Result Reply Memory) → names ≡ names_of files.entries
-    → error ≡ At step why → IsFailedFor (λ e. Batches files steps (Err e)) error → IfOk result (λ reply. reply ≡ stopped_batch names step why) → IfOk result (SaysSteps c files steps)
+pub said_stop : (c : Command) (files : FileSet) (steps : List Step) (names : List (List ℕ)) (step : ℕ) (why : Refusal) (error : BatchError)
+    (result : Result Reply Memory) → names ≡ names_of files.entries
+    → error ≡ At step why → IsFailedFor (λ e. Batches files steps (Err e)) error → IfOk result (λ reply. reply ≡ stopped_batch names step why)
+    → IfOk result (SaysSteps c files steps)
 said_stop c files steps names step why error (Err m) n e a h = tt
 said_stop c files steps names step why error (Ok reply) n e a h = by (subst (IsFailedFor (λ f. Batches files steps (Err f))) e a) where
   by : Batches files steps (Err (At step why)) ⊎ (At step why ≡ NoMemory) → SaysSteps c files steps reply
@@ -135,12 +155,14 @@ pub said_large : (c : Command) (file name bytes : List ℕ) (files : FileSet) (r
 said_large c file name bytes files (Err m) l n h = tt
 said_large c file name bytes files (Ok reply) l n h = large bytes refl l (h ∙ ap (λ (w : List ℕ). reply_by c [] (outcome.NotLoaded (TooLarge w))) n)
 
-pub said_runs : (c : Command) (file bytes : List ℕ) (files : FileSet) (steps these : List Step) (result : Result Reply Memory) → length bytes ≤ 1048576 → IsBatch (feed_lines bytes) steps → these ≡ steps
+pub said_runs : (c : Command) (file bytes : List ℕ) (files : FileSet) (steps these : List Step) (result : Result Reply Memory)
+    → length bytes ≤ 1048576 → IsBatch (feed_lines bytes) steps → these ≡ steps
     → IfOk result (SaysSteps c files these) → IfOk result (SaysBatch c file (Some bytes) files)
 said_runs c file bytes files steps these (Err m) l is e h = tt
 said_runs c file bytes files steps these (Ok reply) l is e h = runs bytes steps refl l is (subst (λ (ss : List Step). SaysSteps c files ss reply) e h)
 
-pub said_unread : (c : Command) (file bytes : List ℕ) (files : FileSet) (number : ℕ) (error : BatchReadError) (result : Result Reply Memory) → length bytes ≤ 1048576 → error ≡ Line number
+pub said_unread : (c : Command) (file bytes : List ℕ) (files : FileSet) (number : ℕ) (error : BatchReadError) (result : Result Reply Memory)
+    → length bytes ≤ 1048576 → error ≡ Line number
     → IsUnread (feed_lines bytes) error → IfOk result (λ reply. reply ≡ bad_batch number) → IfOk result (SaysBatch c file (Some bytes) files)
 said_unread c file bytes files number error (Err m) l e bad h = tt
 said_unread c file bytes files number error (Ok reply) l e bad h = unread bytes number refl l (subst (IsUnread (feed_lines bytes)) e bad) h
@@ -154,11 +176,13 @@ steps_usage : (c : Command) (files : FileSet) (steps : List Step) (reply : Reply
 steps_usage c files steps reply (stopped k why a e) u = no_usage_refusal why (sym (ap (λ (r : Reply). r.status) e) ∙ u)
 steps_usage c files steps reply (batched done a e) u = let no : Done ≡ Usage = sym (ap (λ (r : Reply). r.status) e) ∙ u in cc
 
-pub all_kind : (c : Command) (files : FileSet) (steps : List Step) (result : Result Reply Memory) → IfOk result (SaysSteps c files steps) → IfOk result (λ reply. IsReply reply.status reply.writes)
+pub all_kind : (c : Command) (files : FileSet) (steps : List Step) (result : Result Reply Memory) → IfOk result (SaysSteps c files steps)
+    → IfOk result (λ reply. IsReply reply.status reply.writes)
 all_kind c files steps (Err m) h = tt
 all_kind c files steps (Ok reply) h = steps_kind c files steps reply h
 
-pub no_usage : (c : Command) (files : FileSet) (steps : List Step) (result : Result Reply Memory) → IfOk result (SaysSteps c files steps) → IfOk result (λ reply. reply.status ≡ Usage → ⊥)
+pub no_usage : (c : Command) (files : FileSet) (steps : List Step) (result : Result Reply Memory) → IfOk result (SaysSteps c files steps)
+    → IfOk result (λ reply. reply.status ≡ Usage → ⊥)
 no_usage c files steps (Err m) h = tt
 no_usage c files steps (Ok reply) h = steps_usage c files steps reply h
 

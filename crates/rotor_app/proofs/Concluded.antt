@@ -10,7 +10,8 @@ use Rattle.rotor_app.specs.declared.status.Status.TheVariants.{Usage, TreeFault,
 use Rattle.rotor_app.specs.declared.reply.Reply.{Reply}
 use Rattle.rotor_app.specs.Said.{IsReply, Says, SaysAlone, AsksNothing}
 use Rattle.rotor_app.proofs.Saying.{sample_writes}
-use Rattle.rotor_app.specs.Table.{Seen, seen, Ending, unread, wanting, carried, unwritten, unput, Carried, whole, write_failed, put_failed, IsReplyTo, IsComplete}
+use Rattle.rotor_app.specs.Table.{Seen, seen, Ending, unread, wanting, carried, unwritten, unput, Carried, whole, write_failed, put_failed, IsReplyTo}
+use Rattle.rotor_app.specs.Table.{IsComplete}
 
 pub failed_rose : {T : Type 0} (before now : ℕ) (r : Result T TreeError) → HasCause before now r → r ≡ Err variant.Failed → Rose before now
 failed_rose before now r h e = h.failed e
@@ -28,34 +29,43 @@ at_content (Some held) P h files e = subst P (one e) h where
 
 module _ (request : Option Command) (f0 f1 s : ℕ) (c0 c1 : Option FileMap) (t : Option (List ℕ)) (tree_same sink_same : Type 0) where
   -- a read failed
-  pub ends_unread : (AsksNothing request → ⊥) → f0 ≤ f1 → Rose f0 f1 → c1 ≡ c0 → sink_same → Ending request (seen f0 s c0 t) (seen f1 s c1 t) tree_same sink_same TreeFault
+  pub ends_unread : (AsksNothing request → ⊥) → f0 ≤ f1 → Rose f0 f1 → c1 ≡ c0 → sink_same
+      → Ending request (seen f0 s c0 t) (seen f1 s c1 t) tree_same sink_same TreeFault
   ends_unread asks later rose content same = unread asks refl later rose content same (record { faults = refl; taken = refl })
 
   -- there was no memory
-  pub ends_wanting : (AsksNothing request → tree_same) → f1 ≡ f0 → c1 ≡ c0 → sink_same → Ending request (seen f0 s c0 t) (seen f1 s c1 t) tree_same sink_same Memory
-  ends_wanting alone faults content same = wanting alone refl (record { faults = faults; content = content }) same (record { faults = refl; taken = refl })
+  pub ends_wanting : (AsksNothing request → tree_same) → f1 ≡ f0 → c1 ≡ c0 → sink_same
+      → Ending request (seen f0 s c0 t) (seen f1 s c1 t) tree_same sink_same Memory
+  ends_wanting alone faults content same = wanting alone refl (record { faults = faults; content = content }) same
+      (record { faults = refl; taken = refl })
 
   -- the reply was carried out, or a write failed, or the put
-  pub ends_carried : (now : Seen) (reply : Reply) (status : Status) → (AsksNothing request → tree_same) → IsReply reply.status reply.writes → IfSome c0 (λ files. Says request files reply)
+  pub ends_carried : (now : Seen) (reply : Reply) (status : Status) → (AsksNothing request → tree_same) → IsReply reply.status reply.writes
+      → IfSome c0 (λ files. Says request files reply)
       → (AsksNothing request → SaysAlone request reply) → (reply.status ≡ Usage → request ≡ None) → f1 ≡ f0 → c1 ≡ c0
       → Carried reply (seen f1 s c1 t) now sink_same status → Ending request (seen f0 s c0 t) now tree_same sink_same status
   ends_carried now reply status alone kind said by_itself usage ef ec h =
       let same : seen f1 s c1 t ≡ seen f0 s c0 t = ap (λ (f : ℕ). seen f s c1 t) ef ∙ ap (λ (c : Option FileMap). seen f0 s c t) ec in
-      let to : IsReplyTo request (seen f0 s c0 t) reply = record { kind = kind; said = at_content c0 (λ files. Says request files reply) said; alone = by_itself; usage = usage } in
+      let to : IsReplyTo request (seen f0 s c0 t) reply =
+      record { kind = kind; said = at_content c0 (λ files. Says request files reply) said; alone = by_itself; usage = usage } in
       carried_by to (subst (λ (m : Seen). Carried reply m now sink_same status) same h)
     where
-      carried_by : IsReplyTo request (seen f0 s c0 t) reply → Carried reply (seen f0 s c0 t) now sink_same status → Ending request (seen f0 s c0 t) now tree_same sink_same status
+      carried_by : IsReplyTo request (seen f0 s c0 t) reply → Carried reply (seen f0 s c0 t) now sink_same status
+          → Ending request (seen f0 s c0 t) now tree_same sink_same status
       carried_by to (whole s f w p) = carried alone reply to s f w p
       carried_by to (write_failed s l f w p q) = unwritten reply to s l f w p q
       carried_by to (put_failed s f w p) = unput alone reply to s f w p
 
--- over a folder that does not fail, there was no memory, or the reply is said, and where the output takes it the status is its
-pub completes_wanting : (request : Option Command) (content : Option FileMap) (accepts : ℕ → Type 0) → (files : FileMap) → content ≡ Some files → IsComplete request files accepts Memory
+-- over a folder that does not fail, there was no memory, or the reply is said, and if the output takes it the status is its
+pub completes_wanting : (request : Option Command) (content : Option FileMap) (accepts : ℕ → Type 0) → (files : FileMap) → content ≡ Some files
+    → IsComplete request files accepts Memory
 completes_wanting request content accepts files e = inl refl
 
-pub completes_carried : (request : Option Command) (content : Option FileMap) (accepts : ℕ → Type 0) (reply : Reply) (status : Status) → IfSome content (λ files. Says request files reply)
+pub completes_carried : (request : Option Command) (content : Option FileMap) (accepts : ℕ → Type 0) (reply : Reply) (status : Status)
+    → IfSome content (λ files. Says request files reply)
     → (accepts (length reply.text) → status ≡ reply.status) → (files : FileMap) → content ≡ Some files → IsComplete request files accepts status
-completes_carried request content accepts reply status said h files e = inr (reply, at_content content (λ files. Says request files reply) said files e, h)
+completes_carried request content accepts reply status said h files e =
+    inr (reply, at_content content (λ files. Says request files reply) said files e, h)
 
 -- a reply without a folder writes nothing
 pub alone_writes : (request : Option Command) (reply : Reply) → SaysAlone request reply → reply.writes ≡ []

@@ -8,20 +8,24 @@ use Rattle.rotor_app.specs.declared.status.Status.TheVariants.{Done, Refused, Us
 use Rattle.rotor_app.specs.declared.reply.Reply.{Reply}
 use Rattle.rotor_app.specs.Said.{IsReply, SaysAlone, AsksNothing, SomeReply}
 use Rattle.project_load.specs.Rewritten.{after}
-use Rattle.rotor_app.specs.Table.{Seen, Ending, unread, wanting, carried, unwritten, unput, IsQuiet, IsAsSaid, IsFault, TreeStopped, SinkStopped, IsRefusal, AnsweredAlone, CutAlone}
+use Rattle.rotor_app.specs.Table.{Seen, Ending, unread, wanting, carried, unwritten, unput, IsQuiet, IsAsSaid, IsFault, TreeStopped, SinkStopped}
+use Rattle.rotor_app.specs.Table.{IsRefusal, AnsweredAlone, CutAlone}
 use Rattle.tree_writes.specs.Writes.{Written, StoppedWriting}
 
 module _ (request : Option Command) (before now : Seen) (tree_same sink_same : Type 0) (status : Status) where
-  written_said : (writes : List SourceFile) (files : FileMap) → Written writes before.content now.content → before.content ≡ Some files → now.content ≡ Some (after writes files)
+  written_said : (writes : List SourceFile) (files : FileMap) → Written writes before.content now.content → before.content ≡ Some files
+      → now.content ≡ Some (after writes files)
   written_said writes files w e = w ∙ ap (option_map (after writes)) e
 
   -- the status, the files and the text are those of the reply that was carried out
-  as_said : (reply : Reply) (files : FileMap) → status ≡ reply.status → Written reply.writes before.content now.content → Takes reply.text before.taken now.taken → before.content ≡ Some files
+  as_said : (reply : Reply) (files : FileMap) → status ≡ reply.status → Written reply.writes before.content now.content
+      → Takes reply.text before.taken now.taken → before.content ≡ Some files
       → IsAsSaid reply files before now status
   as_said reply files s w t e = record { status = s; files = written_said reply.writes files w e; text = t }
 
-  -- what is said, where nothing rose and memory was there
-  pub answers : Ending request before now tree_same sink_same status → (files : FileMap) → before.content ≡ Some files → IsQuiet before now → (status ≡ Memory → ⊥)
+  -- what is said, if nothing rose and memory was there
+  pub answers : Ending request before now tree_same sink_same status → (files : FileMap) → before.content ≡ Some files → IsQuiet before now
+      → (status ≡ Memory → ⊥)
       → SomeReply request files (λ reply. IsAsSaid reply files before now status)
   answers (unread asks s later rose content same rests) files e quiet memory = absurd (quiet.tree rose)
   answers (wanting alone s rests same sink) files e quiet memory = absurd (memory s)
@@ -59,21 +63,25 @@ module _ (request : Option Command) (before now : Seen) (tree_same sink_same : T
   done_by SinkFault writes done rest f kind e = absurd kind
   done_by Memory writes done rest f kind e = absurd kind
 
-  -- where the words ask nothing of the folder, it is as it was; a write fails only where they ask for something
-  pub alone_same : (writes_none : (reply : Reply) → SaysAlone request reply → reply.writes ≡ []) → Ending request before now tree_same sink_same status → AsksNothing request → tree_same
+  -- if the words need nothing of the folder, it is as it was; a write fails only if they need something
+  pub alone_same : (writes_none : (reply : Reply) → SaysAlone request reply → reply.writes ≡ [])
+      → Ending request before now tree_same sink_same status → AsksNothing request → tree_same
   alone_same quiet (unread asks s later rose content same rests) a = absurd (asks a)
   alone_same quiet (wanting alone s rests same sink) a = alone a
   alone_same quiet (carried alone reply to s f w took) a = alone a
-  alone_same quiet (unwritten reply to s later rose stopped same rests) a = absurd (nothing_stops reply.writes stopped.0 stopped.2 stopped.1 (quiet reply (to.alone a)) stopped.4)
+  alone_same quiet (unwritten reply to s later rose stopped same rests) a =
+      absurd (nothing_stops reply.writes stopped.0 stopped.2 stopped.1 (quiet reply (to.alone a)) stopped.4)
   alone_same quiet (unput alone reply to s f w failed) a = alone a
 
   -- and the words alone decide the reply
-  pub alone_said : (writes_none : (reply : Reply) → SaysAlone request reply → reply.writes ≡ []) → Ending request before now tree_same sink_same status → AsksNothing request
+  pub alone_said : (writes_none : (reply : Reply) → SaysAlone request reply → reply.writes ≡ [])
+      → Ending request before now tree_same sink_same status → AsksNothing request
       → (Rose before.sink_faults now.sink_faults → ⊥) → (status ≡ Memory → ⊥) → AnsweredAlone request before now status
   alone_said none (unread asks s later rose content same rests) a quiet memory = absurd (asks a)
   alone_said none (wanting alone s rests same sink) a quiet memory = absurd (memory s)
   alone_said none (carried alone reply to s f w took) a quiet memory = (reply, to.alone a, s, took.taken)
-  alone_said none (unwritten reply to s later rose stopped same rests) a quiet memory = absurd (nothing_stops reply.writes stopped.0 stopped.2 stopped.1 (none reply (to.alone a)) stopped.4)
+  alone_said none (unwritten reply to s later rose stopped same rests) a quiet memory =
+      absurd (nothing_stops reply.writes stopped.0 stopped.2 stopped.1 (none reply (to.alone a)) stopped.4)
   alone_said none (unput alone reply to s f w failed) a quiet memory = absurd (quiet failed.rose)
 
   pub alone_cut : Ending request before now tree_same sink_same status → AsksNothing request → status ≡ SinkFault → CutAlone request before now
@@ -89,17 +97,24 @@ module _ (request : Option Command) (before now : Seen) (tree_same sink_same : T
   -- a fault of the folder
   pub tree_fault : Ending request before now tree_same sink_same status → IsFault TreeFault before.faults now.faults status
   tree_fault (unread asks s later rose content same rests) = record { later = later; only = λ e. rose; passed = λ h. s }
-  tree_fault (wanting alone s rests same sink) = record { later = omega (arith, rests.faults); only = λ e. let no : Memory ≡ TreeFault = sym s ∙ e in cc; passed = kept _ _ _ rests.faults }
-  tree_fault (carried alone reply to s f w took) = record { later = omega arith; only = λ e. absurd (no_tree_fault reply to.kind (sym s ∙ e)); passed = kept _ _ _ f }
+  tree_fault (wanting alone s rests same sink) =
+      record { later = omega (arith, rests.faults); only = λ e. let no : Memory ≡ TreeFault = sym s ∙ e in cc; passed = kept _ _ _ rests.faults }
+  tree_fault (carried alone reply to s f w took) =
+      record { later = omega arith; only = λ e. absurd (no_tree_fault reply to.kind (sym s ∙ e)); passed = kept _ _ _ f }
   tree_fault (unwritten reply to s later rose stopped same rests) = record { later = later; only = λ e. rose; passed = λ h. s }
-  tree_fault (unput alone reply to s f w failed) = record { later = omega arith; only = λ e. let no : SinkFault ≡ TreeFault = sym s ∙ e in cc; passed = kept _ _ _ f }
+  tree_fault (unput alone reply to s f w failed) =
+      record { later = omega arith; only = λ e. let no : SinkFault ≡ TreeFault = sym s ∙ e in cc; passed = kept _ _ _ f }
 
   -- a fault of the output
   pub sink_fault : Ending request before now tree_same sink_same status → IsFault SinkFault before.sink_faults now.sink_faults status
-  sink_fault (unread asks s later rose content same rests) = record { later = omega (arith, rests.faults); only = λ e. let no : TreeFault ≡ SinkFault = sym s ∙ e in cc; passed = kept _ _ _ rests.faults }
-  sink_fault (wanting alone s rests same sink) = record { later = omega (arith, sink.faults); only = λ e. let no : Memory ≡ SinkFault = sym s ∙ e in cc; passed = kept _ _ _ sink.faults }
-  sink_fault (carried alone reply to s f w took) = record { later = omega (arith, took.faults); only = λ e. absurd (no_sink_fault reply to.kind (sym s ∙ e)); passed = kept _ _ _ took.faults }
-  sink_fault (unwritten reply to s later rose stopped same rests) = record { later = omega (arith, rests.faults); only = λ e. let no : TreeFault ≡ SinkFault = sym s ∙ e in cc; passed = kept _ _ _ rests.faults }
+  sink_fault (unread asks s later rose content same rests) =
+      record { later = omega (arith, rests.faults); only = λ e. let no : TreeFault ≡ SinkFault = sym s ∙ e in cc; passed = kept _ _ _ rests.faults }
+  sink_fault (wanting alone s rests same sink) =
+      record { later = omega (arith, sink.faults); only = λ e. let no : Memory ≡ SinkFault = sym s ∙ e in cc; passed = kept _ _ _ sink.faults }
+  sink_fault (carried alone reply to s f w took) =
+      record { later = omega (arith, took.faults); only = λ e. absurd (no_sink_fault reply to.kind (sym s ∙ e)); passed = kept _ _ _ took.faults }
+  sink_fault (unwritten reply to s later rose stopped same rests) =
+      record { later = omega (arith, rests.faults); only = λ e. let no : TreeFault ≡ SinkFault = sym s ∙ e in cc; passed = kept _ _ _ rests.faults }
   sink_fault (unput alone reply to s f w failed) = record { later = failed.later; only = λ e. failed.rose; passed = λ h. s }
 
   -- a folder that failed, and want of memory, put nothing
@@ -113,7 +128,8 @@ module _ (request : Option Command) (before now : Seen) (tree_same sink_same : T
   quiet_sink (unput alone reply to s f w failed) (inr e) = let no : SinkFault ≡ Memory = sym s ∙ e in cc
 
   -- what a folder that failed holds
-  pub tree_stopped : Ending request before now tree_same sink_same status → status ≡ TreeFault → (files : FileMap) → before.content ≡ Some files → TreeStopped request files now.content
+  pub tree_stopped : Ending request before now tree_same sink_same status → status ≡ TreeFault → (files : FileMap) → before.content ≡ Some files
+      → TreeStopped request files now.content
   tree_stopped (unread asks s later rose content same rests) e files held = inl (content ∙ held)
   tree_stopped (wanting alone s rests same sink) e files held = let no : Memory ≡ TreeFault = sym s ∙ e in cc
   tree_stopped (carried alone reply to s f w took) e files held = absurd (no_tree_fault reply to.kind (sym s ∙ e))
@@ -123,12 +139,14 @@ module _ (request : Option Command) (before now : Seen) (tree_same sink_same : T
   tree_stopped (unput alone reply to s f w failed) e files held = let no : SinkFault ≡ TreeFault = sym s ∙ e in cc
 
   -- what an output that failed leaves
-  pub sink_stopped : Ending request before now tree_same sink_same status → status ≡ SinkFault → (files : FileMap) → before.content ≡ Some files → SomeReply request files (λ reply. SinkStopped reply files before now)
+  pub sink_stopped : Ending request before now tree_same sink_same status → status ≡ SinkFault → (files : FileMap) → before.content ≡ Some files
+      → SomeReply request files (λ reply. SinkStopped reply files before now)
   sink_stopped (unread asks s later rose content same rests) e files held = let no : TreeFault ≡ SinkFault = sym s ∙ e in cc
   sink_stopped (wanting alone s rests same sink) e files held = let no : Memory ≡ SinkFault = sym s ∙ e in cc
   sink_stopped (carried alone reply to s f w took) e files held = absurd (no_sink_fault reply to.kind (sym s ∙ e))
   sink_stopped (unwritten reply to s later rose stopped same rests) e files held = let no : TreeFault ≡ SinkFault = sym s ∙ e in cc
-  sink_stopped (unput alone reply to s f w failed) e files held = (reply, to.said files held, record { files = written_said reply.writes files w held; text = failed.taken })
+  sink_stopped (unput alone reply to s f w failed) e files held =
+      (reply, to.said files held, record { files = written_said reply.writes files w held; text = failed.taken })
 
   unwritten_at : (s : Status) (writes : List SourceFile) (b n : Option FileMap) → IsReply s writes → IsRefusal s → Written writes b n → n ≡ b
   unwritten_at s writes b n kind refusal w = same (empty s writes kind refusal) w where

@@ -3,3 +3,4 @@ pub mod Endings
 pub mod Saying
 pub mod Undoing
 pub mod Batching
+pub mod Verifying

@@ -1,7 +1,7 @@
 -- The reply to a command is said, and has a status that a reply has.
-use Rattle.std.proofs.Common.{◌≡◌, ◌&&◌, not, is_none, ◌⊎◌, ℕ, ◌+◌, ◌-◌, length, arith, List, [], ◌∷◌, ◌++◌, cond, Bool, true, false, Option, Some, None, Result, Ok, Err, IfSome, IfOk, IfErr, OnOk, ◌≢◌, refl, sym, ap, subst, ◌∙◌, inl, inr}
+use Rattle.std.proofs.Common.{◌≡◌, ◌&&◌, not, is_none, ◌⊎◌, ℕ, ◌+◌, ◌-◌, length, arith, List, [], ◌∷◌, ◌++◌, cond, Bool, true, false, Option, Some}
+use Rattle.std.proofs.Common.{None, Result, Ok, Err, IfSome, IfOk, IfErr, OnOk, ◌≢◌, refl, sym, ap, subst, ◌∙◌, inl, inr}
 use Rattle.std.specs.List.{cons_option}
-use Rattle.std.specs.Option.{option_and_then}
 use Rattle.rotor_base.specs.Files.{FileSet, IsProject, names_of}
 use Rattle.rotor_base.specs.declared.fault.Memory.{Memory}
 use Rattle.rotor_base.specs.declared.source.SourceFile.{SourceFile}
@@ -22,15 +22,17 @@ use Rattle.apply_journal.specs.Plan.{file_of}
 use Rattle.apply_journal.specs.Recovered.{gate_name, plan_writes, IsDue, rests, due}
 use Rattle.cli_words.specs.declared.command.Command.{Command}
 use Rattle.cli_words.specs.declared.command.Command.TheVariants as command
-use Rattle.cli_words.specs.Words.{command_of}
 use Rattle.rename_files.specs.Answer.{Renames}
 use Rattle.rename_project.specs.Steps.{IsRefusedFor}
 use Rattle.rename_laws.specs.Laws.{ChangesAreListed}
-use Rattle.rotor_app.specs.Words.{is_ready, if_ready, command_in, sampled_units, is_recovery, asks_folder}
+use Rattle.rotor_app.specs.Words.{sampled_units, verified_lists, is_recovery, asks_folder}
 use Rattle.rotor_app.specs.declared.status.Status.{Status}
 use Rattle.rotor_app.specs.declared.status.Status.TheVariants.{Done, Refused, Usage, Project}
 use Rattle.rotor_app.specs.declared.reply.Reply.{Reply}
-use Rattle.rotor_app.specs.Said.{status_of_refusal, status_of, writes_of, reply_by, usage_reply, as_outcome, Answers, not_loaded, answered, Permits, pending_reply, SaysTo, answers, pends, SaysRecovery, finished, reply_of, recovered_text, ListsDone, IsSampled, SaysSample, Says, SaysAlone, AsksNothing, IsReply}
+use Rattle.tree_writes.specs.Writes.{HasRoom}
+use Rattle.rotor_app.specs.Said.{SaysVerify, status_of_refusal, status_of, writes_of, reply_by, usage_reply, as_outcome, Answers, not_loaded}
+use Rattle.rotor_app.specs.Said.{answered, Permits, pending_reply, SaysTo, answers, pends, SaysRecovery, finished, reply_of, recovered_text}
+use Rattle.rotor_app.specs.Said.{ListsDone, IsSampled, SaysSample, Says, SaysAlone, AsksNothing, IsReply}
 
 -- ---- the status of a reply
 
@@ -87,14 +89,16 @@ outcome_kind c outcome.BadWords = refl
 pub reply_kind : (c : Command) (names : List (List ℕ)) (o : Outcome) (reply : Reply) → reply ≡ reply_by c names o → IsReply reply.status reply.writes
 reply_kind c names o reply e = subst (λ (r : Reply). IsReply r.status r.writes) (sym e) (outcome_kind c o)
 
-outcome_usage : {A : Type 0} (f : A → Outcome) (r : Result A Refusal) (o : Outcome) → ((a : A) → status_of (f a) ≡ Usage → ⊥) → o ≡ as_outcome f r → status_of o ≡ Usage → ⊥
+outcome_usage : {A : Type 0} (f : A → Outcome) (r : Result A Refusal) (o : Outcome) → ((a : A) → status_of (f a) ≡ Usage → ⊥) → o ≡ as_outcome f r
+    → status_of o ≡ Usage → ⊥
 outcome_usage f (Ok a) o h e u = h a (sym (ap status_of e) ∙ u)
 outcome_usage f (Err r) o h e u = no_usage_refusal r (sym (ap status_of e) ∙ u)
 
 answer_usage : (c : Command) (files : FileSet) (o : Outcome) → Answers c files o → status_of o ≡ Usage → ⊥
 answer_usage command.Check files o (r, h, e) u = outcome_usage outcome.Checked r o (λ a u. let no : Done ≡ Usage = u in cc) e u
 answer_usage (command.Shape target) files o (r, h, e) u = outcome_usage outcome.Shown r o (λ a u. let no : Done ≡ Usage = u in cc) e u
-answer_usage (command.Rename target name write safe json) files o (r, h, e) u = outcome_usage outcome.Done r o (λ a u. let no : Done ≡ Usage = u in cc) e u
+answer_usage (command.Rename target name write safe json) files o (r, h, e) u =
+    outcome_usage outcome.Done r o (λ a u. let no : Done ≡ Usage = u in cc) e u
 answer_usage (command.Sample units) files o h u = h
 answer_usage (command.Verify old new) files o h u = h
 answer_usage (command.Batch file write) files o h u = h
@@ -116,7 +120,8 @@ refused_usage c error reply e u = let no : Project ≡ Usage = sym (ap (λ (r : 
 -- ---- what is said
 
 -- the files are those that the folder loads as
-pub loads_by : (content now : Option FileMap) (result : Result FileSet LoadError) (files : FileSet) → now ≡ content → result ≡ Ok files → IfSome content (λ held. IsLoad held result)
+pub loads_by : (content now : Option FileMap) (result : Result FileSet LoadError) (files : FileSet) → now ≡ content → result ≡ Ok files
+    → IfSome content (λ held. IsLoad held result)
     → IfSome now (λ held. loaded held ≡ Ok files)
 loads_by content now result files c e h = subst (λ (o : Option FileMap). IfSome o (λ held. loaded held ≡ Ok files)) (sym c) (by content h) where
   by : (content : Option FileMap) → IfSome content (λ held. IsLoad held result) → IfSome content (λ held. loaded held ≡ Ok files)
@@ -129,21 +134,24 @@ pub said_before : (content now : Option FileMap) (c : Command) (answer : Result 
 said_before content now c answer e h = subst (λ (o : Option FileMap). IfOk answer (λ reply. IfSome o (λ held. SaysTo c held reply))) e h
 
 -- over the files that the folder loads as
-pub said_over : (content : Option FileMap) (files : FileSet) (c : Command) (may : Bool) (reply : Reply) → may ≡ true → IfSome content (λ held. loaded held ≡ Ok files)
+pub said_over : (content : Option FileMap) (files : FileSet) (c : Command) (may : Bool) (reply : Reply) → may ≡ true
+    → IfSome content (λ held. loaded held ≡ Ok files)
     → IfSome content (λ held. Permits c held may) → IsOver c files reply → IfSome content (λ held. SaysTo c held reply)
 said_over None files c may reply t l p over = tt
 said_over (Some held) files c true reply t l p (o, a, r) = answers (names_of files.entries) o (answered files o l p a) r
 said_over (Some held) files c false reply t l p over = cc
 
 -- over a folder whose gate is open
-pub said_pending : (content : Option FileMap) (files : FileSet) (c : Command) (may : Bool) (reply : Reply) → may ≡ false → IfSome content (λ held. loaded held ≡ Ok files)
+pub said_pending : (content : Option FileMap) (files : FileSet) (c : Command) (may : Bool) (reply : Reply) → may ≡ false
+    → IfSome content (λ held. loaded held ≡ Ok files)
     → IfSome content (λ held. Permits c held may) → reply ≡ pending_reply c → IfSome content (λ held. SaysTo c held reply)
 said_pending None files c may reply t l p r = tt
 said_pending (Some held) files c true reply t l p r = cc
 said_pending (Some held) files c false reply t l p r = pends (record { files = files; loads = l; asked = p.0; opened = p.1 }) r
 
 -- over a folder that is not taken
-pub said_refused : (content : Option FileMap) (result : Result FileSet LoadError) (error : LoadError) (c : Command) (reply : Reply) → result ≡ Err error → IfSome content (λ held. IsLoad held result)
+pub said_refused : (content : Option FileMap) (result : Result FileSet LoadError) (error : LoadError) (c : Command) (reply : Reply)
+    → result ≡ Err error → IfSome content (λ held. IsLoad held result)
     → (IsOutside error → ⊥) → reply ≡ reply_by c [] (outcome.NotLoaded error) → IfSome content (λ held. SaysTo c held reply)
 said_refused None result error c reply e h inside r = tt
 said_refused (Some held) result error c reply e h inside r = by (subst (λ (x : Result FileSet LoadError). IsLoad held x) e h) where
@@ -152,21 +160,26 @@ said_refused (Some held) result error c reply e h inside r = by (subst (λ (x : 
   by (inr is) = answers [] (outcome.NotLoaded error) (not_loaded error is) r
 
 -- the same of a call that may have found no memory
-pub refused_answer : (content : Option FileMap) (result : Result FileSet LoadError) (error : LoadError) (c : Command) (answer : Result Reply TreeError) → result ≡ Err error → IfSome content (λ held. IsLoad held result)
-    → IfOk answer (λ reply. reply ≡ reply_by c [] (outcome.NotLoaded error)) → OnOk answer (IsOutside error → ⊥) → IfOk answer (λ reply. IfSome content (λ held. SaysTo c held reply))
+pub refused_answer : (content : Option FileMap) (result : Result FileSet LoadError) (error : LoadError) (c : Command)
+    (answer : Result Reply TreeError) → result ≡ Err error → IfSome content (λ held. IsLoad held result)
+    → IfOk answer (λ reply. reply ≡ reply_by c [] (outcome.NotLoaded error)) → OnOk answer (IsOutside error → ⊥)
+    → IfOk answer (λ reply. IfSome content (λ held. SaysTo c held reply))
 refused_answer content result error c (Ok reply) e h r inside = said_refused content result error c reply e h inside r
 refused_answer content result error c (Err fault) e h r inside = tt
 
-pub refused_kind : (c : Command) (error : LoadError) (answer : Result Reply TreeError) → IfOk answer (λ reply. reply ≡ reply_by c [] (outcome.NotLoaded error)) → IfOk answer (λ reply. IsReply reply.status reply.writes)
+pub refused_kind : (c : Command) (error : LoadError) (answer : Result Reply TreeError)
+    → IfOk answer (λ reply. reply ≡ reply_by c [] (outcome.NotLoaded error)) → IfOk answer (λ reply. IsReply reply.status reply.writes)
 refused_kind c error (Ok reply) r = reply_kind c [] (outcome.NotLoaded error) reply r
 refused_kind c error (Err fault) r = tt
 
-pub refused_no_usage : (c : Command) (error : LoadError) (answer : Result Reply TreeError) → IfOk answer (λ reply. reply ≡ reply_by c [] (outcome.NotLoaded error)) → IfOk answer (λ reply. reply.status ≡ Usage → ⊥)
+pub refused_no_usage : (c : Command) (error : LoadError) (answer : Result Reply TreeError)
+    → IfOk answer (λ reply. reply ≡ reply_by c [] (outcome.NotLoaded error)) → IfOk answer (λ reply. reply.status ≡ Usage → ⊥)
 refused_no_usage c error (Ok reply) r = refused_usage c error reply r
 refused_no_usage c error (Err fault) r = tt
 
 -- the usage is said to words of no form
-pub usage_said : (request : Option Command) (content : Option FileMap) (reply : Reply) → request ≡ None → reply ≡ usage_reply → IfSome content (λ held. Says request held reply)
+pub usage_said : (request : Option Command) (content : Option FileMap) (reply : Reply) → request ≡ None → reply ≡ usage_reply
+    → IfSome content (λ held. Says request held reply)
 unfolding Says
 usage_said request None reply e r = tt
 usage_said request (Some held) reply e r = subst (λ (q : Option Command). Says q held reply) (sym e) r
@@ -175,15 +188,17 @@ pub usage_alone : (request : Option Command) (reply : Reply) → request ≡ Non
 unfolding SaysAlone
 usage_alone request reply e r = subst (λ (q : Option Command). SaysAlone q reply) (sym e) r
 
--- what the words ask for is a command over the folder's files
+-- a command over the folder's files
 all_true : (a b c : Bool) → a ≡ true → b ≡ true → c ≡ true → (a && b && c) ≡ true
 all_true true true true p q r = refl
 all_true true true false p q r = cc
 all_true true false c p q r = cc
 all_true false b c p q r = cc
 
-pub asks_no_sample : (c : Command) → is_ready c ≡ true → sampled_units c ≡ None → is_recovery c ≡ false → asks_folder c ≡ true
-asks_no_sample c ready none other = all_true (is_ready c) (is_none (sampled_units c)) (not (is_recovery c)) ready (ap is_none none) (ap not other)
+pub asks_no_other : (c : Command) → sampled_units c ≡ None → verified_lists c ≡ None → is_recovery c ≡ false → asks_folder c ≡ true
+asks_no_other c no_sample no_lists other =
+    all_true (is_none (sampled_units c)) (is_none (verified_lists c)) (not (is_recovery c)) (ap is_none no_sample) (ap is_none no_lists)
+    (ap not other)
 
 -- a command over the files of the folder
 says_to : (c : Command) (held : FileMap) (reply : Reply) → asks_folder c ≡ true → SaysTo c held reply → Says (Some c) held reply
@@ -196,10 +211,37 @@ says_to (command.Verify old new) held reply e h = let no : false ≡ true = e in
 says_to (command.Batch file write) held reply e h = h
 says_to command.Recover held reply e h = let no : false ≡ true = e in absurd cc
 
-pub folder_said : (c : Command) (content : Option FileMap) (reply : Reply) → is_ready c ≡ true → sampled_units c ≡ None → is_recovery c ≡ false
-    → IfSome content (λ held. SaysTo c held reply) → IfSome content (λ held. Says (Some c) held reply)
-folder_said c None reply ready none other h = tt
-folder_said c (Some held) reply ready none other h = says_to c held reply (asks_no_sample c ready none other) h
+pub folder_said : (c : Command) (content : Option FileMap) (result : Result Reply TreeError) → asks_folder c ≡ true
+    → IfOk result (λ reply. IfSome content (λ held. SaysTo c held reply)) → IfOk result (λ reply. IfSome content (λ held. Says (Some c) held reply))
+folder_said c content (Err fault) e h = tt
+folder_said c None (Ok reply) e h = tt
+folder_said c (Some held) (Ok reply) e h = says_to c held reply e h
+
+-- `verify`
+lists_are : (c : Command) (lists : List ℕ × List ℕ) → verified_lists c ≡ Some lists → c ≡ command.Verify lists.0 lists.1
+lists_are command.Check lists e = absurd cc
+lists_are (command.Shape target) lists e = absurd cc
+lists_are (command.Rename target name write safe json) lists e = absurd cc
+lists_are (command.Sample n) lists e = absurd cc
+lists_are (command.Verify old new) lists e = ap (λ (l : List ℕ × List ℕ). command.Verify l.0 l.1) (one e) where
+  one : ◌≡◌ {A = Option (List ℕ × List ℕ)} (Some (old, new)) (Some lists) → (old, new) ≡ lists
+  one e = cc
+lists_are (command.Batch file write) lists e = absurd cc
+lists_are command.Recover lists e = absurd cc
+
+pub verify_said : (c : Command) (lists : List ℕ × List ℕ) (content : Option FileMap) (result : Result Reply TreeError) → verified_lists c ≡ Some lists
+    → IfOk result (λ reply. IfSome content (λ held. SaysVerify lists.0 lists.1 held reply))
+    → IfOk result (λ reply. IfSome content (λ held. Says (Some c) held reply))
+unfolding Says
+verify_said c lists content (Err fault) e h = tt
+verify_said c lists None (Ok reply) e h = tt
+verify_said c lists (Some held) (Ok reply) e h = subst (λ (k : Command). Says (Some k) held reply) (sym (lists_are c lists e)) h
+
+-- a reply that writes nothing has its room
+pub silent_room : (room : List ℕ → ℕ) (result : Result Reply TreeError) → IfOk result (λ reply. reply.writes ≡ [])
+    → IfOk result (λ reply. HasRoom room reply.writes)
+silent_room room (Err fault) h = tt
+silent_room room (Ok reply) h = subst (HasRoom room) (sym h) tt
 
 -- a recovery
 says_recovery : (c : Command) (held : FileMap) (reply : Reply) → is_recovery c ≡ true → SaysRecovery held reply → Says (Some c) held reply
@@ -213,14 +255,17 @@ says_recovery (command.Batch file write) held reply e h = cc
 says_recovery command.Recover held reply e h = h
 
 pub recovery_said : (c : Command) (content : Option FileMap) (result : Result Reply TreeError) → is_recovery c ≡ true
-    → IfOk result (λ reply. IfSome content (λ held. SaysRecovery held reply)) → IfOk result (λ reply. IfSome content (λ held. Says (Some c) held reply))
+    → IfOk result (λ reply. IfSome content (λ held. SaysRecovery held reply))
+    → IfOk result (λ reply. IfSome content (λ held. Says (Some c) held reply))
 recovery_said c content (Err fault) e h = tt
 recovery_said c None (Ok reply) e h = tt
 recovery_said c (Some held) (Ok reply) e h = says_recovery c held reply e h
 
 pub command_said : (request : Option Command) (c : Command) (content : Option FileMap) (result : Result Reply TreeError) → request ≡ Some c
-    → IfOk result (λ reply. IfSome content (λ held. Says (Some c) held reply)) → IfOk result (λ reply. IfSome content (λ held. Says request held reply))
-command_said request c content result e h = subst (λ (q : Option Command). IfOk result (λ reply. IfSome content (λ held. Says q held reply))) (sym e) h
+    → IfOk result (λ reply. IfSome content (λ held. Says (Some c) held reply))
+    → IfOk result (λ reply. IfSome content (λ held. Says request held reply))
+command_said request c content result e h = subst (λ (q : Option Command). IfOk result (λ reply. IfSome content (λ held. Says q held reply)))
+    (sym e) h
 
 -- a recovery with something to write
 due_writes : (held : FileMap) (found : Option (List SourceFile)) (writes : List SourceFile) (reply : Reply) → found ≡ Some writes → IsDue held found
@@ -229,7 +274,8 @@ due_writes held found writes reply e (rests shut) r = absurd cc
 due_writes held found writes reply e (due files o p) r =
     let same : plan_writes files ≡ writes = cc in
     let count : length (plan_writes files) - 1 ≡ length files = one_less files in
-    finished files o p (r ∙ ap (λ (ws : List SourceFile). reply_of Done ws (recovered_text (length ws - 1))) (sym same) ∙ ap (λ (n : ℕ). reply_of Done (plan_writes files) (recovered_text n)) count)
+    finished files o p (r ∙ ap (λ (ws : List SourceFile). reply_of Done ws (recovered_text (length ws - 1))) (sym same)
+    ∙ ap (λ (n : ℕ). reply_of Done (plan_writes files) (recovered_text n)) count)
   where
     one_more : (fs : List SourceFile) (f : SourceFile) → length (fs ++ f ∷ []) ≡ length fs + 1
     one_more [] f = refl
@@ -238,7 +284,8 @@ due_writes held found writes reply e (due files o p) r =
     one_less : (fs : List SourceFile) → length (plan_writes fs) - 1 ≡ length fs
     one_less fs = omega (arith, one_more fs (file_of gate_name []))
 
-pub due_said : (content : Option FileMap) (found : Option (List SourceFile)) (writes : List SourceFile) (reply : Reply) → found ≡ Some writes → IfSome content (λ held. IsDue held found)
+pub due_said : (content : Option FileMap) (found : Option (List SourceFile)) (writes : List SourceFile) (reply : Reply) → found ≡ Some writes
+    → IfSome content (λ held. IsDue held found)
     → reply ≡ reply_of Done writes (recovered_text (length writes - 1)) → IfSome content (λ held. SaysRecovery held reply)
 due_said None found writes reply e d r = tt
 due_said (Some held) found writes reply e d r = due_writes held found writes reply e d r
@@ -253,13 +300,15 @@ sample_is (command.Verify old new) units e = absurd cc
 sample_is (command.Batch file write) units e = absurd cc
 sample_is command.Recover units e = absurd cc
 
-pub sample_said : (request : Option Command) (c : Command) (units : ℕ) (content : Option FileMap) (reply : Reply) → request ≡ Some c → sampled_units c ≡ Some units → SaysSample units reply
+pub sample_said : (request : Option Command) (c : Command) (units : ℕ) (content : Option FileMap) (reply : Reply) → request ≡ Some c
+    → sampled_units c ≡ Some units → SaysSample units reply
     → IfSome content (λ held. Says request held reply)
 unfolding Says
 sample_said request c units None reply e is h = tt
 sample_said request c units (Some held) reply e is h = subst (λ (q : Option Command). Says q held reply) (sym (e ∙ ap Some (sample_is c units is))) h
 
-pub sample_alone : (request : Option Command) (c : Command) (units : ℕ) (reply : Reply) → request ≡ Some c → sampled_units c ≡ Some units → SaysSample units reply → SaysAlone request reply
+pub sample_alone : (request : Option Command) (c : Command) (units : ℕ) (reply : Reply) → request ≡ Some c → sampled_units c ≡ Some units
+    → SaysSample units reply → SaysAlone request reply
 unfolding SaysAlone
 sample_alone request c units reply e is h = subst (λ (q : Option Command). SaysAlone q reply) (sym (e ∙ ap Some (sample_is c units is))) h
 
@@ -293,7 +342,8 @@ pub asks_something : (request : Option Command) (c : Command) → request ≡ So
 asks_something request c e none asks = subst AsksNothing e asks none
 
 -- a reply that is made over loaded files
-pub over_made : (c : Command) (files : FileSet) (names : List (List ℕ)) (o : Outcome) (result : Result Reply Memory) → names ≡ names_of files.entries → Answers c files o
+pub over_made : (c : Command) (files : FileSet) (names : List (List ℕ)) (o : Outcome) (result : Result Reply Memory) → names ≡ names_of files.entries
+    → Answers c files o
     → IfOk result (λ reply. reply ≡ reply_by c names o) → IfOk result (IsOver c files)
 over_made c files names o (Err e) n a h = tt
 over_made c files names o (Ok reply) n a h = (o, a, h ∙ ap (λ (ns : List (List ℕ)). reply_by c ns o) n)
@@ -317,18 +367,6 @@ lists_done law (command.Verify old new) files o p h = absurd h
 lists_done law (command.Batch file write) files o p h = absurd h
 lists_done law command.Recover files o p h = absurd h
 
--- a command that the words ask for is there
-ready_by : (d c : Command) (b : Bool) → is_ready d ≡ b → cond b (Some d) None ≡ Some c → is_ready c ≡ true
-ready_by d c true e h = let same : d ≡ c = cc in subst (λ (x : Command). is_ready x ≡ true) same e
-ready_by d c false e h = absurd cc
-
-ready_of : (asked : Option Command) (c : Command) → option_and_then if_ready asked ≡ Some c → is_ready c ≡ true
-ready_of None c h = absurd cc
-ready_of (Some d) c h = ready_by d c (is_ready d) refl h
-
-pub ready : (words : List (List ℕ)) (c : Command) → command_in words ≡ Some c → is_ready c ≡ true
-ready words c h = ready_of (command_of words) c h
-
 -- a file added, if there is one
 pub pushed : (o : Option SourceFile) (found rest : List SourceFile) → (found ++ cons_option o []) ++ rest ≡ found ++ cons_option o rest
 pushed None [] rest = refl
@@ -339,7 +377,8 @@ pushed o (g ∷ found) rest = ap (λ (gs : List SourceFile). g ∷ gs) (pushed o
 
 -- a refusal other than want of memory is an answer to the command, whose name has these bytes
 pub refused_renaming :
-    (files : FileSet) (target : Target) (new bytes : List ℕ) (write safe json : Bool) (r : Result Renamed Refusal) (why : Refusal) (o : Result Outcome Memory)
+    (files : FileSet) (target : Target) (new bytes : List ℕ) (write safe json : Bool) (r : Result Renamed Refusal) (why : Refusal)
+    (o : Result Outcome Memory)
     → bytes ≡ new → r ≡ Err why → IfErr r (IsRefusedFor (λ w. Renames files target bytes (Err w)))
     → IfOk o (λ x. (x ≡ outcome.Refused why) × (why ≢ refusal.Memory))
     → IfOk o (λ x. Answers (command.Rename target new write safe json) files x)

@@ -1,10 +1,10 @@
 -- A renaming that is done keeps facts and runs, and the words of its undo give the old files back.
-use Rattle.std.proofs.Common.{◌≡◌, ◌≢◌, ◌⊎◌, inl, inr, ◌||◌, if◌then◌else◌, ℕ, ◌<◌, ◌≤◌, ◌^◌, Bool, true, false, List, [], ◌∷◌, ◌++◌, Option, Some, None, Ok, Err, Contains, slice_get, flat_map, length, unwrap_or, codes, refl, sym, ap, subst, ◌∙◌, arith}
+use Rattle.std.proofs.Common.{◌≡◌, ◌≢◌, ◌⊎◌, inl, inr, ◌||◌, if◌then◌else◌, ℕ, ◌<◌, ◌≤◌, ◌^◌, Bool, true, false, List, [], ◌∷◌, ◌++◌, Option, Some}
+use Rattle.std.proofs.Common.{None, Result, Ok, Err, Contains, slice_get, flat_map, length, unwrap_or, codes, refl, sym, ap, subst, ◌∙◌, arith}
 use Rattle.std.specs.Fmt.{decimal}
 use Rattle.std.specs.FinMap.{get}
 use Rattle.std.specs.Str.{bytes_eq}
 use Rattle.std.specs.Cmp.Lexicographic.{bytes_decides}
-use Rattle.std.specs.Option.{option_and_then}
 use Rattle.rotor_base.specs.Files.{FileSet, IsProject, names_of, load_refusal}
 use Rattle.rotor_base.specs.Lines.{feed_lines}
 use Rattle.rotor_base.specs.declared.source.SourceFile.{SourceFile}
@@ -16,7 +16,10 @@ use Rattle.rotor_base.specs.declared.target.Target.{Target}
 use Rattle.rotor_base.specs.declared.target.Target.TheVariants.{At}
 use Rattle.tree_io.specs.Outside.{FileMap}
 use Rattle.project_load.specs.Load.{loaded, unless_refused}
-use Rattle.project_load.specs.Rewritten.{after, files_at, AreOthers, LoadedFilesAreAProject, NewSourcesAreLoaded, OldSourcesComeBack}
+use Rattle.project_load.specs.Rewritten.{after, files_at, AreOthers}
+use Rattle.project_load.specs.Listed.{Lists, lacks as lacks_list, large as large_list, unread as unread_list, refused, taken}
+use Rattle.project_load.specs.declared.error.ListError.{ListError}
+use Rattle.project_load.specs.declared.error.ListError.TheVariants as list_error
 use Rattle.tree_writes.specs.Writes.{StoppedWriting}
 use Rattle.apply_journal.specs.Plan.{plan_text, IsPlan}
 use Rattle.apply_journal.specs.Recovered.{plan_name, gate_name, IsOpen, safe_writes, project_in, Recovers, closed}
@@ -29,21 +32,28 @@ use Rattle.report.specs.Text.{ended, text_of}
 use Rattle.cli_words.specs.declared.command.Command.{Command}
 use Rattle.cli_words.specs.declared.command.Command.TheVariants as command
 use Rattle.cli_words.specs.Words.{command_of}
-use Rattle.cli_words.specs.Laws.{undo_words, UndosAreRead}
+use Rattle.cli_words.specs.Laws.{undo_words}
 use Rattle.rename_files.specs.Answer.{Renames}
-use Rattle.rename_laws.specs.Laws.{Rewrites, IsUndoPlace, ChangesAreListed, RenamingsRewrite, RenamingsAreUndone, RenamingsAreValid, UndosHavePlaces, RenamingsKeepFacts, RenamingsKeepRuns, FootprintsAreLeast}
+use Rattle.rename_laws.specs.Laws.{Rewrites, IsUndoPlace}
 use Rattle.rename_batch.specs.declared.step.Step.{Step}
 use Rattle.rename_batch.specs.declared.step.Batched.{Batched}
 use Rattle.rename_batch.specs.Batch.{Batches}
 use Rattle.rename_batch.specs.Reading.{IsBatch}
-use Rattle.rename_batch.specs.Laws.{BatchesRewrite, BatchesAreUndone, BatchesKeepRuns}
-use Rattle.rotor_app.specs.declared.status.Status.TheVariants.{Done, Project}
+use Rattle.rename_verify.specs.declared.verdict.Verdict.{Verdict}
+use Rattle.rename_verify.specs.declared.verdict.Verdict.TheVariants.{Yes, No}
+use Rattle.rename_verify.specs.Verdict.{Verdicts}
+use Rattle.rotor_base.specs.declared.refusal.Refusal.{Refusal}
+use Rattle.rotor_app.specs.declared.status.Status.TheVariants.{Done, Refused, Project}
 use Rattle.rotor_app.specs.declared.reply.Reply.{Reply}
-use Rattle.rotor_app.specs.Words.{command_in, if_ready}
-use Rattle.rotor_app.specs.Said.{status_of, reply_by, outcome_text, MayWrite, IsAnswer, not_loaded, answered, SaysTo, answers, pends, batches, batch_in, batched_reply, SaysSteps, stopped, batched, SaysBatch, lacks, large, unread, runs, SaysRecovery, idle, finished, lost, Says, SomeReply}
+use Rattle.rotor_app.specs.Said.{status_of, reply_by, outcome_text, MayWrite, IsAnswer, not_loaded, answered, SaysTo, answers, pends, batches}
+use Rattle.rotor_app.specs.Said.{batch_in, batched_reply, SaysSteps, stopped, batched, SaysBatch, lacks, large, unread, runs, SaysRecovery, idle}
+use Rattle.rotor_app.specs.Said.{finished, lost, SaysVerify, no_list, listed, SaysAgainst, unlisted, judged, RefusesList, judged_reply, Says}
+use Rattle.rotor_app.specs.Said.{SomeReply}
 use Rattle.rotor_app.specs.Table.{TreeStopped}
 use Rattle.rotor_app.proofs.Saying.{no_done_refusal}
-use Rattle.rotor_app.specs.Done.{rename_words, undo_of, AreSameButForPlan, GivesBack, GivesFilesBack, IsDone, IsBatchDone, IsDoneSo, IsRecoverable}
+use Rattle.rotor_app.specs.Laws.{HasLaws}
+use Rattle.rotor_app.specs.Done.{rename_words, undo_of, AreSameButForPlan, GivesBack, GivesFilesBack, IsDone, IsBatchDone, IsVerified, IsDoneSo}
+use Rattle.rotor_app.specs.Done.{IsRecoverable}
 
 -- ---- the last line of the report
 
@@ -59,8 +69,11 @@ flat_last (y ∷ xs) x = ap (λ (zs : List ℕ). ended y ++ zs) (flat_last xs x)
 
 line_last : (names : List (List ℕ)) (done : Renamed) → (front : List (List ℕ)) × (done_lines names done ≡ front ++ undo_line names done ∷ [])
 line_last names done = (
-  rename_line done ∷ (declaration_lines names done.foot.decls ++ (number_line (codes "references") done.refs ∷ number_line (codes "files") (length done.changed) ∷ [])),
-  ap (λ (ls : List (List ℕ)). rename_line done ∷ ls) (sym (joined (declaration_lines names done.foot.decls) (number_line (codes "references") done.refs ∷ number_line (codes "files") (length done.changed) ∷ []) (undo_line names done ∷ []))),
+  rename_line done ∷ (declaration_lines names done.foot.decls
+      ++ (number_line (codes "references") done.refs ∷ number_line (codes "files") (length done.changed) ∷ [])),
+  ap (λ (ls : List (List ℕ)). rename_line done ∷ ls)
+      (sym (joined (declaration_lines names done.foot.decls)
+      (number_line (codes "references") done.refs ∷ number_line (codes "files") (length done.changed) ∷ []) (undo_line names done ∷ []))),
 )
   where
     joined : (a b c : List (List ℕ)) → (a ++ b) ++ c ≡ a ++ (b ++ c)
@@ -72,9 +85,10 @@ text_ends names done =
     let l = line_last names done in
     (flat_map ended l.0, ap (flat_map ended) l.1 ∙ flat_last l.0 (undo_line names done))
 
--- ---- the words of the undo ask for the renaming back
+-- ---- the words of the undo request the renaming back
 
-place_is : (names : List (List ℕ)) (p : Place) (source : List ℕ) → slice_get names p.file ≡ Some source → place_text names p ≡ source ++ (codes "#" ++ decimal p.token)
+place_is : (names : List (List ℕ)) (p : Place) (source : List ℕ) → slice_get names p.file ≡ Some source
+    → place_text names p ≡ source ++ (codes "#" ++ decimal p.token)
 place_is names p source e = ap (λ (o : Option (List ℕ)). unwrap_or o [] ++ (codes "#" ++ decimal p.token)) e
 
 -- a token's number fits into 32 bits
@@ -91,24 +105,6 @@ differs q name h = by (bytes_eq q name) refl where
   by : (b : Bool) → bytes_eq q name ≡ b → bytes_eq q name ≡ false
   by true e = absurd (h ((bytes_decides q name).0 e))
   by false e = e
-
--- the laws of the crates below
-pub record HasLaws : Type 0 where
-  pub project : LoadedFilesAreAProject
-  pub loaded_new : NewSourcesAreLoaded
-  pub old_back : OldSourcesComeBack
-  pub undos : UndosAreRead
-  pub rewrite : RenamingsRewrite
-  pub undone : RenamingsAreUndone
-  pub places : UndosHavePlaces
-  pub valid : RenamingsAreValid
-  pub facts : RenamingsKeepFacts
-  pub runs : RenamingsKeepRuns
-  pub least : FootprintsAreLeast
-  pub changes : ChangesAreListed
-  pub batch_sources : BatchesRewrite
-  pub batch_undone : BatchesAreUndone
-  pub batch_runs : BatchesKeepRuns
 
 module _ (laws : HasLaws) where
   module _ (held : FileMap) (target : Target) (new : List ℕ) (write safe json : Bool) (old : FileSet) (done : Renamed) (loads : loaded held ≡ Ok old)
@@ -131,14 +127,18 @@ module _ (laws : HasLaws) where
     others : AreOthers old done.files
     others = record { names = rewrites.names; manifest = rewrites.manifest }
 
-    asked : command_in (undo_of names done) ≡ Some (command.Rename (At place.source done.undo_at.token) done.old true false false)
+    asked : command_of (undo_of names done) ≡ Some (command.Rename (At place.source done.undo_at.token) done.old true false false)
     asked =
-        let words : undo_of names done ≡ undo_words place.source done.undo_at.token done.old = ap (λ (p : List ℕ). rename_words p done.old) (place_is names done.undo_at place.source place.source_at) in
-        ap (λ (ws : List (List ℕ)). option_and_then if_ready (command_of ws)) words
-        ∙ ap (option_and_then if_ready) (laws.undos place.source done.old done.undo_at.token place.is_source place.named place.above (within done.undo_at.token place.below))
+        let words : undo_of names done ≡ undo_words place.source done.undo_at.token done.old =
+        ap (λ (p : List ℕ). rename_words p done.old) (place_is names done.undo_at place.source place.source_at) in
+        ap command_of words ∙ laws.undos place.source done.old done.undo_at.token place.is_source place.named place.above
+        (within done.undo_at.token place.below)
 
     back_others : AreOthers done.files undone.0.files
-    back_others = record { names = ap (λ (f : FileSet). names_of f.entries) undone.2 ∙ sym rewrites.names; manifest = ap (λ (f : FileSet). f.manifest) undone.2 ∙ sym rewrites.manifest }
+    back_others = record {
+      names = ap (λ (f : FileSet). names_of f.entries) undone.2 ∙ sym rewrites.names;
+      manifest = ap (λ (f : FileSet). f.manifest) undone.2 ∙ sym rewrites.manifest;
+    }
 
     abbrev files : List SourceFile
     files = files_at done.files.entries done.changed
@@ -156,20 +156,24 @@ module _ (laws : HasLaws) where
     abbrev undo_reply : Reply
     undo_reply = reply_by undo (names_of done.files.entries) (outcome.Done undone.0)
 
-    undo_said : (now : FileMap) → loaded now ≡ Ok done.files → (IsOpen now → ⊥) → Says (command_in (undo_of names done)) now undo_reply
+    undo_said : (now : FileMap) → loaded now ≡ Ok done.files → (IsOpen now → ⊥) → Says (command_of (undo_of names done)) now undo_reply
     unfolding Says
     undo_said now l shut =
         let a : SaysTo undo now undo_reply =
-        answers (names_of done.files.entries) (outcome.Done undone.0) (answered done.files (outcome.Done undone.0) l (λ t. shut) (Ok undone.0, undone.1, refl)) refl in
+        answers (names_of done.files.entries) (outcome.Done undone.0)
+        (answered done.files (outcome.Done undone.0) l (λ t. shut) (Ok undone.0, undone.1, refl)) refl in
         subst (λ (q : Option Command). Says q now undo_reply) (sym asked) a
 
     home : after undo_reply.writes (after files held) ≡ held
     home =
         let back = undone.0 in
         let again = laws.rewrite done.files (At place.source done.undo_at.token) done.old back there undone.1 in
-        let covers = subst (λ (f : FileSet). (k : ℕ) → (slice_get done.files.entries k ≡ slice_get f.entries k) ⊎ Contains back.changed k) undone.2 again.covers in
-        let writes : files_at back.files.entries back.changed ≡ files_at old.entries back.changed = ap (λ (f : FileSet). files_at f.entries back.changed) undone.2 in
-        ap (λ (ws : List SourceFile). after ws (after files held)) writes ∙ laws.old_back held old done.files done.changed back.changed loads others rewrites.covers covers
+        let covers = subst (λ (f : FileSet). (k : ℕ) → (slice_get done.files.entries k ≡ slice_get f.entries k) ⊎ Contains back.changed k) undone.2
+        again.covers in
+        let writes : files_at back.files.entries back.changed ≡ files_at old.entries back.changed =
+        ap (λ (f : FileSet). files_at f.entries back.changed) undone.2 in
+        ap (λ (ws : List SourceFile). after ws (after files held)) writes
+        ∙ laws.old_back held old done.files done.changed back.changed loads others rewrites.covers covers
 
     -- the writes are those of a plan, which leaves the gate as it is
     plan : IsPlan (plan_text files) files
@@ -182,7 +186,8 @@ module _ (laws : HasLaws) where
 
     gives_back : (reply : Reply) → reply.writes ≡ files → (IsOpen held → ⊥) → GivesBack (undo_of names done) held reply
     gives_back reply w shut =
-        let G : List SourceFile → Type 0 = λ ws. SomeReply (command_in (undo_of names done)) (after ws held) (λ b. (b.status ≡ Done) × (after b.writes (after ws held) ≡ held)) in
+        let G : List SourceFile → Type 0 = λ ws. SomeReply (command_of (undo_of names done)) (after ws held)
+        (λ b. (b.status ≡ Done) × (after b.writes (after ws held) ≡ held)) in
         subst G (sym w) (undo_reply, undo_said (after files held) load (λ o. shut (gate_rests o)), (refl, home))
 
     -- the same with a plan and a gate beside the sources
@@ -192,25 +197,30 @@ module _ (laws : HasLaws) where
     leaves : AreSameButForPlan held (after undo_reply.writes (after (safe_writes files) held))
     leaves q p g =
         let same : get (after undo_reply.writes (after (safe_writes files) held)) q ≡ get (after undo_reply.writes (after files held)) q =
-        get_after_same undo_reply.writes (after (safe_writes files) held) (after files held) q (λ none. safe_others held files q (differs q plan_name p) (differs q gate_name g)) in
+        get_after_same undo_reply.writes (after (safe_writes files) held) (after files held) q
+        (λ none. safe_others held files q (differs q plan_name p) (differs q gate_name g)) in
         sym (same ∙ ap (λ (m : FileMap). get m q) home)
 
     gives_files_back : (reply : Reply) → reply.writes ≡ safe_writes files → GivesFilesBack (undo_of names done) held reply
     gives_files_back reply w =
-        let G : List SourceFile → Type 0 = λ ws. SomeReply (command_in (undo_of names done)) (after ws held) (λ b. (b.status ≡ Done) × AreSameButForPlan held (after b.writes (after ws held))) in
+        let G : List SourceFile → Type 0 = λ ws. SomeReply (command_of (undo_of names done)) (after ws held)
+        (λ b. (b.status ≡ Done) × AreSameButForPlan held (after b.writes (after ws held))) in
         subst G (sym w) (undo_reply, undo_said (after (safe_writes files) held) safe_load (whole_safe held files plan).0, (refl, leaves))
 
     -- the writes of the reply
     abbrev writes_so : Bool → Bool → List SourceFile
     writes_so w s = if s then safe_writes files else (if w then files else [])
 
-    writes : (reply : Reply) → reply ≡ reply_by (command.Rename target new write safe json) names (outcome.Done done) → reply.writes ≡ writes_so write safe
+    writes : (reply : Reply) → reply ≡ reply_by (command.Rename target new write safe json) names (outcome.Done done)
+        → reply.writes ≡ writes_so write safe
     writes reply e = ap (λ (r : Reply). r.writes) e
 
-    safe_files : (reply : Reply) → reply ≡ reply_by (command.Rename target new write safe json) names (outcome.Done done) → safe ≡ true → reply.writes ≡ safe_writes files
+    safe_files : (reply : Reply) → reply ≡ reply_by (command.Rename target new write safe json) names (outcome.Done done) → safe ≡ true
+        → reply.writes ≡ safe_writes files
     safe_files reply e s = writes reply e ∙ ap (λ (b : Bool). writes_so write b) s
 
-    all_files : (reply : Reply) → reply ≡ reply_by (command.Rename target new write safe json) names (outcome.Done done) → write ≡ true → safe ≡ false → reply.writes ≡ files
+    all_files : (reply : Reply) → reply ≡ reply_by (command.Rename target new write safe json) names (outcome.Done done) → write ≡ true → safe ≡ false
+        → reply.writes ≡ files
     all_files reply e w s = writes reply e ∙ ap (λ (b : Bool). writes_so write b) s ∙ ap (λ (b : Bool). writes_so b false) w
 
     loads_so : (w s : Bool) → (w || s) ≡ true → loaded (after (writes_so w s) held) ≡ Ok done.files
@@ -219,7 +229,8 @@ module _ (laws : HasLaws) where
     loads_so true false t = load
     loads_so false false t = cc
 
-    is_done : (reply : Reply) → reply ≡ reply_by (command.Rename target new write safe json) names (outcome.Done done) → IsDone held target new write safe json reply
+    is_done : (reply : Reply) → reply ≡ reply_by (command.Rename target new write safe json) names (outcome.Done done)
+        → IsDone held target new write safe json reply
     is_done reply e = record {
       old = old;
       done = done;
@@ -231,20 +242,24 @@ module _ (laws : HasLaws) where
       facts = laws.facts old target new done project renames;
       runs = laws.runs old target new done project renames;
       least = laws.least old target new done project renames;
-      line = λ j. let t = text_ends names done in (t.0, ap (λ (r : Reply). r.text) e ∙ (ap (λ (b : Bool). outcome_text b names (outcome.Done done)) j ∙ t.1));
+      line = λ j. let t = text_ends names done in
+          (t.0, ap (λ (r : Reply). r.text) e ∙ (ap (λ (b : Bool). outcome_text b names (outcome.Done done)) j ∙ t.1));
       back = λ w s. gives_back reply (all_files reply e w s) (may (ap (λ (b : Bool). b || safe) w));
       safe_back = λ s. gives_files_back reply (safe_files reply e s);
     }
 
     -- a write of `--safe` failed
-    stopped_safely : (reply : Reply) → reply ≡ reply_by (command.Rename target new write safe json) names (outcome.Done done) → safe ≡ true → (IsOpen held → ⊥) → (now : FileMap)
+    stopped_safely : (reply : Reply) → reply ≡ reply_by (command.Rename target new write safe json) names (outcome.Done done) → safe ≡ true
+        → (IsOpen held → ⊥) → (now : FileMap)
         → StoppedWriting reply.writes (Some held) (Some now) → Recovers now (project_in held) ⊎ Recovers now (project_in (after reply.writes held))
     stopped_safely reply e s shut now halt =
         let w : reply.writes ≡ safe_writes files = safe_files reply e s in
         let R : List SourceFile → Type 0 = λ ws. Recovers now (project_in held) ⊎ Recovers now (project_in (after ws held)) in
-        subst R (sym w) (by (stopped_safe held now files plan shut (subst (λ (ws : List SourceFile). StoppedWriting ws (Some held) (Some now)) w halt)))
+        subst R (sym w) (by (stopped_safe held now files plan shut
+        (subst (λ (ws : List SourceFile). StoppedWriting ws (Some held) (Some now)) w halt)))
       where
-        by : Recovers now (project_in held) ⊎ Recovers now (project_in (after files held)) → Recovers now (project_in held) ⊎ Recovers now (project_in (after (safe_writes files) held))
+        by : Recovers now (project_in held) ⊎ Recovers now (project_in (after files held)) → Recovers now (project_in held)
+            ⊎ Recovers now (project_in (after (safe_writes files) held))
         by (inl r) = inl r
         by (inr r) = inr (subst (Recovers now) (sym (whole_safe held files plan).1) r)
 
@@ -252,7 +267,8 @@ module _ (laws : HasLaws) where
 
   -- a reply that is done has done the renaming
   module _ (held : FileMap) (target : Target) (new : List ℕ) (write safe json : Bool) (P : Reply → Type 0)
-      (h : (old : FileSet) (done : Renamed) → loaded held ≡ Ok old → MayWrite (command.Rename target new write safe json) held → Renames old target new (Ok done)
+      (h : (old : FileSet) (done : Renamed) → loaded held ≡ Ok old → MayWrite (command.Rename target new write safe json) held
+      → Renames old target new (Ok done)
       → (reply : Reply) → reply ≡ reply_by (command.Rename target new write safe json) (names_of old.entries) (outcome.Done done) → P reply) where
     by_answer : (sources : List (List ℕ)) (o : Outcome) (reply : Reply) → IsAnswer held (command.Rename target new write safe json) sources o
         → reply ≡ reply_by (command.Rename target new write safe json) sources o → reply.status ≡ Done → P reply
@@ -268,7 +284,8 @@ module _ (laws : HasLaws) where
     by_reply reply (pends p e) d = absurd (let no : Project ≡ Done = sym (ap (λ (r : Reply). r.status) e) ∙ d in cc)
 
   -- a batch that is done
-  module _ (held : FileMap) (file : List ℕ) (write : Bool) (old : FileSet) (bytes : List ℕ) (steps : List Step) (done : Batched) (loads : loaded held ≡ Ok old) (found : batch_in held file ≡ Some bytes)
+  module _ (held : FileMap) (file : List ℕ) (write : Bool) (old : FileSet) (bytes : List ℕ) (steps : List Step) (done : Batched)
+      (loads : loaded held ≡ Ok old) (found : batch_in held file ≡ Some bytes)
       (reads : IsBatch (feed_lines bytes) steps) (accepted : Batches old steps (Ok done)) where
     project_of : IsProject old
     project_of = laws.project held old loads
@@ -293,20 +310,25 @@ module _ (laws : HasLaws) where
       reads = reads;
       batches = accepted;
       replied = e;
-      written = λ w. subst (λ (ws : List SourceFile). loaded (after ws held) ≡ Ok done.files) (sym (ap (λ (r : Reply). r.writes) e)) (batch_loads write w);
+      written = λ w. subst (λ (ws : List SourceFile). loaded (after ws held) ≡ Ok done.files) (sym (ap (λ (r : Reply). r.writes) e))
+          (batch_loads write w);
       undone = laws.batch_undone old steps done project_of accepted;
+      asked = laws.batch_asked old steps done project_of accepted;
       runs = λ some. laws.batch_runs old steps done project_of some accepted;
     }
 
-  batch_so : (held : FileMap) (file : List ℕ) (write : Bool) (reply : Reply) → SaysTo (command.Batch file write) held reply → reply.status ≡ Done → IsBatchDone held file write reply
-  batch_so held file write reply (answers sources o (not_loaded error l) e) d = absurd (let no : Project ≡ Done = sym (ap (λ (r : Reply). r.status) e) ∙ d in cc)
+  batch_so : (held : FileMap) (file : List ℕ) (write : Bool) (reply : Reply) → SaysTo (command.Batch file write) held reply → reply.status ≡ Done
+      → IsBatchDone held file write reply
+  batch_so held file write reply (answers sources o (not_loaded error l) e) d =
+      absurd (let no : Project ≡ Done = sym (ap (λ (r : Reply). r.status) e) ∙ d in cc)
   batch_so held file write reply (answers sources o (answered files _ l may a) e) d = absurd a
   batch_so held file write reply (pends p e) d = absurd (let no : Project ≡ Done = sym (ap (λ (r : Reply). r.status) e) ∙ d in cc)
   batch_so held file write reply (batches other files b l may s) d = by (one b) s where
     one : Some file ≡ Some other → other ≡ file
     one b = cc
 
-    in_steps : (bytes : List ℕ) (steps : List Step) → batch_in held file ≡ Some bytes → IsBatch (feed_lines bytes) steps → SaysSteps (command.Batch file write) files steps reply → IsBatchDone held file write reply
+    in_steps : (bytes : List ℕ) (steps : List Step) → batch_in held file ≡ Some bytes → IsBatch (feed_lines bytes) steps
+        → SaysSteps (command.Batch file write) files steps reply → IsBatchDone held file write reply
     in_steps bytes steps f is (stopped k why a e) = absurd (no_done_refusal why (sym (ap (λ (r : Reply). r.status) e) ∙ d))
     in_steps bytes steps f is (batched done a e) = batch_is_done held file write files bytes steps done l f is a reply e
 
@@ -317,10 +339,54 @@ module _ (laws : HasLaws) where
     by same (runs bytes steps f short is s) = in_steps bytes steps (subst (λ (name : List ℕ). batch_in held name ≡ Some bytes) same f) is s
 
   -- a recovery that is done leaves what is recovered
-  recovered_so : (held : FileMap) (reply : Reply) → SaysRecovery held reply → reply.status ≡ Done → Recovers held (project_in (after reply.writes held))
+  recovered_so : (held : FileMap) (reply : Reply) → SaysRecovery held reply → reply.status ≡ Done
+      → Recovers held (project_in (after reply.writes held))
   recovered_so held reply (idle shut e) d = subst (λ (r : Reply). Recovers held (project_in (after r.writes held))) (sym e) (closed shut)
-  recovered_so held reply (finished files o p e) d = subst (λ (r : Reply). Recovers held (project_in (after r.writes held))) (sym e) (whole_again held files o p).1
+  recovered_so held reply (finished files o p e) d = subst (λ (r : Reply). Recovers held (project_in (after r.writes held))) (sym e)
+      (whole_again held files o p).1
   recovered_so held reply (lost l e) d = absurd (let no : Project ≡ Done = sym (ap (λ (r : Reply). r.status) e) ∙ d in cc)
+
+  -- the files that a list gives are a project
+  list_project : (held : FileMap) (name : List ℕ) (files : FileSet) → Lists held name (Ok files) → IsProject files
+  list_project held name files l = by (Ok files) l refl where
+    by : (result : Result FileSet ListError) → Lists held name result → result ≡ Ok files → IsProject files
+    by result (lacks_list none e) t = cc
+    by result (large_list bytes there long e) t = cc
+    by result (unread_list bytes number there short bad e) t = cc
+    by result (refused bytes given error there short gives l e) t = cc
+    by result (taken bytes given found there short gives l e) t = subst IsProject (one (sym e ∙ t)) (laws.project given found l) where
+      one : ◌≡◌ {A = Result FileSet ListError} (Ok found) (Ok files) → found ≡ files
+      one e = cc
+
+  no_done_list : (name : List ℕ) (error : ListError) (reply : Reply) → RefusesList name error reply → reply.status ≡ Done → ⊥
+  no_done_list name list_error.Read reply h d = h
+  no_done_list name (list_error.BadList number) reply h d = let no : Project ≡ Done = sym (ap (λ (r : Reply). r.status) h) ∙ d in cc
+  no_done_list name (list_error.Load why) reply h d = let no : Project ≡ Done = sym (ap (λ (r : Reply). r.status) h) ∙ d in cc
+
+  -- a `verify` that is done says yes
+  verified_so : (held : FileMap) (old new : List ℕ) (reply : Reply) → SaysVerify old new held reply → reply.status ≡ Done
+      → IsVerified held old new reply
+  verified_so held old new reply (no_list error l h) d = absurd (no_done_list old error reply h d)
+  verified_so held old new reply (listed files l s) d = by s where
+    yes : (other : FileSet) (answer : Result Verdict Refusal) → Lists held new (Ok other) → Verdicts files other answer
+        → reply ≡ judged_reply (names_of files.entries) answer → IsVerified held old new reply
+    yes other (Ok (Yes changes)) m v e = record {
+      old = files;
+      new = other;
+      changes = changes;
+      old_files = l;
+      new_files = m;
+      verdict = v;
+      replied = e;
+      valid = laws.verified files other changes (list_project held old files l) (list_project held new other m) v;
+      runs = laws.verified_runs files other changes (list_project held old files l) (list_project held new other m) v;
+    }
+    yes other (Ok (No why)) m v e = let no : Refused ≡ Done = sym (ap (λ (r : Reply). r.status) e) ∙ d in cc
+    yes other (Err why) m v e = absurd (no_done_refusal why (sym (ap (λ (r : Reply). r.status) e) ∙ d))
+
+    by : SaysAgainst files new held reply → IsVerified held old new reply
+    by (unlisted error m h) = absurd (no_done_list new error reply h d)
+    by (judged other m (answer, v, e)) = yes other answer m v e
 
   by_says : (request : Option Command) (held : FileMap) (reply : Reply) → Says request held reply → reply.status ≡ Done → IsDoneSo request held reply
   unfolding Says
@@ -328,9 +394,10 @@ module _ (laws : HasLaws) where
   by_says (Some command.Check) held reply s d = tt
   by_says (Some (command.Shape target)) held reply s d = tt
   by_says (Some (command.Rename target new write safe json)) held reply s d =
-      by_reply held target new write safe json (IsDone held target new write safe json) (λ old done l may a r e. is_done held target new write safe json old done l may a r e) reply s d
+      by_reply held target new write safe json (IsDone held target new write safe json)
+      (λ old done l may a r e. is_done held target new write safe json old done l may a r e) reply s d
   by_says (Some (command.Sample units)) held reply s d = tt
-  by_says (Some (command.Verify old new)) held reply s d = tt
+  by_says (Some (command.Verify old new)) held reply s d = verified_so held old new reply s d
   by_says (Some (command.Batch file write)) held reply s d = batch_so held file write reply s d
   by_says (Some command.Recover) held reply s d = recovered_so held reply s d
 
@@ -341,19 +408,23 @@ module _ (laws : HasLaws) where
   nothing_left (d ∷ done) rest f e = cc
 
   -- a recovery that stopped
-  stopped_recovery : (held now : FileMap) (reply : Reply) → SaysRecovery held reply → reply.status ≡ Done → StoppedWriting reply.writes (Some held) (Some now)
+  stopped_recovery : (held now : FileMap) (reply : Reply) → SaysRecovery held reply → reply.status ≡ Done
+      → StoppedWriting reply.writes (Some held) (Some now)
       → (found : FileSet) → Recovers held found → Recovers now found
   stopped_recovery held now reply (idle shut e) d halt found r =
       let none = subst (λ (x : Reply). StoppedWriting x.writes (Some held) (Some now)) e halt in
       absurd (nothing_left none.0 none.2 none.1 none.4)
-  stopped_recovery held now reply (finished files o p e) d halt found r = stopped_again held now files found o p (subst (λ (x : Reply). StoppedWriting x.writes (Some held) (Some now)) e halt) r
+  stopped_recovery held now reply (finished files o p e) d halt found r =
+      stopped_again held now files found o p (subst (λ (x : Reply). StoppedWriting x.writes (Some held) (Some now)) e halt) r
   stopped_recovery held now reply (lost l e) d halt found r = absurd (let no : Project ≡ Done = sym (ap (λ (x : Reply). x.status) e) ∙ d in cc)
 
   stopped_renaming : (held now : FileMap) (target : Target) (new : List ℕ) (write safe json : Bool) → safe ≡ true → (IsOpen held → ⊥)
-      → (reply : Reply) → SaysTo (command.Rename target new write safe json) held reply → reply.status ≡ Done → StoppedWriting reply.writes (Some held) (Some now)
+      → (reply : Reply) → SaysTo (command.Rename target new write safe json) held reply → reply.status ≡ Done
+      → StoppedWriting reply.writes (Some held) (Some now)
       → Recovers now (project_in held) ⊎ Recovers now (project_in (after reply.writes held))
   stopped_renaming held now target new write safe json s shut reply said d halt =
-      by_reply held target new write safe json (λ r. StoppedWriting r.writes (Some held) (Some now) → Recovers now (project_in held) ⊎ Recovers now (project_in (after r.writes held)))
+      by_reply held target new write safe json
+      (λ r. StoppedWriting r.writes (Some held) (Some now) → Recovers now (project_in held) ⊎ Recovers now (project_in (after r.writes held)))
       (λ old done l may a r e halted. stopped_safely held target new write safe json old done l may a r e s shut now halted) reply said d halt
 
   pub recoverable : (request : Option Command) (held now : FileMap) → TreeStopped request held (Some now) → IsRecoverable request held now
@@ -361,14 +432,17 @@ module _ (laws : HasLaws) where
   recoverable None held now t = tt
   recoverable (Some command.Check) held now t = tt
   recoverable (Some (command.Shape target)) held now t = tt
-  recoverable (Some (command.Rename target new write safe json)) held now (inl e) = λ s shut. inl (subst (λ (m : FileMap). Recovers m (project_in held)) (sym (one_of e)) (closed shut)) where
-    one_of : Some now ≡ Some held → now ≡ held
-    one_of e = cc
-  recoverable (Some (command.Rename target new write safe json)) held now (inr (reply, said, (d, halt))) = λ s shut. by (stopped_renaming held now target new write safe json s shut reply said d halt) where
-    by : Recovers now (project_in held) ⊎ Recovers now (project_in (after reply.writes held)) → Recovers now (project_in held)
-        ⊎ SomeReply (Some (command.Rename target new write safe json)) held (λ r. (r.status ≡ Done) × Recovers now (project_in (after r.writes held)))
-    by (inl r) = inl r
-    by (inr r) = inr (reply, said, (d, r))
+  recoverable (Some (command.Rename target new write safe json)) held now (inl e) =
+      λ s shut. inl (subst (λ (m : FileMap). Recovers m (project_in held)) (sym (one_of e)) (closed shut)) where
+        one_of : Some now ≡ Some held → now ≡ held
+        one_of e = cc
+  recoverable (Some (command.Rename target new write safe json)) held now (inr (reply, said, (d, halt))) =
+      λ s shut. by (stopped_renaming held now target new write safe json s shut reply said d halt) where
+        by : Recovers now (project_in held) ⊎ Recovers now (project_in (after reply.writes held)) → Recovers now (project_in held)
+            ⊎ SomeReply (Some (command.Rename target new write safe json)) held
+            (λ r. (r.status ≡ Done) × Recovers now (project_in (after r.writes held)))
+        by (inl r) = inl r
+        by (inr r) = inr (reply, said, (d, r))
   recoverable (Some (command.Sample units)) held now t = tt
   recoverable (Some (command.Verify old new)) held now t = tt
   recoverable (Some (command.Batch file write)) held now t = tt

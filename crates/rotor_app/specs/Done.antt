@@ -1,6 +1,7 @@
--- What holds of a command that is done: what a renaming keeps, that the words of its undo give the old files back, and
--- what a recovery leaves.
-use Rattle.std.specs.Prelude.{◌≡◌, ℕ, List, [], ◌∷◌, ◌++◌, ◌≢◌, ◌⊎◌, ◌||◌, Bool, true, false, Option, Some, None, Ok, codes}
+-- What holds of a command that is done: what a renaming keeps, that the words of its undo give the old files back, what
+-- a recovery leaves, and what a yes of `verify` says.
+use Rattle.std.specs.Prelude.{◌≡◌, ℕ, List, [], ◌∷◌, ◌++◌, ◌≢◌, ◌⊎◌, ◌||◌, Bool, true, false, Option, Some, None, Ok, codes, map}
+use Rattle.std.specs.Global.{Vec}
 use Rattle.std.specs.FinMap.{get}
 use Rattle.rotor_base.specs.Files.{FileSet, names_of}
 use Rattle.rotor_base.specs.Lines.{feed_lines}
@@ -9,6 +10,7 @@ use Rattle.rotor_base.specs.declared.report.Renamed.{Renamed}
 use Rattle.rotor_base.specs.declared.target.Target.{Target}
 use Rattle.tree_io.specs.Outside.{FileMap}
 use Rattle.project_load.specs.Load.{loaded}
+use Rattle.project_load.specs.Listed.{Lists}
 use Rattle.project_load.specs.Rewritten.{after}
 use Rattle.apply_journal.specs.Recovered.{plan_name, gate_name, IsOpen, project_in, Recovers}
 use Rattle.report.specs.Pieces.{place_text}
@@ -20,12 +22,17 @@ use Rattle.rename_files.specs.Answer.{Renames}
 use Rattle.rename_batch.specs.declared.step.Step.{Step}
 use Rattle.rename_batch.specs.declared.step.Batched.{Batched}
 use Rattle.rename_batch.specs.Batch.{Batches, undo_steps}
-use Rattle.rename_batch.specs.Reading.{IsBatch}
+use Rattle.rename_batch.specs.Reading.{AreSteps, IsBatch}
+use Rattle.rename_batch.specs.Text.{undo_words}
 use Rattle.rename_laws.specs.Laws.{IsValidFor, KeepsFacts, KeepsRuns, IsLeastFor}
+use Rattle.rename_verify.specs.declared.verdict.Verdict.TheVariants.{Yes}
+use Rattle.rename_verify.specs.Changed.{Changed}
+use Rattle.rename_verify.specs.Verdict.{Verdicts}
+use Rattle.rename_verify.specs.Laws.{AreValidlyRespelled}
 use Rattle.rotor_app.specs.declared.status.Status.TheVariants.{Done}
 use Rattle.rotor_app.specs.declared.reply.Reply.{Reply}
-use Rattle.rotor_app.specs.Words.{command_in}
-use Rattle.rotor_app.specs.Said.{reply_by, batched_reply, batch_in, SomeReply}
+use Rattle.cli_words.specs.Words.{command_of}
+use Rattle.rotor_app.specs.Said.{reply_by, batched_reply, judged_reply, batch_in, SomeReply}
 
 -- the words `rename PLACE NAME --write`
 abbrev pub rename_words : List ℕ → List ℕ → List (List ℕ)
@@ -41,7 +48,8 @@ EndsWithUndo names done reply = (front : List ℕ) × (reply.text ≡ front ++ e
 
 -- the words over the new files are done, and give the old files back
 abbrev pub GivesBack : List (List ℕ) → FileMap → Reply → Type 0
-GivesBack words held reply = SomeReply (command_in words) (after reply.writes held) (λ back. (back.status ≡ Done) × (after back.writes (after reply.writes held) ≡ held))
+GivesBack words held reply =
+    SomeReply (command_of words) (after reply.writes held) (λ back. (back.status ≡ Done) × (after back.writes (after reply.writes held) ≡ held))
 
 -- the folders hold the same, but for the plan and the gate
 abbrev pub AreSameButForPlan : FileMap → FileMap → Type 0
@@ -49,7 +57,9 @@ AreSameButForPlan one other = (name : List ℕ) → name ≢ plan_name → name 
 
 -- the words over the new files are done, and give every old file back
 abbrev pub GivesFilesBack : List (List ℕ) → FileMap → Reply → Type 0
-GivesFilesBack words held reply = SomeReply (command_in words) (after reply.writes held) (λ back. (back.status ≡ Done) × AreSameButForPlan held (after back.writes (after reply.writes held)))
+GivesFilesBack words held reply =
+    SomeReply (command_of words) (after reply.writes held)
+    (λ back. (back.status ≡ Done) × AreSameButForPlan held (after back.writes (after reply.writes held)))
 
 -- a renaming of the files that a folder loads as is done, and the reply is that of its outcome
 pub record IsDone (held : FileMap) (target : Target) (new : List ℕ) (write safe json : Bool) (reply : Reply) : Type 0 where
@@ -67,7 +77,8 @@ pub record IsDone (held : FileMap) (target : Target) (new : List ℕ) (write saf
   pub back : write ≡ true → safe ≡ false → GivesBack (undo_of (names_of old.entries) done) held reply
   pub safe_back : safe ≡ true → GivesFilesBack (undo_of (names_of old.entries) done) held reply
 
--- a batch over the files that a folder loads as is done, and the reply is its
+-- A batch over the files that a folder loads as is done, and the reply is its. What the report prints behind `undo `
+-- requests the steps back.
 pub record IsBatchDone (held : FileMap) (file : List ℕ) (write : Bool) (reply : Reply) : Type 0 where
   pub old : FileSet
   pub bytes : List ℕ
@@ -80,16 +91,29 @@ pub record IsBatchDone (held : FileMap) (file : List ℕ) (write : Bool) (reply 
   pub replied : reply ≡ batched_reply (command.Batch file write) (names_of old.entries) done
   pub written : write ≡ true → loaded (after reply.writes held) ≡ Ok done.files
   pub undone : (back : Batched) × Batches done.files (undo_steps (names_of done.files.entries) done.undo) (Ok back) × (back.files ≡ old)
+  pub asked : AreSteps (map (undo_words (names_of done.files.entries)) done.undo) (undo_steps (names_of done.files.entries) done.undo)
   pub runs : steps ≢ [] → KeepsRuns old done.files
 
--- of a reply that is done to what the words ask for
+-- `verify` is done: its lists give two projects, and the second is a valid respelling of the first, which keeps the runs
+pub record IsVerified (held : FileMap) (old_name new_name : List ℕ) (reply : Reply) : Type 0 where
+  pub old : FileSet
+  pub new : FileSet
+  pub changes : Vec Changed
+  pub old_files : Lists held old_name (Ok old)
+  pub new_files : Lists held new_name (Ok new)
+  pub verdict : Verdicts old new (Ok (Yes changes))
+  pub replied : reply ≡ judged_reply (names_of old.entries) (Ok (Yes changes))
+  pub valid : AreValidlyRespelled old new changes.items
+  pub runs : KeepsRuns old new
+
+-- what holds of a reply that is done to a command
 abbrev pub IsDoneSo : Option Command → FileMap → Reply → Type 0
 IsDoneSo None held reply = Unit {0}
 IsDoneSo (Some command.Check) held reply = Unit {0}
 IsDoneSo (Some (command.Shape target)) held reply = Unit {0}
 IsDoneSo (Some (command.Rename target name write safe json)) held reply = IsDone held target name write safe json reply
 IsDoneSo (Some (command.Sample units)) held reply = Unit {0}
-IsDoneSo (Some (command.Verify old new)) held reply = Unit {0}
+IsDoneSo (Some (command.Verify old new)) held reply = IsVerified held old new reply
 IsDoneSo (Some (command.Batch file write)) held reply = IsBatchDone held file write reply
 IsDoneSo (Some command.Recover) held reply = Recovers held (project_in (after reply.writes held))
 
@@ -101,7 +125,8 @@ IsRecoverable (Some command.Check) held now = Unit {0}
 IsRecoverable (Some (command.Shape target)) held now = Unit {0}
 IsRecoverable (Some (command.Rename target name write safe json)) held now =
     safe ≡ true → (IsOpen held → ⊥) → Recovers now (project_in held)
-    ⊎ SomeReply (Some (command.Rename target name write safe json)) held (λ reply. (reply.status ≡ Done) × Recovers now (project_in (after reply.writes held)))
+    ⊎ SomeReply (Some (command.Rename target name write safe json)) held
+    (λ reply. (reply.status ≡ Done) × Recovers now (project_in (after reply.writes held)))
 IsRecoverable (Some (command.Sample units)) held now = Unit {0}
 IsRecoverable (Some (command.Verify old new)) held now = Unit {0}
 IsRecoverable (Some (command.Batch file write)) held now = Unit {0}

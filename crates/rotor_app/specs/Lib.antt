@@ -3,3 +3,4 @@ pub mod Status
 pub mod Table
 pub mod Words
 pub mod Done
+pub mod Laws

@@ -1,5 +1,6 @@
 -- What the program answers to its words over the files of a folder, and what the folder holds after it.
-use Rattle.std.specs.Prelude.{ℕ, List, [], ◌++◌, ◌≡◌, ◌≢◌, ◌<◌, ◌≤◌, ◌||◌, Bool, true, false, if◌then◌else◌, Option, Some, None, Result, Ok, Err, length, codes}
+use Rattle.std.specs.Prelude.{ℕ, List, [], ◌++◌, ◌≡◌, ◌≢◌, ◌<◌, ◌≤◌, ◌||◌, Bool, true, false, if◌then◌else◌, Option, Some, None, Result, Ok, Err}
+use Rattle.std.specs.Prelude.{length, codes}
 use Rattle.std.specs.Fmt.{decimal}
 use Rattle.std.specs.FinMap.{get}
 use Rattle.std.specs.Str.{bytes_eq}
@@ -20,6 +21,9 @@ use Rattle.rotor_base.specs.declared.report.Outcome.TheVariants as outcome
 use Rattle.rotor_base.specs.declared.source.SourceFile.{SourceFile}
 use Rattle.tree_io.specs.Outside.{FileMap}
 use Rattle.project_load.specs.Load.{loaded}
+use Rattle.project_load.specs.Listed.{Lists}
+use Rattle.project_load.specs.declared.error.ListError.{ListError}
+use Rattle.project_load.specs.declared.error.ListError.TheVariants as list_error
 use Rattle.project_load.specs.Rewritten.{files_at}
 use Rattle.apply_journal.specs.Plan.{line}
 use Rattle.apply_journal.specs.Recovered.{IsOpen, HoldsPlan, IsLost, plan_writes, safe_writes}
@@ -35,6 +39,10 @@ use Rattle.rename_batch.specs.declared.step.Batched.{Batched}
 use Rattle.rename_batch.specs.Batch.{Batches}
 use Rattle.rename_batch.specs.Reading.{IsBatch, IsBadLine}
 use Rattle.rename_batch.specs.Text.{batch_text}
+use Rattle.rename_verify.specs.declared.verdict.Verdict.{Verdict}
+use Rattle.rename_verify.specs.declared.verdict.Verdict.TheVariants.{Yes, No}
+use Rattle.rename_verify.specs.Verdict.{Verdicts}
+use Rattle.rename_verify.specs.Text.{verdict_text}
 use Rattle.sample_project.specs.Sample.{Samples}
 use Rattle.rotor_app.specs.declared.status.Status.{Status}
 use Rattle.rotor_app.specs.declared.status.Status.TheVariants.{Done, Refused, Usage, Project, TreeFault, SinkFault, Memory}
@@ -127,6 +135,24 @@ abbrev pub batched_reply : Command → List (List ℕ) → Batched → Reply
 batched_reply c names batched =
     reply_of Done (if is_writing c then files_at batched.files.entries batched.changed else []) (batch_text names batched)
 
+-- the reply to a list whose line of this number is bad
+abbrev pub bad_list : List ℕ → ℕ → Reply
+bad_list name number = reply_of Project [] (codes "project: badlist " ++ name ++ codes " " ++ line (decimal number))
+
+-- the reply to a list whose files are not taken as a project's
+abbrev pub unloaded_list : LoadError → Reply
+unloaded_list why = reply_of Project [] (text_of [] (outcome.NotLoaded why))
+
+-- a yes is Done, and a no is Refused
+abbrev pub status_of_verdict : Verdict → Status
+status_of_verdict (Yes changes) = Done
+status_of_verdict (No why) = Refused
+
+-- the reply to an answer of `verify`, in old files of these names
+abbrev pub judged_reply : List (List ℕ) → Result Verdict Refusal → Reply
+judged_reply names (Ok verdict) = reply_of (status_of_verdict verdict) [] (verdict_text names verdict)
+judged_reply names (Err why) = reply_of (status_of_refusal why) [] (text_of names (outcome.Refused why))
+
 -- the text of a recovery that wrote so many files
 abbrev pub recovered_text : ℕ → List ℕ
 recovered_text count = codes "recovered " ++ line (decimal count)
@@ -142,7 +168,8 @@ as_outcome f (Err r) = outcome.Refused r
 abbrev pub Answers : Command → FileSet → Outcome → Type 0
 Answers command.Check files o = (r : Result Counts Refusal) × Checks files r × (o ≡ as_outcome outcome.Checked r)
 Answers (command.Shape target) files o = (r : Result FootReport Refusal) × Shows files target r × (o ≡ as_outcome outcome.Shown r)
-Answers (command.Rename target name write safe json) files o = (r : Result Renamed Refusal) × Renames files target name r × (o ≡ as_outcome outcome.Done r)
+Answers (command.Rename target name write safe json) files o = (r : Result Renamed Refusal) × Renames files target name r
+    × (o ≡ as_outcome outcome.Done r)
 Answers (command.Sample units) files o = ⊥
 Answers (command.Verify old new) files o = ⊥
 Answers (command.Batch file write) files o = ⊥
@@ -160,7 +187,8 @@ Permits c held false = (asks_gate c ≡ true) × IsOpen held
 -- the outcome of a command over a folder, with the names that its places number
 pub data IsAnswer (held : FileMap) (c : Command) : List (List ℕ) → Outcome → Type 0 where
   not_loaded : (error : LoadError) → loaded held ≡ Err error → IsAnswer held c [] (outcome.NotLoaded error)
-  answered : (files : FileSet) (o : Outcome) → loaded held ≡ Ok files → MayWrite c held → Answers c files o → IsAnswer held c (names_of files.entries) o
+  answered : (files : FileSet) (o : Outcome) → loaded held ≡ Ok files → MayWrite c held → Answers c files o
+      → IsAnswer held c (names_of files.entries) o
 
 -- the folder loads, the command writes, and the gate is open (Pending)
 pub record IsPending (c : Command) (held : FileMap) : Type 0 where
@@ -175,29 +203,55 @@ batch_in held file = if is_source_name file || bytes_eq file (codes "rotor.units
 
 -- a reply to a batch of these steps over the files of a project
 pub data SaysSteps (c : Command) (files : FileSet) (steps : List Step) (reply : Reply) : Type 0 where
-  stopped : (step : ℕ) (why : Refusal) → Batches files steps (Err (At step why)) → reply ≡ stopped_batch (names_of files.entries) step why → SaysSteps c files steps reply
+  stopped : (step : ℕ) (why : Refusal) → Batches files steps (Err (At step why)) → reply ≡ stopped_batch (names_of files.entries) step why
+      → SaysSteps c files steps reply
   batched : (done : Batched) → Batches files steps (Ok done) → reply ≡ batched_reply c (names_of files.entries) done → SaysSteps c files steps reply
 
 -- a reply to a batch in a file that holds these bytes
 pub data SaysBatch (c : Command) (file : List ℕ) (found : Option (List ℕ)) (files : FileSet) (reply : Reply) : Type 0 where
   lacks : found ≡ None → reply ≡ bad_batch 0 → SaysBatch c file found files reply
-  large : (bytes : List ℕ) → found ≡ Some bytes → max_file_bytes < length bytes → reply ≡ reply_by c [] (outcome.NotLoaded (TooLarge file)) → SaysBatch c file found files reply
-  unread : (bytes : List ℕ) (number : ℕ) → found ≡ Some bytes → length bytes ≤ max_file_bytes → IsBadLine (feed_lines bytes) number → reply ≡ bad_batch number
+  large : (bytes : List ℕ) → found ≡ Some bytes → max_file_bytes < length bytes → reply ≡ reply_by c [] (outcome.NotLoaded (TooLarge file))
       → SaysBatch c file found files reply
-  runs : (bytes : List ℕ) (steps : List Step) → found ≡ Some bytes → length bytes ≤ max_file_bytes → IsBatch (feed_lines bytes) steps → SaysSteps c files steps reply
+  unread : (bytes : List ℕ) (number : ℕ) → found ≡ Some bytes → length bytes ≤ max_file_bytes → IsBadLine (feed_lines bytes) number
+      → reply ≡ bad_batch number
+      → SaysBatch c file found files reply
+  runs : (bytes : List ℕ) (steps : List Step) → found ≡ Some bytes → length bytes ≤ max_file_bytes → IsBatch (feed_lines bytes) steps
+      → SaysSteps c files steps reply
       → SaysBatch c file found files reply
 
 -- a reply to a command over the files of a folder
 pub data SaysTo (c : Command) (held : FileMap) (reply : Reply) : Type 0 where
   answers : (names : List (List ℕ)) (o : Outcome) → IsAnswer held c names o → reply ≡ reply_by c names o → SaysTo c held reply
   pends : IsPending c held → reply ≡ pending_reply c → SaysTo c held reply
-  batches : (file : List ℕ) (files : FileSet) → batch_file c ≡ Some file → loaded held ≡ Ok files → MayWrite c held → SaysBatch c file (batch_in held file) files reply → SaysTo c held reply
+  batches : (file : List ℕ) (files : FileSet) → batch_file c ≡ Some file → loaded held ≡ Ok files → MayWrite c held
+      → SaysBatch c file (batch_in held file) files reply → SaysTo c held reply
 
 -- a reply to `recover`
 pub data SaysRecovery (held : FileMap) (reply : Reply) : Type 0 where
   idle : (IsOpen held → ⊥) → reply ≡ reply_of Done [] (codes "nothing to recover\n") → SaysRecovery held reply
-  finished : (files : List SourceFile) → IsOpen held → HoldsPlan held files → reply ≡ reply_of Done (plan_writes files) (recovered_text (length files)) → SaysRecovery held reply
+  finished : (files : List SourceFile) → IsOpen held → HoldsPlan held files
+      → reply ≡ reply_of Done (plan_writes files) (recovered_text (length files)) → SaysRecovery held reply
   lost : IsLost held → reply ≡ reply_of Project [] (codes "project: badplan\n") → SaysRecovery held reply
+
+-- a reply to a list that gives no project
+abbrev pub RefusesList : List ℕ → ListError → Reply → Type 0
+RefusesList name list_error.Read reply = ⊥
+RefusesList name (list_error.BadList number) reply = reply ≡ bad_list name number
+RefusesList name (list_error.Load why) reply = reply ≡ unloaded_list why
+
+-- a reply to the verdict on two projects
+abbrev pub IsJudged : FileSet → FileSet → Reply → Type 0
+IsJudged old new reply = (answer : Result Verdict Refusal) × Verdicts old new answer × (reply ≡ judged_reply (names_of old.entries) answer)
+
+-- a reply to `verify` of these old files and a list of the new ones
+pub data SaysAgainst (old : FileSet) (name : List ℕ) (held : FileMap) (reply : Reply) : Type 0 where
+  unlisted : (error : ListError) → Lists held name (Err error) → RefusesList name error reply → SaysAgainst old name held reply
+  judged : (new : FileSet) → Lists held name (Ok new) → IsJudged old new reply → SaysAgainst old name held reply
+
+-- a reply to `verify` of a list of the old files and a list of the new ones
+pub data SaysVerify (old new : List ℕ) (held : FileMap) (reply : Reply) : Type 0 where
+  no_list : (error : ListError) → Lists held old (Err error) → RefusesList old error reply → SaysVerify old new held reply
+  listed : (files : FileSet) → Lists held old (Ok files) → SaysAgainst files new held reply → SaysVerify old new held reply
 
 -- a renaming that is done lists what it changed
 abbrev pub ListsDone : Outcome → Type 0
@@ -217,14 +271,14 @@ IsSampled units o = (r : Result SampleReport Refusal) × Samples units r × (o �
 abbrev pub SaysSample : ℕ → Reply → Type 0
 SaysSample units reply = (o : Outcome) × IsSampled units o × (reply ≡ reply_by (command.Sample units) [] o)
 
--- what is said to what the words ask for, over the files of a folder
+-- what is said to a command over the files of a folder; without a command, the usage
 unfoldable pub Says : Option Command → FileMap → Reply → Type 0
 Says None held reply = reply ≡ usage_reply
 Says (Some command.Check) held reply = SaysTo command.Check held reply
 Says (Some (command.Shape target)) held reply = SaysTo (command.Shape target) held reply
 Says (Some (command.Rename target name write safe json)) held reply = SaysTo (command.Rename target name write safe json) held reply
 Says (Some (command.Sample units)) held reply = SaysSample units reply
-Says (Some (command.Verify old new)) held reply = ⊥
+Says (Some (command.Verify old new)) held reply = SaysVerify old new held reply
 Says (Some (command.Batch file write)) held reply = SaysTo (command.Batch file write) held reply
 Says (Some command.Recover) held reply = SaysRecovery held reply
 
@@ -248,7 +302,7 @@ SaysAlone (Some command.Recover) reply = ⊥
 abbrev pub SomeReply : Option Command → FileMap → (Reply → Type 0) → Type 0
 SomeReply request files P = (reply : Reply) × Says request files reply × P reply
 
--- a status that a reply has: files are written only where it is Done
+-- a status that a reply has: files are written only if it is Done
 abbrev pub IsReply : Status → List SourceFile → Type 0
 IsReply Done writes = Unit {0}
 IsReply Refused writes = writes ≡ []

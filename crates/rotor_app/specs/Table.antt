@@ -27,7 +27,7 @@ pub record IsAsSaid (reply : Reply) (held : FileMap) (before now : Seen) (ended 
   pub files : now.content ≡ Some (after reply.writes held)
   pub text : Takes reply.text before.taken now.taken
 
--- the call returns the status only where the count rose, and always where the count is greater afterwards
+-- the call returns the status only if the count rose, and always if the count is greater afterwards
 pub record IsFault (fault : Status) (before now : ℕ) (status : Status) : Type 0 where
   pub later : before ≤ now
   pub only : status ≡ fault → Rose before now
@@ -35,7 +35,8 @@ pub record IsFault (fault : Status) (before now : ℕ) (status : Status) : Type 
 
 -- the folder failed: nothing was written, or the reply is done and a write failed
 abbrev pub TreeStopped : Option Command → FileMap → Option FileMap → Type 0
-TreeStopped request files now = (now ≡ Some files) ⊎ SomeReply request files (λ reply. (reply.status ≡ Done) × StoppedWriting reply.writes (Some files) now)
+TreeStopped request files now =
+    (now ≡ Some files) ⊎ SomeReply request files (λ reply. (reply.status ≡ Done) × StoppedWriting reply.writes (Some files) now)
 
 -- the output failed: the folder is as with the status of the reply, and a prefix of the text was taken
 pub record SinkStopped (reply : Reply) (held : FileMap) (before now : Seen) : Type 0 where
@@ -76,48 +77,60 @@ pub record SinkFailed (text : List ℕ) (before now : Seen) : Type 0 where
   pub rose : Rose before.sink_faults now.sink_faults
   pub taken : TakesPrefix text before.taken now.taken
 
--- the reply to what the words ask for
+-- the reply to a command
 pub record IsReplyTo (request : Option Command) (before : Seen) (reply : Reply) : Type 0 where
   pub kind : IsReply reply.status reply.writes
   pub said : (files : FileMap) → before.content ≡ Some files → Says request files reply
   pub alone : AsksNothing request → SaysAlone request reply
   pub usage : reply.status ≡ Usage → request ≡ None
 
--- How a call of the program ends. `request` is what the words ask for; `tree_same` and `sink_same` say that the folder
+-- How a call of the program ends. `request` is the command of the words; `tree_same` and `sink_same` say that the folder
 -- and the output are as they were.
 pub data Ending (request : Option Command) (before now : Seen) (tree_same sink_same : Type 0) (status : Status) : Type 0 where
   -- a read failed
-  unread : (AsksNothing request → ⊥) → status ≡ TreeFault → before.faults ≤ now.faults → Rose before.faults now.faults → now.content ≡ before.content → sink_same → SinkRests before now → Ending request before now tree_same sink_same status
+  unread : (AsksNothing request → ⊥) → status ≡ TreeFault → before.faults ≤ now.faults → Rose before.faults now.faults → now.content ≡ before.content
+      → sink_same → SinkRests before now → Ending request before now tree_same sink_same status
   -- there was no memory
-  wanting : (AsksNothing request → tree_same) → status ≡ Memory → TreeRests before now → sink_same → SinkRests before now → Ending request before now tree_same sink_same status
+  wanting : (AsksNothing request → tree_same) → status ≡ Memory → TreeRests before now → sink_same → SinkRests before now
+      → Ending request before now tree_same sink_same status
   -- the reply was carried out
-  carried : (AsksNothing request → tree_same) → (reply : Reply) → IsReplyTo request before reply → status ≡ reply.status → now.faults ≡ before.faults → Written reply.writes before.content now.content
+  carried : (AsksNothing request → tree_same) → (reply : Reply) → IsReplyTo request before reply → status ≡ reply.status → now.faults ≡ before.faults
+      → Written reply.writes before.content now.content
       → SinkTook reply.text before now → Ending request before now tree_same sink_same status
   -- a write failed
   unwritten : (reply : Reply) → IsReplyTo request before reply → status ≡ TreeFault → before.faults ≤ now.faults → Rose before.faults now.faults
-      → StoppedWriting reply.writes before.content now.content → sink_same → SinkRests before now → Ending request before now tree_same sink_same status
+      → StoppedWriting reply.writes before.content now.content → sink_same → SinkRests before now
+      → Ending request before now tree_same sink_same status
   -- the put failed
-  unput : (AsksNothing request → tree_same) → (reply : Reply) → IsReplyTo request before reply → status ≡ SinkFault → now.faults ≡ before.faults → Written reply.writes before.content now.content
+  unput : (AsksNothing request → tree_same) → (reply : Reply) → IsReplyTo request before reply → status ≡ SinkFault → now.faults ≡ before.faults
+      → Written reply.writes before.content now.content
       → SinkFailed reply.text before now → Ending request before now tree_same sink_same status
 
 -- a text was put, and the call ends with this status, or the put failed
-pub data Put (text : List ℕ) (wanted : Status) (faults_before faults_now : ℕ) (taken_before taken_now : Option (List ℕ)) (status : Status) : Type 0 where
-  taken : status ≡ wanted → faults_now ≡ faults_before → Takes text taken_before taken_now → Put text wanted faults_before faults_now taken_before taken_now status
-  failed : status ≡ SinkFault → faults_before ≤ faults_now → Rose faults_before faults_now → TakesPrefix text taken_before taken_now → Put text wanted faults_before faults_now taken_before taken_now status
+pub data Put (text : List ℕ) (wanted : Status) (faults_before faults_now : ℕ) (taken_before taken_now : Option (List ℕ))
+    (status : Status) : Type 0 where
+  taken : status ≡ wanted → faults_now ≡ faults_before → Takes text taken_before taken_now
+      → Put text wanted faults_before faults_now taken_before taken_now status
+  failed : status ≡ SinkFault → faults_before ≤ faults_now → Rose faults_before faults_now → TakesPrefix text taken_before taken_now
+      → Put text wanted faults_before faults_now taken_before taken_now status
 
 -- a reply was carried out, or a write failed, or the put
 pub data Carried (reply : Reply) (before now : Seen) (sink_same : Type 0) (status : Status) : Type 0 where
-  whole : status ≡ reply.status → now.faults ≡ before.faults → Written reply.writes before.content now.content → SinkTook reply.text before now → Carried reply before now sink_same status
-  write_failed : status ≡ TreeFault → before.faults ≤ now.faults → Rose before.faults now.faults → StoppedWriting reply.writes before.content now.content → sink_same → SinkRests before now → Carried reply before now sink_same status
-  put_failed : status ≡ SinkFault → now.faults ≡ before.faults → Written reply.writes before.content now.content → SinkFailed reply.text before now → Carried reply before now sink_same status
+  whole : status ≡ reply.status → now.faults ≡ before.faults → Written reply.writes before.content now.content → SinkTook reply.text before now
+      → Carried reply before now sink_same status
+  write_failed : status ≡ TreeFault → before.faults ≤ now.faults → Rose before.faults now.faults
+      → StoppedWriting reply.writes before.content now.content → sink_same → SinkRests before now → Carried reply before now sink_same status
+  put_failed : status ≡ SinkFault → now.faults ≡ before.faults → Written reply.writes before.content now.content → SinkFailed reply.text before now
+      → Carried reply before now sink_same status
 
--- there was no memory, or there is a reply that is said, and where the output takes its text the status is its
+-- there was no memory, or there is a reply that is said, and if the output takes its text the status is its
 abbrev pub IsComplete : Option Command → FileMap → (ℕ → Type 0) → Status → Type 0
 IsComplete request files accepts status = (status ≡ Memory) ⊎ SomeReply request files (λ reply. accepts (length reply.text) → status ≡ reply.status)
 
 -- a reply without a folder was carried out
 abbrev pub AnsweredAlone : Option Command → Seen → Seen → Status → Type 0
-AnsweredAlone request before now status = (reply : Reply) × SaysAlone request reply × (status ≡ reply.status) × Takes reply.text before.taken now.taken
+AnsweredAlone request before now status = (reply : Reply) × SaysAlone request reply × (status ≡ reply.status)
+    × Takes reply.text before.taken now.taken
 
 -- a prefix of the text of such a reply was taken
 abbrev pub CutAlone : Option Command → Seen → Seen → Type 0

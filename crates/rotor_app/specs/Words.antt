@@ -1,18 +1,7 @@
--- The commands that the program has, and what the words ask for.
-use Rattle.std.specs.Prelude.{ℕ, List, Bool, true, false, not, ◌&&◌, ◌||◌, Option, Some, None, is_none, option_and_then, if◌then◌else◌}
+-- What a command needs of the folder, and what it puts.
+use Rattle.std.specs.Prelude.{ℕ, List, Bool, true, false, not, ◌&&◌, ◌||◌, Option, Some, None, is_none}
 use Rattle.cli_words.specs.declared.command.Command.{Command}
 use Rattle.cli_words.specs.declared.command.Command.TheVariants as command
-use Rattle.cli_words.specs.Words.{command_of}
-
--- words that ask for another command have none of the forms, as the usage line says
-abbrev pub is_ready : Command → Bool
-is_ready command.Check = true
-is_ready (command.Shape target) = true
-is_ready (command.Rename target name write safe json) = true
-is_ready (command.Sample units) = true
-is_ready (command.Verify old new) = false
-is_ready (command.Batch file write) = true
-is_ready command.Recover = true
 
 -- the number of units of `sample`, which does not call the folder
 abbrev pub sampled_units : Command → Option ℕ
@@ -44,18 +33,21 @@ batch_file (command.Verify old new) = None
 batch_file (command.Batch file write) = Some file
 batch_file command.Recover = None
 
+-- the lists of `verify`: of the old project, and of the new one
+abbrev pub verified_lists : Command → Option (List ℕ × List ℕ)
+verified_lists command.Check = None
+verified_lists (command.Shape target) = None
+verified_lists (command.Rename target name write safe json) = None
+verified_lists (command.Sample units) = None
+verified_lists (command.Verify old new) = Some (old, new)
+verified_lists (command.Batch file write) = None
+verified_lists command.Recover = None
+
 -- the commands over the files that the folder loads as
 abbrev pub asks_folder : Command → Bool
-asks_folder c = is_ready c && is_none (sampled_units c) && not (is_recovery c)
+asks_folder c = is_none (sampled_units c) && is_none (verified_lists c) && not (is_recovery c)
 
-abbrev pub if_ready : Command → Option Command
-if_ready c = if is_ready c then Some c else None
-
--- what the words ask for
-abbrev pub command_in : List (List ℕ) → Option Command
-command_in words = option_and_then if_ready (command_of words)
-
--- the command puts JSON, and it writes
+-- the command puts JSON
 abbrev pub puts_json : Command → Bool
 puts_json command.Check = false
 puts_json (command.Shape target) = false
@@ -65,6 +57,7 @@ puts_json (command.Verify old new) = false
 puts_json (command.Batch file write) = false
 puts_json command.Recover = false
 
+-- the command writes the changed files
 abbrev pub is_writing : Command → Bool
 is_writing command.Check = false
 is_writing (command.Shape target) = false
@@ -84,6 +77,6 @@ is_safe (command.Verify old new) = false
 is_safe (command.Batch file write) = false
 is_safe command.Recover = false
 
--- the command writes in either way, so it asks first whether the gate is open
+-- the command writes in either way, so the gate has to be closed
 abbrev pub asks_gate : Command → Bool
 asks_gate c = is_writing c || is_safe c

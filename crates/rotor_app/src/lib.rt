@@ -6,6 +6,7 @@ mod outcome;
 mod reply;
 mod status;
 mod top;
+mod verify;
 mod words;
 
 pub use reply::Reply;

@@ -65,7 +65,7 @@ fn sample_outcome(alloc: Global, units: u32) -> Result<Outcome, Memory>
 }
 
 /// The outcome of a refusal. Want of memory is none.
-fn refused(refusal: Refusal) -> Result<Outcome, Memory>
+pub fn refused(refusal: Refusal) -> Result<Outcome, Memory>
     ensures { IfOk result (λ o. (o ≡ Outcome.Refused refusal) × (refusal ≢ Refusal.Memory)) }
 {
     match refusal {

@@ -3,14 +3,18 @@ ghost use Rattle.std.specs.Prelude.{◌≡◌, ◌<◌, ◌≤◌, ◌^◌, ◌�
 ghost use Rattle.tree_io.specs.Outside.{HasCause, StaysSteady};
 ghost use Rattle.rotor_base.specs.Files.{names_of};
 ghost use Rattle.project_load.specs.Load.{IsOutside, loaded};
-ghost use Rattle.rotor_app.specs.Words.{asks_folder, asks_gate, batch_file, command_in, is_ready, sampled_units};
+ghost use Rattle.cli_words.specs.Words.{command_of};
+ghost use Rattle.rotor_app.specs.Words.{asks_folder, asks_gate, batch_file, sampled_units};
 ghost use Rattle.rotor_app.specs.Said.{Answers, Permits, pending_reply, recovered_text, reply_by, reply_of, SaysTo, SaysRecovery, IsReply, Says, SaysAlone, AsksNothing};
 ghost use Rattle.tree_writes.specs.Writes.{HasRoom};
 
 use crate::batch::batch_reply;
 use crate::outcome::{outcome_of, reply_by, sample_reply, source_names, usage};
 use crate::status::Status;
-use crate::words::{asks_gate, batch_file, command_in, is_recovery, puts_json, sampled_units};
+use crate::verify::verify_reply;
+use crate::words::{
+    asks_gate, batch_file, command_in, is_recovery, puts_json, sampled_units, verified_lists,
+};
 use apply_journal::{RecoverError, gate_open, read_recovery};
 use cli_words::Command;
 use project_load::load;
@@ -37,11 +41,11 @@ pub struct Reply {
 /// form and for `sample` it does not call the folder.
 pub fn decide<T: Tree>(alloc: Global, words: &[String], tree: &mut T) -> Result<Reply, TreeError>
     ensures kind { IfOk result (λ reply. IsReply reply.status reply.writes) }
-    ensures said { IfOk result (λ reply. IfSome (T.content tree.old) (λ files. Says (command_in (map string_bytes words.now)) files reply)) }
-    ensures said_alone { IfOk result (λ reply. AsksNothing (command_in (map string_bytes words.now)) → SaysAlone (command_in (map string_bytes words.now)) reply) }
-    ensures usage { IfOk result (λ reply. reply.status ≡ Status.Usage → command_in (map string_bytes words.now) ≡ None) }
-    ensures alone { AsksNothing (command_in (map string_bytes words.now)) → tree.new ≡ tree.old }
-    ensures read { IsErrOf result TreeError.Failed → AsksNothing (command_in (map string_bytes words.now)) → ⊥ }
+    ensures said { IfOk result (λ reply. IfSome (T.content tree.old) (λ files. Says (command_of (map string_bytes words.now)) files reply)) }
+    ensures said_alone { IfOk result (λ reply. AsksNothing (command_of (map string_bytes words.now)) → SaysAlone (command_of (map string_bytes words.now)) reply) }
+    ensures usage { IfOk result (λ reply. reply.status ≡ Status.Usage → command_of (map string_bytes words.now) ≡ None) }
+    ensures alone { AsksNothing (command_of (map string_bytes words.now)) → tree.new ≡ tree.old }
+    ensures read { IsErrOf result TreeError.Failed → AsksNothing (command_of (map string_bytes words.now)) → ⊥ }
     ensures content { T.content tree.new ≡ T.content tree.old }
     ensures room { IfOk result (λ reply. HasRoom (T.room_for tree.new) reply.writes) }
     ensures cause { HasCause (T.faults tree.old) (T.faults tree.new) result }
@@ -58,8 +62,7 @@ pub fn decide<T: Tree>(alloc: Global, words: &[String], tree: &mut T) -> Result<
 
 /// The answer to a command, from the folder, with its room.
 fn folder_reply<T: Tree>(alloc: Global, command: &Command, tree: &mut T) -> Result<Reply, TreeError>
-    requires ready { is_ready command.now ≡ true }
-    requires asks { sampled_units command.now ≡ None }
+    requires { sampled_units command.now ≡ None }
     ensures kind { IfOk result (λ reply. IsReply reply.status reply.writes) }
     ensures no_usage { IfOk result (λ reply. reply.status ≡ Status.Usage → ⊥) }
     ensures said { IfOk result (λ reply. IfSome (T.content tree.old) (λ held. Says (Some command.now) held reply)) }
@@ -71,6 +74,23 @@ fn folder_reply<T: Tree>(alloc: Global, command: &Command, tree: &mut T) -> Resu
     if is_recovery(command) {
         return recovery_reply(alloc, tree);
     }
+    match verified_lists(command) {
+        Some((old, new)) => verify_reply(alloc, old, new, tree),
+        None => roomy_reply(alloc, command, tree),
+    }
+}
+
+/// The reply to a command, from the files that the folder loads as, with its room.
+fn roomy_reply<T: Tree>(alloc: Global, command: &Command, tree: &mut T) -> Result<Reply, TreeError>
+    requires { asks_folder command.now ≡ true }
+    ensures kind { IfOk result (λ reply. IsReply reply.status reply.writes) }
+    ensures no_usage { IfOk result (λ reply. reply.status ≡ Status.Usage → ⊥) }
+    ensures said { IfOk result (λ reply. IfSome (T.content tree.old) (λ held. SaysTo command.now held reply)) }
+    ensures content { T.content tree.new ≡ T.content tree.old }
+    ensures room { IfOk result (λ reply. HasRoom (T.room_for tree.new) reply.writes) }
+    ensures cause { HasCause (T.faults tree.old) (T.faults tree.new) result }
+    ensures steady { StaysSteady (T.is_steady tree.old) (T.is_steady tree.new) (IsErrOf result TreeError.Failed) }
+{
     let reply = loaded_reply(alloc, command, tree)?;
     take_room(alloc, reply.writes.as_slice(), tree)?;
     Ok(reply)

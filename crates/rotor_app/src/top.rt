@@ -2,9 +2,10 @@
 ghost use Rattle.std.specs.Prelude.{◌≡◌, ◌⊎◌, [], None, IsErr, OnOk, OnErr, map, string_bytes, length};
 ghost use Rattle.std.specs.Option.{ForSome};
 ghost use Rattle.tree_io.specs.Outside.{HasFault, StaysSteady, Rose};
-ghost use Rattle.rotor_app.specs.Words.{command_in};
+ghost use Rattle.cli_words.specs.Words.{command_of};
 ghost use Rattle.rotor_app.specs.Said.{AsksNothing, SomeReply};
 ghost use Rattle.rotor_app.specs.Done.{IsDoneSo, IsRecoverable};
+ghost use Rattle.rotor_app.specs.Laws.{HasLaws};
 ghost use Rattle.rotor_app.specs.Table.{Ending, seen, IsComplete, Carried, Put, IsQuiet, IsAsSaid, IsFault, TreeStopped, SinkStopped, IsRefusal, AnsweredAlone, CutAlone};
 ghost use Rattle.tree_writes.specs.Writes.{HasRoom};
 
@@ -12,56 +13,60 @@ use crate::reply::{Reply, decide};
 use crate::status::Status;
 use cli_words::undos_are_read;
 use project_load::{loaded_files_are_a_project, new_sources_are_loaded, old_sources_come_back};
-use rename_batch::{batches_are_undone, batches_keep_runs, batches_rewrite};
+use rename_batch::{
+    batches_are_undone, batches_keep_runs, batches_rewrite, undos_are_read as batch_undos_are_read,
+};
 use rename_laws::{
     changes_are_listed, footprints_are_least, renamings_are_undone, renamings_are_valid,
     renamings_keep_facts, renamings_keep_runs, renamings_rewrite, undos_have_places,
 };
+use rename_verify::yes_is_valid;
 use std::alloc::Global;
 use tree_io::{Sink, Tree, TreeError};
 use tree_writes::write_all;
 
-/// Does what the words ask for, over a folder and an output, and says how it ended.
+/// Runs the command of the words over a folder and an output, and returns how it ended.
 ///
-/// The words are `check`, `footprint TARGET`, `sample N`, `recover`, or `rename TARGET NAME` with `--write` or `--safe`,
-/// with `--json`, both or none. `rename --write` writes the changed sources and puts the report; or it leaves the folder
-/// as it is, and puts the refusal. `rename --safe` first writes a plan, from which `recover` finishes the writes after a
-/// stop. The call takes all memory, the folder's room too, before the first write and the put.
+/// The words are `check`, `footprint TARGET`, `sample N`, `recover`, `verify OLDLIST NEWLIST`, `batch FILE` with `--write`
+/// or none, or `rename TARGET NAME` with `--write` or `--safe`, with `--json`, both or none. `rename --write` writes the
+/// changed sources and puts the report; or it leaves the folder as it is, and puts the refusal. `rename --safe` first
+/// writes a plan, from which `recover` finishes the writes after a stop. The call takes all memory, the folder's room too,
+/// before the first write and the put.
 pub fn rotor<T: Tree, S: Sink>(alloc: Global, words: &[String], tree: &mut T, out: &mut S) -> Status
-    // Where no count of faults rose and there was memory: there is a reply that is said, and status, files and text are its.
+    // If no count of faults rose and there was memory, there is a reply that is said, and status, files and text are its.
     ensures answer { ForSome (T.content tree.old) (λ files.
         IsQuiet (seen (T.faults tree.old) (S.faults out.old) (T.content tree.old) (S.taken out.old))
         (seen (T.faults tree.new) (S.faults out.new) (T.content tree.new) (S.taken out.new))
         → (result ≡ Status.Memory → ⊥)
-        → SomeReply (command_in (map string_bytes words.now)) files (λ reply. IsAsSaid reply files
+        → SomeReply (command_of (map string_bytes words.now)) files (λ reply. IsAsSaid reply files
         (seen (T.faults tree.old) (S.faults out.old) (T.content tree.old) (S.taken out.old))
         (seen (T.faults tree.new) (S.faults out.new) (T.content tree.new) (S.taken out.new)) result)) }
 
-    // Where the words ask nothing of the folder, it is not called, and the words alone decide the reply.
-    ensures alone { AsksNothing (command_in (map string_bytes words.now)) → tree.new ≡ tree.old }
-    ensures alone_said { AsksNothing (command_in (map string_bytes words.now)) → (Rose (S.faults out.old) (S.faults out.new) → ⊥) → (result ≡ Status.Memory → ⊥)
-        → AnsweredAlone (command_in (map string_bytes words.now))
+    // If the words need nothing of the folder, it is not called, and the words alone decide the reply.
+    ensures alone { AsksNothing (command_of (map string_bytes words.now)) → tree.new ≡ tree.old }
+    ensures alone_said { AsksNothing (command_of (map string_bytes words.now)) → (Rose (S.faults out.old) (S.faults out.new) → ⊥) → (result ≡ Status.Memory → ⊥)
+        → AnsweredAlone (command_of (map string_bytes words.now))
         (seen (T.faults tree.old) (S.faults out.old) (T.content tree.old) (S.taken out.old))
         (seen (T.faults tree.new) (S.faults out.new) (T.content tree.new) (S.taken out.new)) result }
-    ensures alone_cut { AsksNothing (command_in (map string_bytes words.now)) → (result ≡ Status.SinkFault) → CutAlone (command_in (map string_bytes words.now))
+    ensures alone_cut { AsksNothing (command_of (map string_bytes words.now)) → (result ≡ Status.SinkFault) → CutAlone (command_of (map string_bytes words.now))
         (seen (T.faults tree.old) (S.faults out.old) (T.content tree.old) (S.taken out.old))
         (seen (T.faults tree.new) (S.faults out.new) (T.content tree.new) (S.taken out.new)) }
-    ensures usage { (result ≡ Status.Usage) → (command_in (map string_bytes words.now) ≡ None) }
+    ensures usage { (result ≡ Status.Usage) → (command_of (map string_bytes words.now) ≡ None) }
 
-    // The call returns a fault only where its count rose, and passes over none.
+    // The call returns a fault only if its count rose, and passes over none.
     ensures tree_fault { IsFault Status.TreeFault (T.faults tree.old) (T.faults tree.new) result }
     ensures sink_fault { IsFault Status.SinkFault (S.faults out.old) (S.faults out.new) result }
 
     // What a fault leaves.
-    ensures tree_stopped { (result ≡ Status.TreeFault) → ForSome (T.content tree.old) (λ files. TreeStopped (command_in (map string_bytes words.now)) files (T.content tree.new)) }
-    ensures sink_stopped { (result ≡ Status.SinkFault) → ForSome (T.content tree.old) (λ files. SomeReply (command_in (map string_bytes words.now)) files (λ reply.
+    ensures tree_stopped { (result ≡ Status.TreeFault) → ForSome (T.content tree.old) (λ files. TreeStopped (command_of (map string_bytes words.now)) files (T.content tree.new)) }
+    ensures sink_stopped { (result ≡ Status.SinkFault) → ForSome (T.content tree.old) (λ files. SomeReply (command_of (map string_bytes words.now)) files (λ reply.
         SinkStopped reply files
         (seen (T.faults tree.old) (S.faults out.old) (T.content tree.old) (S.taken out.old))
         (seen (T.faults tree.new) (S.faults out.new) (T.content tree.new) (S.taken out.new)))) }
 
     // If a write of `--safe` fails, the old project or the new one is recovered, whole. If a write of `recover` fails, a
     // later one recovers the same.
-    ensures recoverable { (result ≡ Status.TreeFault) → ForSome (T.content tree.old) (λ held. ForSome (T.content tree.new) (IsRecoverable (command_in (map string_bytes words.now)) held)) }
+    ensures recoverable { (result ≡ Status.TreeFault) → ForSome (T.content tree.old) (λ held. ForSome (T.content tree.new) (IsRecoverable (command_of (map string_bytes words.now)) held)) }
 
     // Refusals and want of memory leave the folder; a folder that failed and want of memory put nothing.
     ensures unchanged { IsRefusal result → T.content tree.new ≡ T.content tree.old }
@@ -69,15 +74,24 @@ pub fn rotor<T: Tree, S: Sink>(alloc: Global, words: &[String], tree: &mut T, ou
 
     // A renaming that is done is valid, keeps facts and runs, and changes a least footprint. The files and the text are
     // those of its reply, and the words of its undo give the old files back. A recovery that is done leaves what is recovered.
-    ensures renamed { (result ≡ Status.Done) → ForSome (T.content tree.old) (λ files. SomeReply (command_in (map string_bytes words.now)) files (λ reply.
+    // A `verify` that is done says yes: the second project is a valid respelling of the first, which keeps the runs.
+    ensures renamed { (result ≡ Status.Done) → ForSome (T.content tree.old) (λ files. SomeReply (command_of (map string_bytes words.now)) files (λ reply.
         IsAsSaid reply files
         (seen (T.faults tree.old) (S.faults out.old) (T.content tree.old) (S.taken out.old))
         (seen (T.faults tree.new) (S.faults out.new) (T.content tree.new) (S.taken out.new)) result
-        × IsDoneSo (command_in (map string_bytes words.now)) files reply)) }
+        × IsDoneSo (command_of (map string_bytes words.now)) files reply)) }
 
     // Over a folder and an output that do not fail, the status is the one that is said, or there was no memory.
-    ensures complete { T.is_steady tree.old → ForSome (T.content tree.old) (λ files. IsComplete (command_in (map string_bytes words.now)) files (S.accepts out.old) result) }
+    ensures complete { T.is_steady tree.old → ForSome (T.content tree.old) (λ files. IsComplete (command_of (map string_bytes words.now)) files (S.accepts out.old) result) }
     ensures steady { T.is_steady tree.old → T.is_steady tree.new }
+{
+    recall_laws();
+    conclude(alloc, words, tree, out)
+}
+
+/// The laws of the crates below that the contract of [`rotor`] rests on.
+fn recall_laws()
+    ensures { HasLaws }
 {
     loaded_files_are_a_project();
     new_sources_are_loaded();
@@ -93,17 +107,18 @@ pub fn rotor<T: Tree, S: Sink>(alloc: Global, words: &[String], tree: &mut T, ou
     changes_are_listed();
     batches_rewrite();
     batches_are_undone();
+    batch_undos_are_read();
     batches_keep_runs();
-    conclude(alloc, words, tree, out)
+    yes_is_valid();
 }
 
-/// Does what the words ask for, over a folder and an output.
+/// Runs the command of the words over a folder and an output.
 fn conclude<T: Tree, S: Sink>(alloc: Global, words: &[String], tree: &mut T, out: &mut S) -> Status
-    ensures ending { Ending (command_in (map string_bytes words.now))
+    ensures ending { Ending (command_of (map string_bytes words.now))
         (seen (T.faults tree.old) (S.faults out.old) (T.content tree.old) (S.taken out.old))
         (seen (T.faults tree.new) (S.faults out.new) (T.content tree.new) (S.taken out.new))
         (tree.new ≡ tree.old) (out.new ≡ out.old) result }
-    ensures complete { T.is_steady tree.old → ForSome (T.content tree.old) (λ files. IsComplete (command_in (map string_bytes words.now)) files (S.accepts out.old) result) }
+    ensures complete { T.is_steady tree.old → ForSome (T.content tree.old) (λ files. IsComplete (command_of (map string_bytes words.now)) files (S.accepts out.old) result) }
     ensures steady { T.is_steady tree.old → T.is_steady tree.new }
 {
     match decide(alloc, words, tree) {
@@ -129,7 +144,7 @@ fn carry_out<T: Tree, S: Sink>(reply: &Reply, tree: &mut T, out: &mut S) -> Stat
     }
 }
 
-/// Puts a text, and ends with the status where that does not fail.
+/// Puts a text, and returns the status if the put does not fail.
 fn put_text<S: Sink>(text: &[u8], status: Status, out: &mut S) -> Status
     ensures put { Put text.now status (S.faults out.old) (S.faults out.new) (S.taken out.old) (S.taken out.new) result }
     ensures complete { S.accepts out.old (length text.now) → result ≡ status }

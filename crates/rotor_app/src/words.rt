@@ -1,35 +1,21 @@
-//! What the words of the command line ask for.
+//! The command of the words, and what it needs and puts.
 ghost use Rattle.std.specs.Prelude.{◌≡◌, IfOk, map, string_bytes};
 ghost use Rattle.std.specs.Option.{option_map};
-ghost use Rattle.rotor_app.specs.Words.{asks_gate, batch_file, command_in, is_ready, is_recovery, is_safe, is_writing, puts_json, sampled_units};
+ghost use Rattle.cli_words.specs.Words.{command_of};
+ghost use Rattle.rotor_app.specs.Words.{asks_gate, batch_file, is_recovery, is_safe, is_writing, puts_json, sampled_units, verified_lists};
 
 use cli_words::{Command, WordsError, read_words};
 use rotor_base::Memory;
 use std::alloc::Global;
 
-/// The command that the words ask for, if they have a form and the program has that command.
+/// The command of the words, if they have a form.
 pub fn command_in(alloc: Global, words: &[String]) -> Result<Option<Command>, Memory>
-    ensures { IfOk result (λ asked. asked ≡ command_in (map string_bytes words.now)) }
+    ensures { IfOk result (λ asked. asked ≡ command_of (map string_bytes words.now)) }
 {
     match read_words(alloc, words) {
-        Ok(command) if is_ready(&command) => Ok(Some(command)),
-        Ok(_) | Err(WordsError::Usage) => Ok(None),
+        Ok(command) => Ok(Some(command)),
+        Err(WordsError::Usage) => Ok(None),
         Err(WordsError::Memory) => Err(Memory),
-    }
-}
-
-/// Whether the program has the command.
-fn is_ready(command: &Command) -> bool
-    ensures { result ≡ is_ready command.now }
-{
-    match command {
-        Command::Check
-        | Command::Shape(_)
-        | Command::Rename { .. }
-        | Command::Sample(_)
-        | Command::Batch { .. }
-        | Command::Recover => true,
-        Command::Verify { .. } => false,
     }
 }
 
@@ -92,7 +78,7 @@ pub fn is_safe(command: &Command) -> bool
     }
 }
 
-/// Whether the command writes, so that it asks first whether the gate is open.
+/// Whether the command writes, so that the gate has to be closed.
 pub fn asks_gate(command: &Command) -> bool
     ensures { result ≡ asks_gate command.now }
 {
@@ -125,6 +111,21 @@ pub fn batch_file(command: &Command) -> Option<&str>
         | Command::Rename { .. }
         | Command::Sample(_)
         | Command::Verify { .. }
+        | Command::Recover => None,
+    }
+}
+
+/// The lists of `verify`: of the old project, and of the new one.
+pub fn verified_lists(command: &Command) -> Option<(&str, &str)>
+    ensures { option_map (λ lists. (lists.0.now, lists.1.now)) result ≡ verified_lists command.now }
+{
+    match command {
+        Command::Verify { old, new } => Some((old.as_str(), new.as_str())),
+        Command::Check
+        | Command::Shape(_)
+        | Command::Rename { .. }
+        | Command::Sample(_)
+        | Command::Batch { .. }
         | Command::Recover => None,
     }
 }

@@ -5,11 +5,14 @@ use Rattle.rotor_app.proofs.batch.batch_reply.Goals as goal
 
 pub returns-in_ok-bad_batch-in-None-clause-said : goal.returns-in_ok-bad_batch-in-None-clause-said
 returns-in_ok-bad_batch-in-None-clause-said g c =
-    said_lacking c.args.command.now c.args.file.now c.args.files.now c.in_ok-bad_batch-in-None.field-0 (g.T.Tree.content c.args.tree.now) _ (ap (option_map (λ bytes. bytes.items)) c.in-None.is)
+    said_lacking c.args.command.now c.args.file.now c.args.files.now c.in_ok-bad_batch-in-None.field-0
+    (g.T.Tree.content c.args.tree.now) _ (ap (option_map (λ bytes. bytes.items)) c.in-None.is)
     c.in_ok-read_batch_file.ensures.read c.in_ok-bad_batch-in-None.ensures
 
 pub returns-in_ok-bytes_reply-in-Some-clause-said : goal.returns-in_ok-bytes_reply-in-Some-clause-said
 returns-in_ok-bytes_reply-in-Some-clause-said g c =
-    said_found c.args.command.now c.args.file.now c.args.files.now c.in_ok-bytes_reply-in-Some.field-0 (g.T.Tree.content c.args.tree.now) _ c.in-Some.bytes.items
+    said_found c.args.command.now c.args.file.now c.args.files.now c.in_ok-bytes_reply-in-Some.field-0
+    (g.T.Tree.content c.args.tree.now) _ c.in-Some.bytes.items
     (ap (option_map (λ bytes. bytes.items)) c.in-Some.is) c.in_ok-read_batch_file.ensures.read
-    (subst (λ (bytes : List ℕ). SaysBatch c.args.command.now c.args.file.now (Some bytes) c.args.files.now c.in_ok-bytes_reply-in-Some.field-0) c.deref.ensures.value c.in_ok-bytes_reply-in-Some.ensures.said)
+    (subst (λ (bytes : List ℕ). SaysBatch c.args.command.now c.args.file.now (Some bytes) c.args.files.now c.in_ok-bytes_reply-in-Some.field-0)
+    c.deref.ensures.value c.in_ok-bytes_reply-in-Some.ensures.said)

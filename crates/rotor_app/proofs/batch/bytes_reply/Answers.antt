@@ -4,17 +4,20 @@ use Rattle.rotor_app.proofs.batch.bytes_reply.Goals as goal
 
 pub returns-then-bytes-clause-said : goal.returns-then-bytes-clause-said
 returns-then-bytes-clause-said c =
-    said_large c.args.command.now c.args.file.now c.in_ok-name.name c.args.bytes.now c.args.files.now c.reply_by.result (omega arith) (c.in_ok-name.ensures ∙ c.as_bytes.ensures.value) c.reply_by.ensures
+    said_large c.args.command.now c.args.file.now c.in_ok-name.name c.args.bytes.now c.args.files.now c.reply_by.result (omega arith)
+    (c.in_ok-name.ensures ∙ c.as_bytes.ensures.value) c.reply_by.ensures
 
 pub steps_reply-requires : goal.steps_reply-requires
 steps_reply-requires c = few_steps _ c.in-Ok.steps.items c.deref.result.now c.in-Ok.ensures.steps c.deref.ensures.value
 
 pub returns-in-Ok-clause-said : goal.returns-in-Ok-clause-said
 returns-in-Ok-clause-said c =
-    said_runs c.args.command.now c.args.file.now c.args.bytes.now c.args.files.now c.in-Ok.steps.items c.deref.result.now c.steps_reply.result (omega arith) c.in-Ok.ensures.steps c.deref.ensures.value
+    said_runs c.args.command.now c.args.file.now c.args.bytes.now c.args.files.now c.in-Ok.steps.items c.deref.result.now c.steps_reply.result
+    (omega arith) c.in-Ok.ensures.steps c.deref.ensures.value
     c.steps_reply.ensures
 
 pub returns-in-Err-Line-clause-said : goal.returns-in-Err-Line-clause-said
 returns-in-Err-Line-clause-said c =
-    said_unread c.args.command.now c.args.file.now c.args.bytes.now c.args.files.now c.in-Err-Line.number c.in-Err-Line.field-0 c.bad_batch.result (omega arith) c.in-Err-Line.field-0-is
+    said_unread c.args.command.now c.args.file.now c.args.bytes.now c.args.files.now c.in-Err-Line.number c.in-Err-Line.field-0 c.bad_batch.result
+    (omega arith) c.in-Err-Line.field-0-is
     c.in-Err-Line.ensures.unread c.bad_batch.ensures

@@ -8,5 +8,6 @@ use Rattle.rotor_app.proofs.outcome.outcome_of.Goals as goal
 pub returns-in-Err-rename : goal.returns-in-Err-rename
 returns-in-Err-rename c =
     subst (λ (k : Command). IfOk c.refused-in-Err-rename.result (λ o. Answers k c.args.files.now o)) (sym c.in-Rename.is) (
-    refused_renaming c.args.files.now c.in-Rename.target c.in-Rename.name c.as_bytes.result.now c.in-Rename.write c.in-Rename.safe c.in-Rename.json c.rename.result c.in-Err-rename.refusal c.refused-in-Err-rename.result
+    refused_renaming c.args.files.now c.in-Rename.target c.in-Rename.name c.as_bytes.result.now c.in-Rename.write c.in-Rename.safe c.in-Rename.json
+    c.rename.result c.in-Err-rename.refusal c.refused-in-Err-rename.result
     c.as_bytes.ensures c.in-Err-rename.is c.rename.ensures.refused c.refused-in-Err-rename.ensures)

@@ -1,0 +1,23 @@
+use Rattle.rotor_app.proofs.top.recall_laws.Goals as goal
+
+pub returns : goal.returns
+returns c = record {
+  project = c.loaded_files_are_a_project.ensures;
+  loaded_new = c.new_sources_are_loaded.ensures;
+  old_back = c.old_sources_come_back.ensures;
+  undos = c.undos_are_read.ensures;
+  rewrite = c.renamings_rewrite.ensures;
+  undone = c.renamings_are_undone.ensures;
+  places = c.undos_have_places.ensures;
+  valid = c.renamings_are_valid.ensures;
+  facts = c.renamings_keep_facts.ensures;
+  runs = c.renamings_keep_runs.ensures;
+  least = c.footprints_are_least.ensures;
+  changes = c.changes_are_listed.ensures;
+  batch_sources = c.batches_rewrite.ensures;
+  batch_undone = c.batches_are_undone.ensures;
+  batch_asked = c.undos_are_read-2.ensures;
+  batch_runs = c.batches_keep_runs.ensures;
+  verified = c.yes_is_valid.ensures.valid;
+  verified_runs = c.yes_is_valid.ensures.runs;
+}
