@@ -48,13 +48,13 @@ too_large_at front x rest e h = ap (option_map (λ (file : SourceFile). TooLarge
 over_cut : (total w b : ℕ) → b ≡ min 1048577 w → (nat_lt 1048576 w || nat_lt 8388608 (total + w)) ≡ (nat_lt 1048576 b || nat_lt 8388608 (total + b))
 over_cut total w b e = grind arith
 
-cut_length : (w bytes : List ℕ) → take 1048577 w ≡ bytes → length bytes ≡ min 1048577 (length w)
+pub cut_length : (w bytes : List ℕ) → take 1048577 w ≡ bytes → length bytes ≡ min 1048577 (length w)
 cut_length w bytes e = ap length (sym e) ∙ length-take 1048577 w
 
-cut_whole : (w bytes : List ℕ) → take 1048577 w ≡ bytes → length bytes ≤ 1048576 → w ≡ bytes
+pub cut_whole : (w bytes : List ℕ) → take 1048577 w ≡ bytes → length bytes ≤ 1048576 → w ≡ bytes
 cut_whole w bytes e h = sym (take_all 1048577 w (omega (arith, cut_length w bytes e))) ∙ e
 
-file_read : (held : Option (List ℕ)) (bytes : List ℕ) → IsFront 1048577 held bytes → (w : List ℕ) × (held ≡ Some w) × (take 1048577 w ≡ bytes)
+pub file_read : (held : Option (List ℕ)) (bytes : List ℕ) → IsFront 1048577 held bytes → (w : List ℕ) × (held ≡ Some w) × (take 1048577 w ≡ bytes)
 file_read None bytes e = cc
 file_read (Some w) bytes e = (w, refl, cc)
 
