@@ -7,6 +7,7 @@ pub mod Keys
 pub mod ListLines
 pub mod ListLoads
 pub mod ListWords
+pub mod OneList
 pub mod Rewritten
 pub mod Seeing
 pub mod Tables

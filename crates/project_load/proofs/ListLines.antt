@@ -8,7 +8,7 @@ use Rattle.std.specs.Cmp.Lexicographic.{slice_cmp}
 use Rattle.std.specs.Str.{bytes_eq}
 use Rattle.std.proofs.lemmas.List.{append-nil, length_push}
 use Rattle.tree_io.specs.Outside.{FileMap}
-use Rattle.project_load.specs.Entries.{AreHeld, AreThere, IsFolder, IsLine, IsNoEntry, IsNoLine, IsUnread, given_by}
+use Rattle.project_load.specs.Entries.{AreThere, IsFolder, IsLine, IsNoEntry, IsUnread, given_by}
 use Rattle.project_load.specs.Listed.{Gives, IsEntry}
 use Rattle.project_load.specs.declared.error.ListError.TheVariants.{BadList}
 use Rattle.project_load.proofs.Keys.{get_written}
@@ -24,10 +24,13 @@ map_some f None = refl
 map_some f (Some x) = refl
 
 -- one more line
-gives_more : (held : FileMap) (front : List (List ℕ)) (line source bytes : List ℕ) (start given : FileMap) → Gives held front start given → IsEntry held line source bytes → get given source ≡ None
+gives_more : (held : FileMap) (front : List (List ℕ)) (line source bytes : List ℕ) (start given : FileMap) → Gives held front start given
+    → IsEntry held line source bytes → get given source ≡ None
     → Gives held (front ++ line ∷ []) start (insert given source bytes)
-gives_more held [] line source bytes start given h e none = (source, bytes, e, ap (λ (m : FileMap). get m source) (sym h) ∙ none, ap (λ (m : FileMap). insert m source bytes) h)
-gives_more held (first ∷ front) line source bytes start given h e none = (h.0, h.1, h.2, h.3, gives_more held front line source bytes (insert start h.0 h.1) given h.4 e none)
+gives_more held [] line source bytes start given h e none =
+    (source, bytes, e, ap (λ (m : FileMap). get m source) (sym h) ∙ none, ap (λ (m : FileMap). insert m source bytes) h)
+gives_more held (first ∷ front) line source bytes start given h e none =
+    (h.0, h.1, h.2, h.3, gives_more held front line source bytes (insert start h.0 h.1) given h.4 e none)
 
 module _ {Y : Type 0} (folder : BTreeSet (String Y)) where
   -- the lines before the rest are entries, and this is the FILE of each of their SOURCES
@@ -44,11 +47,13 @@ module _ {Y : Type 0} (folder : BTreeSet (String Y)) where
     front = [];
     split = refl;
     counted = refl;
-    there = λ source file found. let bad : None ≡ Some file = sym (ap (λ (t : FileMap). get t source) e ∙ get-empty (slice_cmp nat_cmp) source) ∙ found in cc;
+    there = λ source file found. let bad : None ≡ Some file = sym (ap (λ (t : FileMap). get t source) e ∙ get-empty (slice_cmp nat_cmp) source)
+        ∙ found in cc;
     gives = λ held is. given_empty held table e;
   }
 
-  module _ (lines rest behind : List (List ℕ)) (before : ℕ) (table : FileMap) (line : List ℕ) (so_far : IsSoFar lines rest before table) (next : rest ≡ line ∷ behind) where
+  module _ (lines rest behind : List (List ℕ)) (before : ℕ) (table : FileMap) (line : List ℕ) (so_far : IsSoFar lines rest before table)
+      (next : rest ≡ line ∷ behind) where
     split_next : lines ≡ so_far.front ++ line ∷ behind
     split_next = so_far.split ∙ ap (λ (ls : List (List ℕ)). so_far.front ++ ls) next
 
@@ -62,7 +67,9 @@ module _ {Y : Type 0} (folder : BTreeSet (String Y)) where
       gives_next : (held : FileMap) → IsFolder held folder → Gives held (so_far.front ++ line ∷ []) empty (given_by held (insert table source file))
       gives_next held is =
           let bytes = has_some (get held file) (sym (is file) ∙ entry.listed) in
-          let is_entry : IsEntry held line source bytes.0 = record { file = file; split = entry.split; named = entry.named; whole = entry.whole; there = bytes.1 } in
+          let is_entry : IsEntry held line source bytes.0 =
+          record { file = file; split = entry.split; named = entry.named; whole = entry.whole; there = bytes.1 }
+          in
           let none : get (given_by held table) source ≡ None = given_get held table source ∙ ap (option_and_then (get held)) fresh in
           subst (Gives held (so_far.front ++ line ∷ []) empty) (sym (given_more held table source file bytes.0 bytes.1))
           (gives_more held so_far.front line source bytes.0 empty (given_by held table) (so_far.gives held is) is_entry none)
@@ -77,10 +84,12 @@ module _ {Y : Type 0} (folder : BTreeSet (String Y)) where
         gives = gives_next;
       })
 
-    bad_here : IsNoEntry folder table line → (held : FileMap) → IsFolder held folder → (source bytes : List ℕ) → IsEntry held line source bytes → IsSome (get (given_by held table) source)
+    bad_here : IsNoEntry folder table line → (held : FileMap) → IsFolder held folder → (source bytes : List ℕ) → IsEntry held line source bytes
+        → IsSome (get (given_by held table) source)
     bad_here none held is source bytes e =
         let listed : contains_text folder e.file ≡ true = is e.file ∙ ap is_some e.there in
-        let found = has_some (get table source) (none source e.file (record { split = e.split; named = e.named; whole = e.whole; listed = listed })) in
+        let is_line : IsLine folder line source e.file = record { split = e.split; named = e.named; whole = e.whole; listed = listed } in
+        let found = has_some (get table source) (none source e.file is_line) in
         ap is_some (given_get held table source ∙ ap (option_and_then (get held)) found.1) ∙ (sym (is found.0) ∙ so_far.there source found.0 found.1)
 
     -- the next line is bad
@@ -102,20 +111,14 @@ module _ {Y : Type 0} (folder : BTreeSet (String Y)) where
         )
 
   -- all lines are read
-  pub all_read : (lines rest : List (List ℕ)) (before : ℕ) (table : FileMap) → IsSoFar lines rest before table → rest ≡ [] → (held : FileMap) → IsFolder held folder
-      → Gives held lines empty (given_by held table)
+  pub all_read : (lines rest : List (List ℕ)) (before : ℕ) (table : FileMap) → IsSoFar lines rest before table → rest ≡ []
+      → (held : FileMap) → IsFolder held folder → Gives held lines empty (given_by held table)
   all_read lines rest before table h e held is =
       let whole : lines ≡ h.front = h.split ∙ ap (λ (ls : List (List ℕ)). h.front ++ ls) e ∙ append-nil h.front in
       rw whole (h.gives held is)
 
-  -- a line of another form is no entry
-  pub no_entry : (table : FileMap) (line : List ℕ) → IsNoLine folder line → IsNoEntry folder table line
-  no_entry table line none source file h = absurd (none source file h)
-
   -- one that repeats a SOURCE is none
-  pub taken_entry : (table : FileMap) (line source file : List ℕ) → IsLine folder line source file → is_some (get table source) ≡ true → IsNoEntry folder table line
-  taken_entry table line source file h found s f k = ap (λ (name : List ℕ). is_some (get table name)) (one_line folder line s f source file k h).0 ∙ found
-
-  -- each FILE is in the folder
-  pub are_held : (held table : FileMap) → IsFolder held folder → AreThere folder table → AreHeld held table
-  are_held held table is there source file e = sym (is file) ∙ there source file e
+  pub taken_entry : (table : FileMap) (line source file : List ℕ) → IsLine folder line source file → is_some (get table source) ≡ true
+      → IsNoEntry folder table line
+  taken_entry table line source file h found s f k =
+      ap (λ (name : List ℕ). is_some (get table name)) (one_line folder line s f source file k h).0 ∙ found

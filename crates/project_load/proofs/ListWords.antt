@@ -158,11 +158,13 @@ ended_plain ending name f h =
     let n = length name - length ending in
     let t = both_true _ _ h in
     let end : drop n name ≡ ending = (bytes_decides (drop n name) ending).0 t.0 in
-    let whole : IsPlain (take n name ++ drop n name) = plain_append (take n name) (drop n name) (word_plain (take n name) t.1) (subst IsPlain (sym end) f) in
+    let whole : IsPlain (take n name ++ drop n name) = plain_append (take n name) (drop n name) (word_plain (take n name) t.1)
+    (subst IsPlain (sym end) f) in
     subst IsPlain (take-append-drop n name) whole
 
 body_plain : IsPlain (codes ".ml")
-body_plain = plain_cons 46 (109 ∷ 108 ∷ []) (omega arith) refl (plain_cons 109 (108 ∷ []) (omega arith) refl (plain_cons 108 [] (omega arith) refl plain_nil))
+body_plain =
+    plain_cons 46 (109 ∷ 108 ∷ []) (omega arith) refl (plain_cons 109 (108 ∷ []) (omega arith) refl (plain_cons 108 [] (omega arith) refl plain_nil))
 
 face_plain : IsPlain (codes ".mli")
 face_plain =
@@ -197,15 +199,18 @@ no_text name none = by (is_listed_name name) refl where
 -- ---- lines
 
 -- a line is split in one way
-pub one_split : (line s f t g : List ℕ) → line ≡ s ++ 32 ∷ f → is_listed_name s ≡ true → line ≡ t ++ 32 ∷ g → is_listed_name t ≡ true → (s ≡ t) × (f ≡ g)
+pub one_split : (line s f t g : List ℕ) → line ≡ s ++ 32 ∷ f → is_listed_name s ≡ true → line ≡ t ++ 32 ∷ g → is_listed_name t ≡ true
+    → (s ≡ t) × (f ≡ g)
 one_split line s f t g h n k m = one_cut line s f t g (record { split = h; whole = (listed_plain s n).whole }) k (listed_plain t m).whole
 
 module _ {Y : Type 0} (folder : BTreeSet (String Y)) where
   key_utf8 : (ks : List (String Y)) (name : List ℕ) → list_any (is_at (λ k. slice_cmp nat_cmp name (string_bytes k))) ks ≡ true → IsUtf8 name
   key_utf8 [] name e = cc
   key_utf8 (k ∷ ks) name e =
-      elim (or_cases (is_at (λ k. slice_cmp nat_cmp name (string_bytes k)) k) (list_any (is_at (λ k. slice_cmp nat_cmp name (string_bytes k))) ks) e) [
-        | inl t ↦ subst IsUtf8 (sym ((bytes_decides name (string_bytes k)).0 (sym (is_eq-slice_cmp name (string_bytes k)) ∙ t))) (IsUtf8-string_bytes k)
+      elim (or_cases (is_at (λ k. slice_cmp nat_cmp name (string_bytes k)) k)
+      (list_any (is_at (λ k. slice_cmp nat_cmp name (string_bytes k))) ks) e) [
+        | inl t ↦ subst IsUtf8 (sym ((bytes_decides name (string_bytes k)).0 (sym (is_eq-slice_cmp name (string_bytes k)) ∙ t)))
+            (IsUtf8-string_bytes k)
         | inr t ↦ key_utf8 ks name t
       ]
 
@@ -217,10 +222,6 @@ module _ {Y : Type 0} (folder : BTreeSet (String Y)) where
   pub one_line : (line s f source file : List ℕ) → IsLine folder line s f → IsLine folder line source file → (s ≡ source) × (f ≡ file)
   one_line line s f source file h k = one_split line s f source file h.split h.named k.split k.named
 
-  -- no space
-  pub no_cut : (line : List ℕ) → IsWhole line → IsNoLine folder line
-  no_cut line w source file h = has_space source file (subst IsWhole h.split w)
-
   -- the bytes before the first space name no source
   pub no_source : (line front behind : List ℕ) → IsCut line front behind → is_listed_name front ≡ false → IsNoLine folder line
   no_source line front behind h none source file k =
@@ -229,12 +230,8 @@ module _ {Y : Type 0} (folder : BTreeSet (String Y)) where
       cc
 
   -- those behind it name no file
-  pub no_file : (line front behind : List ℕ) → IsCut line front behind → (IsWhole behind → contains_text folder behind ≡ true → ⊥) → IsNoLine folder line
+  pub no_file : (line front behind : List ℕ) → IsCut line front behind → (IsWhole behind → contains_text folder behind ≡ true → ⊥)
+      → IsNoLine folder line
   no_file line front behind h none source file k =
       let same = one_cut line front behind source file h k.split (listed_plain source k.named).whole in
       none (subst IsWhole (sym same.1) k.whole) (ap (contains_text folder) same.1 ∙ k.listed)
-
-  -- both name one
-  pub is_line : (line front behind source file : List ℕ) → IsCut line front behind → source ≡ front → file ≡ behind → is_listed_name front ≡ true → IsWhole behind → contains_text folder behind ≡ true
-      → IsLine folder line source file
-  is_line line front behind source file h s f named whole listed = rw (s, f) (record { split = h.split; named = named; whole = whole; listed = listed })

@@ -206,7 +206,7 @@ bad_never units None e = cc
 bad_never units (Some bytes) e = never (bad_line (lines bytes) units) BadManifest (λ x h. cc) e
 
 -- no set of files is refused as one that was not read
-pub never_read : (files : List SourceFile) (manifest : Option (List ℕ)) → load_refusal files manifest ≡ Some Read → ⊥
+never_read : (files : List SourceFile) (manifest : Option (List ℕ)) → load_refusal files manifest ≡ Some Read → ⊥
 never_read files manifest e = ⊎_elim (many_never files)
     (λ e. ⊎_elim (large_never files) (λ e. ⊎_elim (long_never manifest) (λ e. ⊎_elim (double_never (units_of files)) (bad_never (units_of files) manifest) (either_some _ _ _ e)) (either_some _ _ _ e)) (either_some _ _ _ e)) (either_some _ _ _ e)
 

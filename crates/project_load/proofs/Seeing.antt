@@ -31,7 +31,8 @@ as_seen before now P e h = subst (λ (content : Option FileMap). IfSome content 
 through : (held table : FileMap) (source file : List ℕ) → get table source ≡ Some file → get held file ≡ get (given_by held table) source
 through held table source file e = sym (given_get held table source ∙ ap (option_and_then (get held)) e)
 
-not_shown : (held table : FileMap) (source file : List ℕ) → get table source ≡ None → IsSome (get (given_by held table) source) → get held file ≡ get (given_by held table) source
+not_shown : (held table : FileMap) (source file : List ℕ) → get table source ≡ None → IsSome (get (given_by held table) source)
+    → get held file ≡ get (given_by held table) source
 not_shown held table source file e h =
     let none : get (given_by held table) source ≡ None = given_get held table source ∙ ap (option_and_then (get held)) e in
     let bad = sym h ∙ ap is_some none in
@@ -50,7 +51,8 @@ listed_file naming list source result found n e r held =
     by (Some file) e r h = ap (λ (x : Bor (List ℕ)). get held x.now) r ∙ through held (table_of list.now) source.now file.now (sym e)
 
 -- the file of a source is in the folder, and its first bytes are those of the source
-module _ (naming : Naming) (content : Option FileMap) (source file : List ℕ) (there : ForSome (seen naming content) (λ held. IsSome (get held source)))
+module _ (naming : Naming) (content : Option FileMap) (source file : List ℕ)
+    (there : ForSome (seen naming content) (λ held. IsSome (get held source)))
     (same : (held : FileMap) → IsSome (get (seen_by naming held) source) → get held file ≡ get (seen_by naming held) source) where
   some_seen : (held : FileMap) → content ≡ Some held → IsSome (get (seen_by naming held) source)
   some_seen held e = there (seen_by naming held) (ap (seen naming) e)
@@ -58,18 +60,17 @@ module _ (naming : Naming) (content : Option FileMap) (source file : List ℕ) (
   pub file_there : (held : FileMap) → content ≡ Some held → IsSome (get held file)
   file_there held e = ap is_some (same held (some_seen held e)) ∙ some_seen held e
 
-  pub front_seen : (bytes : List ℕ) → IfSome content (λ held. IsFront 1048577 (get held file) bytes) → IfSome (seen naming content) (λ held. IsFront 1048577 (get held source) bytes)
+  pub front_seen : (bytes : List ℕ) → IfSome content (λ held. IsFront 1048577 (get held file) bytes)
+      → IfSome (seen naming content) (λ held. IsFront 1048577 (get held source) bytes)
   front_seen bytes h = by content (λ held e. same held (some_seen held e)) h where
-    by : (told : Option FileMap) → ((held : FileMap) → told ≡ Some held → get held file ≡ get (seen_by naming held) source) → IfSome told (λ held. IsFront 1048577 (get held file) bytes)
+    by : (told : Option FileMap) → ((held : FileMap) → told ≡ Some held → get held file ≡ get (seen_by naming held) source)
+        → IfSome told (λ held. IsFront 1048577 (get held file) bytes)
         → IfSome (seen naming told) (λ held. IsFront 1048577 (get held source) bytes)
     by None s h = tt
     by (Some held) s h = subst (λ (o : Option (List ℕ)). IsFront 1048577 o bytes) (s held refl) h
 
 -- what holds of a folder holds of the one that a naming shows
-pub for_seen : (naming : Naming) (content : Option FileMap) (P : FileMap → Type 0) → ((held : FileMap) → content ≡ Some held → P (seen_by naming held)) → ForSome (seen naming content) P
+pub for_seen : (naming : Naming) (content : Option FileMap) (P : FileMap → Type 0)
+    → ((held : FileMap) → content ≡ Some held → P (seen_by naming held)) → ForSome (seen naming content) P
 for_seen naming None P h x e = cc
 for_seen naming (Some held) P h x e = let is : seen_by naming held ≡ x = cc in subst P is (h held refl)
-
-pub saw : (naming : Naming) (content : Option FileMap) (P : FileMap → Type 0) → IfSome (seen naming content) P → (held : FileMap) → content ≡ Some held → P (seen_by naming held)
-saw naming None P h held e = cc
-saw naming (Some other) P h held e = let is : other ≡ held = cc in subst (λ (x : FileMap). P (seen_by naming x)) is h

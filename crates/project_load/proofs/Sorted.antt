@@ -111,7 +111,7 @@ any_same p q (x ∷ xs) h = rw (h x, any_same p q xs h) refl
 pub held_name : (held : FileMap) (w : List ℕ) → list_any (bytes_eq w) (keys held) ≡ is_some (get held w)
 held_name held w = any_same (bytes_eq w) (eq_by_cmp (slice_cmp nat_cmp) w) (keys held) (λ x. sym (is_eq-slice_cmp w x)) ∙ sym (contains_key-keys held w)
 
--- the manifest is listed where the folder has it
+-- the manifest is listed exactly if the folder has it
 pub manifest_listed : (held : FileMap) (listed : List (List ℕ)) → IsPermutation (keys held) listed → list_any (bytes_eq (codes "rotor.units")) listed ≡ is_some (manifest_of held)
 manifest_listed held listed moved = sym (list_any-IsPermutation (bytes_eq (codes "rotor.units")) (keys held) listed moved) ∙ held_name held (codes "rotor.units")
 

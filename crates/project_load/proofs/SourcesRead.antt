@@ -24,14 +24,14 @@ fewer true b m n e = cc
 fewer false true m n e = cc
 fewer false false m n e = grind arith
 
--- where some files keep the limits, so do the first of them
+-- if some files keep the limits, so do the first of them
 kept_front : (front more : List SourceFile) → are_over (front ++ more) ≡ false → are_over front ≡ false
 kept_front front more e =
     let any : list_any (λ file. nat_lt 1048576 (length file.bytes)) (front ++ more) ≡ (list_any (λ file. nat_lt 1048576 (length file.bytes)) front || list_any (λ file. nat_lt 1048576 (length file.bytes)) more) = list_any-append _ front more in
     let all : sum_by (λ file. length file.bytes) (front ++ more) ≡ sum_by (λ file. length file.bytes) front + sum_by (λ file. length file.bytes) more = grind (arith, common_steps) in
     fewer (list_any (λ file. nat_lt 1048576 (length file.bytes)) front) (list_any (λ file. nat_lt 1048576 (length file.bytes)) more) (sum_by (λ file. length file.bytes) front) (sum_by (λ file. length file.bytes) more) (rw (any, all) at e)
 
--- the first with which they are over stands behind those that keep the limits
+-- the first with which they are over is behind those that keep the limits
 past_front : (before front rest : List SourceFile) → are_over (before ++ front) ≡ false → first_with (λ f. are_over (before ++ f)) (front ++ rest) ≡ first_with (λ f. are_over ((before ++ front) ++ f)) rest
 past_front before [] rest e = let same : before ≡ before ++ [] = grind (arith, common_steps) in ap (λ (b : List SourceFile). first_with (λ f. are_over (b ++ f)) rest) same
 past_front before (x ∷ front) rest e =

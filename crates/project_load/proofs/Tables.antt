@@ -22,11 +22,13 @@ same_files a b h = same_map nat_list_cmp_total (slice_cmp-IsAntisymmetric nat_cm
 
 -- ---- the folder that entries give
 
-set_found : (files : FileMap) (name : List ℕ) (o : Option (List ℕ)) (q : List ℕ) → get (set_at files name o) q ≡ cond (bytes_eq q name) o (get files q)
+set_found : (files : FileMap) (name : List ℕ) (o : Option (List ℕ)) (q : List ℕ)
+    → get (set_at files name o) q ≡ cond (bytes_eq q name) o (get files q)
 set_found files name None q = get-remove nat_list_cmp_total files name q ∙ ap (λ (b : Bool). cond b None (get files q)) (is_eq-slice_cmp q name)
 set_found files name (Some bytes) q = get_written files name bytes q
 
-found_of : (held : FileMap) (es : List (List ℕ × List ℕ)) (q : List ℕ) → get (given_of held es) q ≡ option_and_then (get held) (find (slice_cmp nat_cmp) q es)
+found_of : (held : FileMap) (es : List (List ℕ × List ℕ)) (q : List ℕ)
+    → get (given_of held es) q ≡ option_and_then (get held) (find (slice_cmp nat_cmp) q es)
 found_of held [] q = get-empty (slice_cmp nat_cmp) q
 found_of held (e ∷ es) q =
     set_found (given_of held es) e.0 (get held e.1) q ∙ by (bytes_eq q e.0) (found_of held es q)
@@ -47,7 +49,8 @@ given_empty held table e =
     ∙ ap (option_and_then (get held)) (get-empty (slice_cmp nat_cmp) q) ∙ sym (get-empty (slice_cmp nat_cmp) q))
 
 -- one more entry, whose FILE is in the folder
-pub given_more : (held table : FileMap) (source file bytes : List ℕ) → get held file ≡ Some bytes → given_by held (insert table source file) ≡ insert (given_by held table) source bytes
+pub given_more : (held table : FileMap) (source file bytes : List ℕ) → get held file ≡ Some bytes
+    → given_by held (insert table source file) ≡ insert (given_by held table) source bytes
 given_more held table source file bytes there =
     same_files (given_by held (insert table source file)) (insert (given_by held table) source bytes)
     (λ q. given_get held (insert table source file) q ∙ ap (option_and_then (get held)) (get_written table source file q) ∙ by q (bytes_eq q source)
@@ -73,39 +76,48 @@ given_keys held table there = same_keys (given_by held table) table (λ q. ap is
 
 -- ---- entries as a map of texts
 
+abbrev bytes_of : List (String Global × String Global) → List (List ℕ × List ℕ)
+bytes_of es = map (λ e. (string_bytes e.0, string_bytes e.1)) es
+
+abbrev at_text : List ℕ → String Global → Bool
+at_text q key = tree.is_at (λ k. slice_cmp nat_cmp q (string_bytes k)) key
+
 texts_found : (es : List (String Global × String Global)) (q : List ℕ)
-    → find (slice_cmp nat_cmp) q (map (λ e. (string_bytes e.0, string_bytes e.1)) es) ≡ option_map string_bytes (lookup (tree.is_at (λ k. slice_cmp nat_cmp q (string_bytes k))) es)
+    → find (slice_cmp nat_cmp) q (bytes_of es) ≡ option_map string_bytes (lookup (at_text q) es)
 texts_found [] q = refl
 texts_found (e ∷ es) q = by (bytes_eq q (string_bytes e.0)) (is_eq-slice_cmp q (string_bytes e.0)) (texts_found es q) where
-  by : (b : Bool) → tree.is_at (λ k. slice_cmp nat_cmp q (string_bytes k)) e.0 ≡ b
-      → find (slice_cmp nat_cmp) q (map (λ e. (string_bytes e.0, string_bytes e.1)) es) ≡ option_map string_bytes (lookup (tree.is_at (λ k. slice_cmp nat_cmp q (string_bytes k))) es)
-      → find (slice_cmp nat_cmp) q (map (λ e. (string_bytes e.0, string_bytes e.1)) (e ∷ es)) ≡ option_map string_bytes (lookup (tree.is_at (λ k. slice_cmp nat_cmp q (string_bytes k))) (e ∷ es))
+  by : (b : Bool) → at_text q e.0 ≡ b → find (slice_cmp nat_cmp) q (bytes_of es) ≡ option_map string_bytes (lookup (at_text q) es)
+      → find (slice_cmp nat_cmp) q (bytes_of (e ∷ es)) ≡ option_map string_bytes (lookup (at_text q) (e ∷ es))
   by true t rest = rw t refl
   by false t rest = rw t rest
 
 -- the FILE of a SOURCE
 pub table_get : (list : Entries) (q : List ℕ) → get (table_of list) q ≡ option_map string_bytes (tree.get_by_text list.files q)
-table_get list q = get-from_entries nat_list_cmp_total (map (λ e. (string_bytes e.0, string_bytes e.1)) list.files.entries) q ∙ texts_found list.files.entries q
+table_get list q =
+    get-from_entries nat_list_cmp_total (bytes_of list.files.entries) q ∙ texts_found list.files.entries q
 
 -- one more entry
 pub table_more : (a b : Entries) (source file : List ℕ) (value : String Global) → string_bytes value ≡ file
-    → ((cs : List ℕ) → tree.get_by_text b.files cs ≡ update bytes_eq (tree.get_by_text a.files) source (Some value) cs) → table_of b ≡ insert (table_of a) source file
+    → ((cs : List ℕ) → tree.get_by_text b.files cs ≡ update bytes_eq (tree.get_by_text a.files) source (Some value) cs)
+    → table_of b ≡ insert (table_of a) source file
 table_more a b source file value is h =
     same_files (table_of b) (insert (table_of a) source file) (λ q. table_get b q ∙ ap (option_map string_bytes) (h q)
-    ∙ ap (λ (t : Bool). option_map string_bytes (cond t (Some value) (tree.get_by_text a.files q))) (nat_list_eq_equiv.symm source q) ∙ by q (bytes_eq q source)
+    ∙ ap (λ (t : Bool). option_map string_bytes (cond t (Some value) (tree.get_by_text a.files q))) (nat_list_eq_equiv.symm source q)
+    ∙ by q (bytes_eq q source)
     ∙ sym (get_written (table_of a) source file q))
   where
-    by : (q : List ℕ) (t : Bool) → option_map string_bytes (cond t (Some value) (tree.get_by_text a.files q)) ≡ cond t (Some file) (get (table_of a) q)
+    by : (q : List ℕ) (t : Bool)
+        → option_map string_bytes (cond t (Some value) (tree.get_by_text a.files q)) ≡ cond t (Some file) (get (table_of a) q)
     by q true = ap (λ (v : List ℕ). Some v) is
     by q false = sym (table_get a q)
 
 texts_keyed : (es : List (String Global × String Global)) (q : List ℕ)
-    → is_some (option_map string_bytes (lookup (tree.is_at (λ k. slice_cmp nat_cmp q (string_bytes k))) es)) ≡ list_any (bytes_eq q) (map string_bytes (map (λ e. e.0) es))
+    → is_some (option_map string_bytes (lookup (at_text q) es)) ≡ list_any (bytes_eq q) (map string_bytes (map (λ e. e.0) es))
 texts_keyed [] q = refl
 texts_keyed (e ∷ es) q = by (bytes_eq q (string_bytes e.0)) (is_eq-slice_cmp q (string_bytes e.0)) refl (texts_keyed es q) where
-  by : (b : Bool) → tree.is_at (λ k. slice_cmp nat_cmp q (string_bytes k)) e.0 ≡ b → bytes_eq q (string_bytes e.0) ≡ b
-      → is_some (option_map string_bytes (lookup (tree.is_at (λ k. slice_cmp nat_cmp q (string_bytes k))) es)) ≡ list_any (bytes_eq q) (map string_bytes (map (λ e. e.0) es))
-      → is_some (option_map string_bytes (lookup (tree.is_at (λ k. slice_cmp nat_cmp q (string_bytes k))) (e ∷ es))) ≡ list_any (bytes_eq q) (map string_bytes (map (λ e. e.0) (e ∷ es)))
+  by : (b : Bool) → at_text q e.0 ≡ b → bytes_eq q (string_bytes e.0) ≡ b
+      → is_some (option_map string_bytes (lookup (at_text q) es)) ≡ list_any (bytes_eq q) (map string_bytes (map (λ e. e.0) es))
+      → is_some (option_map string_bytes (lookup (at_text q) (e ∷ es))) ≡ list_any (bytes_eq q) (map string_bytes (map (λ e. e.0) (e ∷ es)))
   by true t u rest = rw (t, u) refl
   by false t u rest = rw (t, u) rest
 

@@ -1,4 +1,4 @@
--- When loading says that the folder failed.
+-- When the answer of loading is that the folder failed.
 use Rattle.std.specs.Prelude.{ℕ, ◌<◌, ◌≤◌, Result, IsErrOf}
 use Rattle.rotor_base.specs.declared.refusal.LoadError.{LoadError}
 use Rattle.rotor_base.specs.declared.refusal.LoadError.TheVariants.{Read}
@@ -6,7 +6,7 @@ use Rattle.tree_io.specs.Outside.{Rose}
 use Rattle.project_load.specs.declared.error.ListError.{ListError}
 use Rattle.project_load.specs.declared.error.ListError.TheVariants as list
 
--- the count of faults never falls, Read comes only where it rose, and always where it is greater afterwards
+-- the count of faults never falls, the answer is Read only if it rose, and always if it is greater afterwards
 pub record HasReadCause {T : Type 0} (before now : ℕ) (result : Result T LoadError) : Type 0 where
   pub later : before ≤ now
   pub read : IsErrOf result Read → Rose before now

@@ -31,7 +31,8 @@ pub record IsEntry (held : FileMap) (line source bytes : List ℕ) : Type 0 wher
 abbrev pub Gives : FileMap → List (List ℕ) → FileMap → FileMap → Type 0
 Gives held [] given all = all ≡ given
 Gives held (line ∷ lines) given all =
-    (source : List ℕ) × (bytes : List ℕ) × IsEntry held line source bytes × (get given source ≡ None) × Gives held lines (insert given source bytes) all
+    (source : List ℕ) × (bytes : List ℕ) × IsEntry held line source bytes × (get given source ≡ None) × Gives held lines
+    (insert given source bytes) all
 
 -- the first bad line has this number, counted from 1: it has not the form, names a FILE that the folder lacks, or
 -- repeats a SOURCE
@@ -66,3 +67,7 @@ IsOutsideList error = (error ≡ Read) ⊎ (error ≡ Load Memory)
 -- the answer is that of the list, or the folder failed, or there was no memory
 abbrev pub IsListAnswer : FileMap → List ℕ → Result FileSet ListError → Type 0
 IsListAnswer held list result = MatchResult result (λ files. Lists held list (Ok files)) (λ error. IsOutsideList error ⊎ Lists held list (Err error))
+
+-- Law: a folder and a list have at most one answer
+abbrev pub ListsAreOne : Type 0
+ListsAreOne = (held : FileMap) (list : List ℕ) (one other : Result FileSet ListError) → Lists held list one → Lists held list other → one ≡ other

@@ -11,6 +11,6 @@ abbrev pub seen_by : Naming → FileMap → FileMap
 seen_by Own held = held
 seen_by (Listed list) held = given_by held (table_of list.now)
 
--- the same, where the content of the folder is told
+-- the same, if the content of the folder is known
 abbrev pub seen : Naming → Option FileMap → Option FileMap
 seen naming content = option_map (seen_by naming) content

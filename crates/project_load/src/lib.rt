@@ -11,6 +11,8 @@ mod naming;
 mod reading;
 
 pub use error::ListError;
-pub use laws::{loaded_files_are_a_project, new_sources_are_loaded, old_sources_come_back};
+pub use laws::{
+    lists_are_one, loaded_files_are_a_project, new_sources_are_loaded, old_sources_come_back,
+};
 pub use listed::load_list;
 pub use loading::load;

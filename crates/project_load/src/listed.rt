@@ -30,7 +30,8 @@ use tree_io::Tree;
 ///
 /// The first of these that the call meets:
 ///
-/// - `Read`, if the folder failed. It comes only if the count of faults rose, and always if it is greater afterwards.
+/// - `Read`, if the folder failed. The answer is `Read` only if the count of faults rose, and always if it is greater
+///   afterwards.
 /// - `BadList` with 0, if the folder lacks the list.
 /// - `Load` with `TooLarge`, if the list has more than 1,048,576 bytes.
 /// - `BadList` with the number, from 1, of the first line that has another form, repeats a SOURCE or names a FILE that

@@ -19,9 +19,9 @@ use tree_io::Tree;
 ///
 /// # Errors
 ///
-/// The first of these that it meets: `Read`, if the folder failed; `TooMany`, before it reads; `TooLarge`, at the file
-/// that is too large or with which all so far are; and what [`make_files`] refuses. `Read` comes only if the count of
-/// faults rose, and always if it is greater afterwards. And `Memory`.
+/// The first of these that the call meets: `Read`, if the folder failed; `TooMany`, before it reads; `TooLarge`, at the
+/// file that is too large or with which all so far are; and what [`make_files`] refuses. The answer is `Read` only if
+/// the count of faults rose, and always if it is greater afterwards. And `Memory`.
 pub fn load<T: Tree>(alloc: Global, tree: &mut T) -> Result<Files, LoadError>
     ensures answer { IfSome (T.content tree.old) (λ held. IsLoad held result) }
     ensures cause { HasReadCause (T.faults tree.old) (T.faults tree.new) result }

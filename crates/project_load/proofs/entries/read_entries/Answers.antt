@@ -19,9 +19,10 @@ pub loop-line-preserved : goal.loop-line-preserved
 loop-line-preserved c = record {
   within = omega (arith, c.in-Some.ensures.shorter);
   so_far =
-      more_read c.args.folder.now (feed_lines c.args.bytes.now) (feed_lines c.loop-line.rest.now) (feed_lines c.in-Some.behind.now) c.loop-line.before
-      (table_of c.loop-line.entries) c.in-Some.line.now c.loop-line.invariant.so_far c.in-Some.ensures.line c.in-Some-new_entry.source.now c.in-Some-new_entry.file.now
-      c.in-Some-new_entry.ensures.entry c.in-Some-new_entry.ensures.fresh (table_of c.insert.new.self) c.in_ok-insert.ensures;
+      more_read c.args.folder.now (feed_lines c.args.bytes.now) (feed_lines c.loop-line.rest.now) (feed_lines c.in-Some.behind.now)
+      c.loop-line.before (table_of c.loop-line.entries) c.in-Some.line.now c.loop-line.invariant.so_far c.in-Some.ensures.line
+      c.in-Some-new_entry.source.now c.in-Some-new_entry.file.now c.in-Some-new_entry.ensures.entry c.in-Some-new_entry.ensures.fresh
+      (table_of c.insert.new.self) c.in_ok-insert.ensures;
 }
 
 pub returns-clause-gives : goal.returns-clause-gives

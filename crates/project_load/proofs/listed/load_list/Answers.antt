@@ -8,4 +8,5 @@ pub returns-clause-answer : goal.returns-clause-answer
 returns-clause-answer g c = telling (g.T.Tree.content c.args.tree.now) _ (λ held e.
     list_answer held c.args.list.now (table_of c.in_ok-entries.entries) c.load_entries.result
     (told (g.T.Tree.content c.list_folder.new.tree) _ held (c.list_folder.ensures.content ∙ e) c.in_ok-entries.ensures.entries)
-    (told (g.T.Tree.content c.read_list.new.tree) _ held (c.read_list.ensures.content ∙ (c.list_folder.ensures.content ∙ e)) c.load_entries.ensures.answer))
+    (told (g.T.Tree.content c.read_list.new.tree) _ held (c.read_list.ensures.content ∙
+    (c.list_folder.ensures.content ∙ e)) c.load_entries.ensures.answer))

@@ -44,10 +44,12 @@ returns-in_err-entries-clause-answer g c =
     } in
     let count : c.len-count.result ≡ length (map string_bytes c.source_names-names.result.items) = grind (arith, common_steps) in
     let error : LoadError = c.in_err-entries.field-0.0 in
-    let large : IfSome content (λ held. IsOutside c.in_err-entries.field-0.0 ⊎ (too_large (files_in held (map string_bytes c.source_names-names.result.items)) ≡ Some c.in_err-entries.field-0.0)) =
+    let large : IfSome content (λ held. IsOutside c.in_err-entries.field-0.0 ⊎
+    (too_large (files_in held (map string_bytes c.source_names-names.result.items)) ≡ Some c.in_err-entries.field-0.0)) =
     rw (← c.deref-2.ensures.value) c.in_err-entries.ensures.refused
     in
-    passed_on c.from_residual.result error (λ (r : Result FileSet LoadError). IfSome content (λ held. IsLoad held r)) c.from_residual.ensures.0 c.from_residual.ensures.1
+    passed_on c.from_residual.result error (λ (r : Result FileSet LoadError). IfSome content
+    (λ held. IsLoad held r)) c.from_residual.ensures.0 c.from_residual.ensures.1
     (large_answer content _ _ error h (omega (arith, count, c.if-count-gt-MAX_SOURCES.false)) large)
 
 pub read_manifest-requires : goal.read_manifest-requires
@@ -61,7 +63,8 @@ read_manifest-requires g c =
     let there : c.has_manifest-is_there.result ≡ list_any (bytes_eq (codes "rotor.units")) (map string_bytes c.args.listed.items) =
     rw (any_map string_bytes (bytes_eq (codes "rotor.units")) c.args.listed.items, ← c.deref.ensures.value) c.has_manifest-is_there.ensures
     in
-    λ held e. listing_manifest content _ _ c.has_manifest-is_there.result h there held (ap (seen c.args.naming.now) (sym c.read_sources.ensures.content) ∙ e)
+    λ held e. listing_manifest content _ _ c.has_manifest-is_there.result h there held
+    (ap (seen c.args.naming.now) (sym c.read_sources.ensures.content) ∙ e)
 
 pub returns-clause-answer : goal.returns-clause-answer
 returns-clause-answer g c =
@@ -74,10 +77,12 @@ returns-clause-answer g c =
     let read : IfSome content (λ held. c.in_ok-entries.entries.items ≡ files_in held (map string_bytes c.source_names-names.result.items)) =
     rw (← c.deref-2.ensures.value) c.in_ok-entries.ensures.read
     in
-    let manifest : IfSome content (λ held. option_map (λ bytes. bytes.items) c.in_ok-manifest.manifest ≡ option_map (take 1048577) (manifest_of held)) =
+    let manifest : IfSome content (λ held. option_map (λ bytes. bytes.items) c.in_ok-manifest.manifest ≡
+    option_map (take 1048577) (manifest_of held)) =
     rw (← c.read_sources.ensures.content) c.in_ok-manifest.ensures.read
     in
-    made_answer content _ _ c.in_ok-entries.entries.items _ c.make_files.result h read manifest c.make_files.ensures.files c.make_files.ensures.taken c.make_files.ensures.refused
+    made_answer content _ _ c.in_ok-entries.entries.items _ c.make_files.result h read manifest
+    c.make_files.ensures.files c.make_files.ensures.taken c.make_files.ensures.refused
 
 pub returns-clause-cause : goal.returns-clause-cause
 returns-clause-cause g c =
@@ -91,4 +96,5 @@ returns-clause-cause g c =
     }
 
 pub returns-clause-steady : goal.returns-clause-steady
-returns-clause-steady g c = λ s. ((c.read_manifest.ensures.steady (c.read_sources.ensures.steady s).0).0, made_not_read _ _ c.make_files.result c.make_files.ensures.refused)
+returns-clause-steady g c =
+    λ s. ((c.read_manifest.ensures.steady (c.read_sources.ensures.steady s).0).0, made_not_read _ _ c.make_files.result c.make_files.ensures.refused)

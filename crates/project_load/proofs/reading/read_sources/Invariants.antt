@@ -1,4 +1,4 @@
--- The files so far are read and keep the limits, so the first with which they are over is among those to come.
+-- The files so far are read and keep the limits, so the first with which they are over is among the others.
 use Rattle.std.proofs.Common.{◌≡◌, ◌≤◌, false, Some, length, map, take, sum_by, string_bytes}
 use Rattle.rotor_base.specs.Files.{are_over, names_of}
 use Rattle.tree_io.specs.Outside.{FileMap, KeepsRoom}

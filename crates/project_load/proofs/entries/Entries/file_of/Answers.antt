@@ -6,4 +6,6 @@ pub returns-in-None : goal.returns-in-None
 returns-in-None c = sym (table_get c.args.self.now c.args.source.now ∙ ap (option_map string_bytes) (sym c.in-None.ensures.value))
 
 pub returns-in-Some : goal.returns-in-Some
-returns-in-Some c = ap (λ (v : List ℕ). Some v) c.as_str.ensures.value ∙ sym (table_get c.args.self.now c.args.source.now ∙ ap (option_map string_bytes) (sym c.in-Some.ensures.value))
+returns-in-Some c =
+    ap (λ (v : List ℕ). Some v) c.as_str.ensures.value
+    ∙ sym (table_get c.args.self.now c.args.source.now ∙ ap (option_map string_bytes) (sym c.in-Some.ensures.value))
