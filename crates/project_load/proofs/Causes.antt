@@ -12,7 +12,7 @@ same_count before now result x e h = by (cases_lt before now) where
   by (inl l) = let no : result ≡ Err Read = h.passed l in cc
   by (inr l) = let later : before ≤ now = h.later in omega arith
 
--- what is known where the content is told, and the other way round
+-- a fact on the content if it is known, at a known content, and the other way round
 pub told : {X : Type 0} (content : Option X) (P : X → Type 0) (held : X) → content ≡ Some held → IfSome content P → P held
 told content P held e h = subst (λ o. IfSome o P) e h
 

@@ -1,4 +1,4 @@
--- What is left of a listing after it is filtered, sorted, and freed of names that stand twice.
+-- What is left of a listing after it is filtered, sorted, and freed of names that repeat.
 use Rattle.std.proofs.Common.{◌≡◌, ℕ, List, [], ◌∷◌, Bool, true, false, not, ◌&&◌, ◌||◌, cond, map, filter, IsPermutation, refl, sym, ap, ◌∙◌}
 use Rattle.std.specs.List.{list_all, list_any, dedup, dedup_from, AllByRecursion}
 use Rattle.std.specs.List.Sorted.{IsStrictlySortedBy}

@@ -4,4 +4,10 @@ pub mod Loaded
 pub mod Sorted
 pub mod SourcesRead
 pub mod Keys
+pub mod ListLines
+pub mod ListLoads
+pub mod ListWords
+pub mod OneList
 pub mod Rewritten
+pub mod Seeing
+pub mod Tables

@@ -81,7 +81,7 @@ below_keys : (k : List ℕ) (es : List (List ℕ × List ℕ)) → T (below_all 
 below_keys k [] h = tt
 below_keys k (e ∷ es) h = (is_less _ (first_of_two _ _ h), below_keys k es (second_of_two _ _ h))
 
-keys_rise : (es : List (List ℕ × List ℕ)) → T (is_sorted (slice_cmp nat_cmp) es) → IsStrictlySortedBy (slice_cmp nat_cmp) (map (λ e. e.0) es)
+pub keys_rise : (es : List (List ℕ × List ℕ)) → T (is_sorted (slice_cmp nat_cmp) es) → IsStrictlySortedBy (slice_cmp nat_cmp) (map (λ e. e.0) es)
 unfolding IsStrictlySortedBy
 keys_rise [] h = tt
 keys_rise (e ∷ es) h = (below_keys e.0 es (first_of_two _ _ h), keys_rise es (second_of_two _ _ h))
@@ -108,10 +108,10 @@ any_same : (p q : List ℕ → Bool) (xs : List (List ℕ)) → ((w : List ℕ) 
 any_same p q [] h = refl
 any_same p q (x ∷ xs) h = rw (h x, any_same p q xs h) refl
 
-held_name : (held : FileMap) (w : List ℕ) → list_any (bytes_eq w) (keys held) ≡ is_some (get held w)
+pub held_name : (held : FileMap) (w : List ℕ) → list_any (bytes_eq w) (keys held) ≡ is_some (get held w)
 held_name held w = any_same (bytes_eq w) (eq_by_cmp (slice_cmp nat_cmp) w) (keys held) (λ x. sym (is_eq-slice_cmp w x)) ∙ sym (contains_key-keys held w)
 
--- the manifest is listed where the folder has it
+-- the manifest is listed exactly if the folder has it
 pub manifest_listed : (held : FileMap) (listed : List (List ℕ)) → IsPermutation (keys held) listed → list_any (bytes_eq (codes "rotor.units")) listed ≡ is_some (manifest_of held)
 manifest_listed held listed moved = sym (list_any-IsPermutation (bytes_eq (codes "rotor.units")) (keys held) listed moved) ∙ held_name held (codes "rotor.units")
 

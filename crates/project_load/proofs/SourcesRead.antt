@@ -24,14 +24,14 @@ fewer true b m n e = cc
 fewer false true m n e = cc
 fewer false false m n e = grind arith
 
--- where some files keep the limits, so do the first of them
+-- if some files keep the limits, so do the first of them
 kept_front : (front more : List SourceFile) → are_over (front ++ more) ≡ false → are_over front ≡ false
 kept_front front more e =
     let any : list_any (λ file. nat_lt 1048576 (length file.bytes)) (front ++ more) ≡ (list_any (λ file. nat_lt 1048576 (length file.bytes)) front || list_any (λ file. nat_lt 1048576 (length file.bytes)) more) = list_any-append _ front more in
     let all : sum_by (λ file. length file.bytes) (front ++ more) ≡ sum_by (λ file. length file.bytes) front + sum_by (λ file. length file.bytes) more = grind (arith, common_steps) in
     fewer (list_any (λ file. nat_lt 1048576 (length file.bytes)) front) (list_any (λ file. nat_lt 1048576 (length file.bytes)) more) (sum_by (λ file. length file.bytes) front) (sum_by (λ file. length file.bytes) more) (rw (any, all) at e)
 
--- the first with which they are over stands behind those that keep the limits
+-- the first with which they are over is behind those that keep the limits
 past_front : (before front rest : List SourceFile) → are_over (before ++ front) ≡ false → first_with (λ f. are_over (before ++ f)) (front ++ rest) ≡ first_with (λ f. are_over ((before ++ front) ++ f)) rest
 past_front before [] rest e = let same : before ≡ before ++ [] = grind (arith, common_steps) in ap (λ (b : List SourceFile). first_with (λ f. are_over (b ++ f)) rest) same
 past_front before (x ∷ front) rest e =
@@ -48,13 +48,13 @@ too_large_at front x rest e h = ap (option_map (λ (file : SourceFile). TooLarge
 over_cut : (total w b : ℕ) → b ≡ min 1048577 w → (nat_lt 1048576 w || nat_lt 8388608 (total + w)) ≡ (nat_lt 1048576 b || nat_lt 8388608 (total + b))
 over_cut total w b e = grind arith
 
-cut_length : (w bytes : List ℕ) → take 1048577 w ≡ bytes → length bytes ≡ min 1048577 (length w)
+pub cut_length : (w bytes : List ℕ) → take 1048577 w ≡ bytes → length bytes ≡ min 1048577 (length w)
 cut_length w bytes e = ap length (sym e) ∙ length-take 1048577 w
 
-cut_whole : (w bytes : List ℕ) → take 1048577 w ≡ bytes → length bytes ≤ 1048576 → w ≡ bytes
+pub cut_whole : (w bytes : List ℕ) → take 1048577 w ≡ bytes → length bytes ≤ 1048576 → w ≡ bytes
 cut_whole w bytes e h = sym (take_all 1048577 w (omega (arith, cut_length w bytes e))) ∙ e
 
-file_read : (held : Option (List ℕ)) (bytes : List ℕ) → IsFront 1048577 held bytes → (w : List ℕ) × (held ≡ Some w) × (take 1048577 w ≡ bytes)
+pub file_read : (held : Option (List ℕ)) (bytes : List ℕ) → IsFront 1048577 held bytes → (w : List ℕ) × (held ≡ Some w) × (take 1048577 w ≡ bytes)
 file_read None bytes e = cc
 file_read (Some w) bytes e = (w, refl, cc)
 

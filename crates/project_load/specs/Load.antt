@@ -9,7 +9,7 @@ use Rattle.rotor_base.specs.declared.refusal.LoadError.{LoadError}
 use Rattle.rotor_base.specs.declared.refusal.LoadError.TheVariants.{Read, Memory}
 use Rattle.tree_io.specs.Outside.{FileMap}
 
--- the file of this name, where the folder has one
+-- the file of this name, if the folder has one
 abbrev pub file_in : FileMap → List ℕ → Option SourceFile
 file_in held name = option_map (λ bytes. record { name = name; bytes = bytes }) (get held name)
 
@@ -25,11 +25,11 @@ source_names held = filter is_source_name (keys held)
 abbrev pub sources_of : FileMap → List SourceFile
 sources_of held = files_in held (source_names held)
 
--- the manifest of a folder, where it has one
+-- the manifest of a folder, if it has one
 abbrev pub manifest_of : FileMap → Option (List ℕ)
 manifest_of held = get held (codes "rotor.units")
 
--- these files, or the refusal where there is one
+-- these files, or the refusal if there is one
 abbrev pub unless_refused : Option LoadError → FileSet → Result FileSet LoadError
 unless_refused None files = Ok files
 unless_refused (Some error) files = Err error
@@ -38,7 +38,7 @@ unless_refused (Some error) files = Err error
 unfoldable pub loaded : FileMap → Result FileSet LoadError
 loaded held = unless_refused (load_refusal (sources_of held) (manifest_of held)) (record { entries = sources_of held; manifest = manifest_of held })
 
--- the refusals that Load does not give
+-- the refusals that no folder has
 abbrev pub IsOutside : LoadError → Type 0
 IsOutside error = (error ≡ Read) ⊎ (error ≡ Memory)
 

@@ -29,7 +29,7 @@ pub record AreOthers (old new : FileSet) : Type 0 where
 abbrev pub LoadedFilesAreAProject : Type 0
 LoadedFilesAreAProject = (held : FileMap) (files : FileSet) → loaded held ≡ Ok files → IsProject files
 
--- Law: where a folder loads as some files, and others of the same names are a project, the folder loads as the others
+-- Law: if a folder loads as some files, and others of the same names are a project, the folder loads as the others
 -- after those that differ are written
 abbrev pub NewSourcesAreLoaded : Type 0
 NewSourcesAreLoaded =

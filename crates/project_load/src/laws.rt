@@ -1,4 +1,5 @@
 //! The laws of loading, each as the contract of a function.
+ghost use Rattle.project_load.specs.Listed.{ListsAreOne};
 ghost use Rattle.project_load.specs.Rewritten.{LoadedFilesAreAProject, NewSourcesAreLoaded, OldSourcesComeBack};
 
 /// If a folder loads as some files, it loads as others of the same names after those that differ are written.
@@ -14,4 +15,9 @@ pub fn old_sources_come_back()
 /// What a folder loads as is a project.
 pub fn loaded_files_are_a_project()
     ensures { LoadedFilesAreAProject }
+{}
+
+/// A folder and a list have at most one answer.
+pub fn lists_are_one()
+    ensures { ListsAreOne }
 {}

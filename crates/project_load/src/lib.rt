@@ -1,10 +1,18 @@
-//! Loading a folder as the files of a project.
+//! Loading a folder, or the files that a list in it names, as the files of a project.
 #![tactic(auto)]
 
+mod entries;
+mod error;
 mod laws;
+mod listed;
 mod loading;
 mod names;
+mod naming;
 mod reading;
 
-pub use laws::{loaded_files_are_a_project, new_sources_are_loaded, old_sources_come_back};
+pub use error::ListError;
+pub use laws::{
+    lists_are_one, loaded_files_are_a_project, new_sources_are_loaded, old_sources_come_back,
+};
+pub use listed::load_list;
 pub use loading::load;

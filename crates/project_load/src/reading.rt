@@ -1,4 +1,4 @@
-//! Reading a folder's list and its files.
+//! Reading the names of a folder and its files.
 ghost use Rattle.std.specs.Prelude.{◌≡◌, ◌⊎◌, ◌≤◌, ◌+◌, ◌^◌, ◌<◌, ◌||◌, nat_lt, Some, List, ℕ, map, take, length, string_bytes, IfOk, IfErr, IfSome, IsSome, IsErrOf, IsPermutation};
 ghost use Rattle.std.specs.Option.{ForSome, is_some, option_map};
 ghost use Rattle.std.specs.List.{AllByRecursion};
@@ -8,8 +8,10 @@ ghost use Rattle.rotor_base.specs.Files.{names_of, too_large};
 ghost use Rattle.tree_io.specs.Outside.{IsFront, KeepsRoom, StaysSteady};
 ghost use Rattle.project_load.specs.Cause.{HasReadCause};
 ghost use Rattle.project_load.specs.Load.{IsOutside, files_in, manifest_of};
+ghost use Rattle.project_load.specs.Naming.{seen};
 
 use crate::names::MANIFEST;
+use crate::naming::Naming;
 use rotor_base::{LoadError, MAX_FILE_BYTES, MAX_TOTAL_BYTES, Memory, Name, Row, SourceFile, Text};
 use std::alloc::Global;
 use tree_io::{Tree, TreeError};
@@ -55,16 +57,36 @@ pub(crate) fn read_front<T: Tree>(
     }
 }
 
+/// The first bytes of the file of a source, as many as it may have and one more.
+fn read_source<T: Tree>(
+    alloc: Global,
+    source: &str,
+    naming: &Naming<'_>,
+    tree: &mut T,
+) -> Result<Vec<u8>, LoadError>
+    requires { ForSome (seen naming.now (T.content tree.old)) (λ held. IsSome (get held source.now)) }
+    ensures bytes { IfOk result (λ bytes. IfSome (seen naming.now (T.content tree.old)) (λ held. IsFront 1048577 (get held source.now) bytes.items)) }
+    ensures limit { IfOk result (λ bytes. length bytes.items ≤ 1048577) }
+    ensures outside { IfErr result IsOutside }
+    ensures content { T.content tree.new ≡ T.content tree.old }
+    ensures room { KeepsRoom (T.room_for tree.old) (T.room_for tree.new) }
+    ensures cause { HasReadCause (T.faults tree.old) (T.faults tree.new) result }
+    ensures steady { StaysSteady (T.is_steady tree.old) (T.is_steady tree.new) (IsErrOf result LoadError.Read) }
+{
+    read_front(alloc, naming.file_of(source), tree)
+}
+
 /// The files of these names, read one after another.
 pub(crate) fn read_sources<T: Tree>(
     alloc: Global,
     names: &[String],
+    naming: &Naming<'_>,
     tree: &mut T,
 ) -> Result<Vec<SourceFile>, LoadError>
-    requires { ForSome (T.content tree.old) (λ held. AllByRecursion (λ name. IsSome (get held name)) (map string_bytes names.now)) }
+    requires { ForSome (seen naming.now (T.content tree.old)) (λ held. AllByRecursion (λ name. IsSome (get held name)) (map string_bytes names.now)) }
     ensures named { IfOk result (λ files. names_of files.items ≡ map string_bytes names.now) }
-    ensures read { IfOk result (λ files. IfSome (T.content tree.old) (λ held. files.items ≡ files_in held (map string_bytes names.now))) }
-    ensures refused { IfErr result (λ error. IfSome (T.content tree.old) (λ held. IsOutside error ⊎ (too_large (files_in held (map string_bytes names.now)) ≡ Some error))) }
+    ensures read { IfOk result (λ files. IfSome (seen naming.now (T.content tree.old)) (λ held. files.items ≡ files_in held (map string_bytes names.now))) }
+    ensures refused { IfErr result (λ error. IfSome (seen naming.now (T.content tree.old)) (λ held. IsOutside error ⊎ (too_large (files_in held (map string_bytes names.now)) ≡ Some error))) }
     ensures content { T.content tree.new ≡ T.content tree.old }
     ensures room { KeepsRoom (T.room_for tree.old) (T.room_for tree.new) }
     ensures cause { HasReadCause (T.faults tree.old) (T.faults tree.new) result }
@@ -73,7 +95,7 @@ pub(crate) fn read_sources<T: Tree>(
     let mut files = Vec::new(alloc);
     let mut total: u64 = 0;
     for name in names {
-        let bytes = read_front(alloc, name.as_str(), tree)?;
+        let bytes = read_source(alloc, name.as_str(), naming, tree)?;
         let len = bytes.len() as u64;
         if is_over(total, len) {
             return Err(too_large_file(alloc, name.as_str())?);
@@ -93,7 +115,7 @@ fn is_over(total: u64, len: u64) -> bool
 }
 
 /// The refusal of a file that is too large.
-fn too_large_file(alloc: Global, name: &str) -> Result<LoadError, Memory>
+pub(crate) fn too_large_file(alloc: Global, name: &str) -> Result<LoadError, Memory>
     ensures { IfOk result (λ error. error ≡ LoadError.TooLarge name.now) }
 {
     Ok(LoadError::TooLarge {
@@ -111,14 +133,15 @@ fn source_file(alloc: Global, name: &str, bytes: Vec<u8>) -> Result<SourceFile, 
     })
 }
 
-/// The first bytes of the manifest, where the folder has one.
+/// The first bytes of the manifest, if the folder has one.
 pub(crate) fn read_manifest<T: Tree>(
     alloc: Global,
     is_there: bool,
+    naming: &Naming<'_>,
     tree: &mut T,
 ) -> Result<Option<Vec<u8>>, LoadError>
-    requires { ForSome (T.content tree.old) (λ held. is_there ≡ is_some (manifest_of held)) }
-    ensures read { IfOk result (λ manifest. IfSome (T.content tree.old) (λ held. option_map (λ bytes. bytes.items) manifest ≡ option_map (take 1048577) (manifest_of held))) }
+    requires { ForSome (seen naming.now (T.content tree.old)) (λ held. is_there ≡ is_some (manifest_of held)) }
+    ensures read { IfOk result (λ manifest. IfSome (seen naming.now (T.content tree.old)) (λ held. option_map (λ bytes. bytes.items) manifest ≡ option_map (take 1048577) (manifest_of held))) }
     ensures outside { IfErr result IsOutside }
     ensures content { T.content tree.new ≡ T.content tree.old }
     ensures room { KeepsRoom (T.room_for tree.old) (T.room_for tree.new) }
@@ -128,5 +151,5 @@ pub(crate) fn read_manifest<T: Tree>(
     if !is_there {
         return Ok(None);
     }
-    Ok(Some(read_front(alloc, MANIFEST, tree)?))
+    Ok(Some(read_source(alloc, MANIFEST, naming, tree)?))
 }
