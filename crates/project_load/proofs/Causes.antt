@@ -21,6 +21,7 @@ telling None P h = tt
 telling (Some held) P h = h held refl
 
 -- an error that is passed on
-pub passed_on : {T : Type 0} (result : Result T LoadError) (error : LoadError) (P : Result T LoadError → Type 0) → IsErr result → IsErrAnd result (λ e. e ≡ error) → P (Err error) → P result
+pub passed_on : {T : Type 0} (result : Result T LoadError) (error : LoadError) (P : Result T LoadError → Type 0) → IsErr result
+    → IsErrAnd result (λ e. e ≡ error) → P (Err error) → P result
 passed_on (Ok x) error P h e p = cc
 passed_on (Err e) error P h same p = subst (λ e. P (Err e)) (sym same) p

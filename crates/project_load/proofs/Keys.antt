@@ -33,7 +33,8 @@ module _ {K X : Type 0} (R : K → K → Ordering) (o : IsTotalOrder R) where
       ap (λ r. cond (is_eq r) (Some e.1) (find R k es)) below ∙ not_found k y es p (second_of_two _ _ h)
 
   -- a new value at a key that is there keeps the keys
-  keys_put : (k : K) (v : X) (es : List (K × X)) → T (is_sorted R es) → is_some (find R k es) ≡ true → map (λ e. e.0) (put R k v es) ≡ map (λ e. e.0) es
+  keys_put : (k : K) (v : X) (es : List (K × X)) → T (is_sorted R es) → is_some (find R k es) ≡ true
+      → map (λ e. e.0) (put R k v es) ≡ map (λ e. e.0) es
   keys_put k v [] s h = cc
   keys_put k v (e ∷ es) s h = by_order_of (R k e.0) refl (keys_put k v es (second_of_two _ _ s)) where
     by_order_of : (r : Ordering) → R k e.0 ≡ r → (is_some (find R k es) ≡ true → map (λ e. e.0) (put R k v es) ≡ map (λ e. e.0) es)
@@ -49,7 +50,8 @@ module _ {K X : Type 0} (R : K → K → Ordering) (o : IsTotalOrder R) where
 pub keys_kept : (files : FileMap) (name bytes : List ℕ) → IsSome (get files name) → keys (insert files name bytes) ≡ keys files
 keys_kept files name bytes h =
     ap (map (λ e. e.0)) (entries-insert nat_list_cmp_total files name bytes)
-    ∙ keys_put (slice_cmp nat_cmp) nat_list_cmp_total name bytes (entries files) (entries_sorted files) (sym (ap is_some (get-entries files name)) ∙ h)
+    ∙ keys_put (slice_cmp nat_cmp) nat_list_cmp_total name bytes (entries files) (entries_sorted files)
+    (sym (ap is_some (get-entries files name)) ∙ h)
 
 -- a file that was written has its new bytes, and another has its old ones
 pub get_written : (files : FileMap) (name bytes q : List ℕ) → get (insert files name bytes) q ≡ cond (bytes_eq q name) (Some bytes) (get files q)

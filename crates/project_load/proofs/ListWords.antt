@@ -1,5 +1,7 @@
 -- The words of a line, cut at the first space.
-use Rattle.std.proofs.Common.{◌≡◌, ◌∙◌, ℕ, zero, suc, ◌+◌, ◌-◌, ◌<◌, ◌==◌, ◌&&◌, ◌||◌, Bool, true, false, cond, Option, Some, None, List, [], ◌∷◌, ◌++◌, String, length, take, drop, get_or, nat_lt, codes, string_bytes, IfNone, is_some, inl, inr, refl, sym, ap, subst, take-append-drop, arith}
+use Rattle.std.proofs.Common.{◌≡◌, ◌∙◌, ℕ, zero, suc, ◌+◌, ◌-◌, ◌<◌, ◌==◌, ◌&&◌, ◌||◌, Bool, true, false, cond, Option, Some, None, List, [], ◌∷◌}
+use Rattle.std.proofs.Common.{◌++◌, String, length, take, drop, get_or, nat_lt, codes, string_bytes, IfNone, is_some, inl, inr, refl, sym, ap, subst}
+use Rattle.std.proofs.Common.{take-append-drop, arith}
 use Rattle.std.specs.List.{list_any, list_all, position, position_or_len}
 use Rattle.std.specs.BTreeMap.{is_at}
 use Rattle.std.specs.BTreeSet.{BTreeSet, contains_text}

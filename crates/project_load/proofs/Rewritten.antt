@@ -1,5 +1,6 @@
 -- Loading after sources were written, and after the old ones were written again.
-use Rattle.std.proofs.Common.{◌≡◌, ℕ, zero, suc, ◌⊎◌, Bool, true, false, cond, ◌&&◌, ◌||◌, List, [], ◌∷◌, filter, Option, Some, None, IsSome, is_some, option_map, Ok, slice_get, Contains, codes, refl, sym, ap, subst, ◌∙◌, inl, inr, arith}
+use Rattle.std.proofs.Common.{◌≡◌, ℕ, zero, suc, ◌⊎◌, Bool, true, false, cond, ◌&&◌, ◌||◌, List, [], ◌∷◌, filter, Option, Some, None, IsSome, is_some}
+use Rattle.std.proofs.Common.{option_map, Ok, slice_get, Contains, codes, refl, sym, ap, subst, ◌∙◌, inl, inr, arith}
 use Rattle.std.specs.List.{AllByRecursion, cons_option, list_any, list_all}
 use Rattle.std.specs.List.Sorted.{IsStrictlySortedBy}
 use Rattle.std.specs.Ordering.{nat_cmp}
@@ -22,7 +23,8 @@ use Rattle.project_load.proofs.Loaded.{names_read, loaded_is}
 -- ---- files of other names
 
 -- two sources of one name are one
-distinct : (fs : List SourceFile) → IsStrictlySortedBy (slice_cmp nat_cmp) (names_of fs) → (j k : ℕ) (g f : SourceFile) → slice_get fs j ≡ Some g → slice_get fs k ≡ Some f → g.name ≡ f.name → g ≡ f
+distinct : (fs : List SourceFile) → IsStrictlySortedBy (slice_cmp nat_cmp) (names_of fs) → (j k : ℕ) (g f : SourceFile) → slice_get fs j ≡ Some g
+    → slice_get fs k ≡ Some f → g.name ≡ f.name → g ≡ f
 unfolding IsStrictlySortedBy
 distinct [] h j k g f a b e = cc
 distinct (x ∷ fs) h zero zero g f a b e = sym (some_is x g a) ∙ some_is x f b
@@ -38,13 +40,16 @@ module _ (fs : List SourceFile) (order : IsStrictlySortedBy (slice_cmp nat_cmp) 
     Holds held = get held f.name ≡ Some f.bytes
 
     -- a write of a source of that name is that source's
-    written : (held : FileMap) (j : ℕ) (g : SourceFile) (js : List ℕ) → slice_get fs j ≡ Some g → (get held f.name ≡ Some f.bytes) ⊎ Contains (j ∷ js) k
+    written : (held : FileMap) (j : ℕ) (g : SourceFile) (js : List ℕ) → slice_get fs j ≡ Some g → (get held f.name ≡ Some f.bytes)
+        ⊎ Contains (j ∷ js) k
         → (get (insert held g.name g.bytes) f.name ≡ Some f.bytes) ⊎ Contains js k
     written held j g js a h = by (bytes_eq f.name g.name) refl h where
-      by : (b : Bool) → bytes_eq f.name g.name ≡ b → (get held f.name ≡ Some f.bytes) ⊎ Contains (j ∷ js) k → (get (insert held g.name g.bytes) f.name ≡ Some f.bytes) ⊎ Contains js k
+      by : (b : Bool) → bytes_eq f.name g.name ≡ b → (get held f.name ≡ Some f.bytes) ⊎ Contains (j ∷ js) k
+          → (get (insert held g.name g.bytes) f.name ≡ Some f.bytes) ⊎ Contains js k
       by true e h =
           let same : g ≡ f = distinct fs order j k g f a here (sym ((bytes_eq-Decides f.name g.name).0 e)) in
-          inl (get_written held g.name g.bytes f.name ∙ (ap (λ (b : Bool). cond b (Some g.bytes) (get held f.name)) e ∙ ap (λ (x : SourceFile). Some x.bytes) same))
+          inl (get_written held g.name g.bytes f.name
+          ∙ (ap (λ (b : Bool). cond b (Some g.bytes) (get held f.name)) e ∙ ap (λ (x : SourceFile). Some x.bytes) same))
       by false e (inl h) = inl (get_written held g.name g.bytes f.name ∙ (ap (λ (b : Bool). cond b (Some g.bytes) (get held f.name)) e ∙ h))
       by false e (inr (zero, l, i)) =
           let at : slice_get fs j ≡ slice_get fs k = ap (slice_get fs) i in
@@ -54,74 +59,92 @@ module _ (fs : List SourceFile) (order : IsStrictlySortedBy (slice_cmp nat_cmp) 
           absurd cc
       by false e (inr (suc i, l, q)) = inr (i, omega (arith, l), q)
 
-    passed : (held : FileMap) (j : ℕ) (js : List ℕ) → slice_get fs j ≡ None → (get held f.name ≡ Some f.bytes) ⊎ Contains (j ∷ js) k → (get held f.name ≡ Some f.bytes) ⊎ Contains js k
+    passed : (held : FileMap) (j : ℕ) (js : List ℕ) → slice_get fs j ≡ None → (get held f.name ≡ Some f.bytes) ⊎ Contains (j ∷ js) k
+        → (get held f.name ≡ Some f.bytes) ⊎ Contains js k
     passed held j js a (inl h) = inl h
     passed held j js a (inr (zero, l, i)) = let no : None ≡ Some f = sym a ∙ (ap (slice_get fs) i ∙ here) in absurd cc
     passed held j js a (inr (suc i, l, q)) = inr (i, omega (arith, l), q)
 
-    holds : (numbers : List ℕ) (held : FileMap) → (get held f.name ≡ Some f.bytes) ⊎ Contains numbers k → get (after (files_at fs numbers) held) f.name ≡ Some f.bytes
+    holds : (numbers : List ℕ) (held : FileMap) → (get held f.name ≡ Some f.bytes) ⊎ Contains numbers k
+        → get (after (files_at fs numbers) held) f.name ≡ Some f.bytes
     holds [] held (inl h) = h
     holds [] held (inr c) = absurd (omega (arith, c.1))
     holds (j ∷ js) held h = by (slice_get fs j) refl (λ (m : FileMap). holds js m) where
-      by : (o : Option SourceFile) → slice_get fs j ≡ o → ((m : FileMap) → (get m f.name ≡ Some f.bytes) ⊎ Contains js k → get (after (files_at fs js) m) f.name ≡ Some f.bytes)
+      by : (o : Option SourceFile) → slice_get fs j ≡ o
+          → ((m : FileMap) → (get m f.name ≡ Some f.bytes) ⊎ Contains js k → get (after (files_at fs js) m) f.name ≡ Some f.bytes)
           → get (after (cons_option o (files_at fs js)) held) f.name ≡ Some f.bytes
       by None e rest = rest held (passed held j js e h)
       by (Some g) e rest = rest (insert held g.name g.bytes) (written held j g js e h)
 
 -- a name of none of the sources keeps its bytes
-among_at : (q : List ℕ) (fs : List SourceFile) (j : ℕ) (g : SourceFile) → list_any (bytes_eq q) (names_of fs) ≡ false → slice_get fs j ≡ Some g → bytes_eq q g.name ≡ false
+among_at : (q : List ℕ) (fs : List SourceFile) (j : ℕ) (g : SourceFile) → list_any (bytes_eq q) (names_of fs) ≡ false → slice_get fs j ≡ Some g
+    → bytes_eq q g.name ≡ false
 among_at q [] j g h e = cc
-among_at q (x ∷ fs) zero g h e = subst (λ (y : SourceFile). bytes_eq q y.name ≡ false) (some_is x g e) (neither_first (bytes_eq q x.name) (list_any (bytes_eq q) (names_of fs)) h) where
-  neither_first : (a b : Bool) → (a || b) ≡ false → a ≡ false
-  neither_first true b h = h
-  neither_first false b h = refl
+among_at q (x ∷ fs) zero g h e = subst (λ (y : SourceFile). bytes_eq q y.name ≡ false) (some_is x g e)
+    (neither_first (bytes_eq q x.name) (list_any (bytes_eq q) (names_of fs)) h) where
+      neither_first : (a b : Bool) → (a || b) ≡ false → a ≡ false
+      neither_first true b h = h
+      neither_first false b h = refl
 among_at q (x ∷ fs) (suc j) g h e = among_at q fs j g (neither_second (bytes_eq q x.name) (list_any (bytes_eq q) (names_of fs)) h) e where
   neither_second : (a b : Bool) → (a || b) ≡ false → b ≡ false
   neither_second true b h = absurd cc
   neither_second false b h = h
 
-others_stay : (fs : List SourceFile) (q : List ℕ) → list_any (bytes_eq q) (names_of fs) ≡ false → (numbers : List ℕ) (held : FileMap) → get (after (files_at fs numbers) held) q ≡ get held q
+others_stay : (fs : List SourceFile) (q : List ℕ) → list_any (bytes_eq q) (names_of fs) ≡ false → (numbers : List ℕ) (held : FileMap)
+    → get (after (files_at fs numbers) held) q ≡ get held q
 others_stay fs q h [] held = refl
 others_stay fs q h (j ∷ js) held = by (slice_get fs j) refl (λ (m : FileMap). others_stay fs q h js m) where
-  by : (o : Option SourceFile) → slice_get fs j ≡ o → ((m : FileMap) → get (after (files_at fs js) m) q ≡ get m q) → get (after (cons_option o (files_at fs js)) held) q ≡ get held q
+  by : (o : Option SourceFile) → slice_get fs j ≡ o → ((m : FileMap) → get (after (files_at fs js) m) q ≡ get m q)
+      → get (after (cons_option o (files_at fs js)) held) q ≡ get held q
   by None e rest = rest held
-  by (Some g) e rest = rest (insert held g.name g.bytes) ∙ (get_written held g.name g.bytes q ∙ ap (λ (b : Bool). cond b (Some g.bytes) (get held q)) (among_at q fs j g h e))
+  by (Some g) e rest = rest (insert held g.name g.bytes)
+      ∙ (get_written held g.name g.bytes q ∙ ap (λ (b : Bool). cond b (Some g.bytes) (get held q)) (among_at q fs j g h e))
 
 -- sources that are there keep the names of the folder
-there_at : (held : FileMap) (fs : List SourceFile) (j : ℕ) (g : SourceFile) → AllByRecursion (λ n. IsSome (get held n)) (names_of fs) → slice_get fs j ≡ Some g → IsSome (get held g.name)
+there_at : (held : FileMap) (fs : List SourceFile) (j : ℕ) (g : SourceFile) → AllByRecursion (λ n. IsSome (get held n)) (names_of fs)
+    → slice_get fs j ≡ Some g → IsSome (get held g.name)
 there_at held [] j g h e = cc
 there_at held (x ∷ fs) zero g h e = subst (λ (y : SourceFile). IsSome (get held y.name)) (some_is x g e) h.0
 there_at held (x ∷ fs) (suc j) g h e = there_at held fs j g h.1 e
 
-still_there : (held : FileMap) (g : SourceFile) (ns : List (List ℕ)) → AllByRecursion (λ n. IsSome (get held n)) ns → AllByRecursion (λ n. IsSome (get (insert held g.name g.bytes) n)) ns
+still_there : (held : FileMap) (g : SourceFile) (ns : List (List ℕ)) → AllByRecursion (λ n. IsSome (get held n)) ns
+    → AllByRecursion (λ n. IsSome (get (insert held g.name g.bytes) n)) ns
 still_there held g [] h = tt
 still_there held g (n ∷ ns) h = (by (bytes_eq n g.name) refl, still_there held g ns h.1) where
   by : (b : Bool) → bytes_eq n g.name ≡ b → IsSome (get (insert held g.name g.bytes) n)
   by true e = ap is_some (get_written held g.name g.bytes n ∙ ap (λ (b : Bool). cond b (Some g.bytes) (get held n)) e)
   by false e = ap is_some (get_written held g.name g.bytes n ∙ ap (λ (b : Bool). cond b (Some g.bytes) (get held n)) e) ∙ h.0
 
-names_stay : (fs : List SourceFile) (numbers : List ℕ) (held : FileMap) → AllByRecursion (λ n. IsSome (get held n)) (names_of fs) → keys (after (files_at fs numbers) held) ≡ keys held
+names_stay : (fs : List SourceFile) (numbers : List ℕ) (held : FileMap) → AllByRecursion (λ n. IsSome (get held n)) (names_of fs)
+    → keys (after (files_at fs numbers) held) ≡ keys held
 names_stay fs [] held h = refl
 names_stay fs (j ∷ js) held h = by (slice_get fs j) refl (λ (m : FileMap). names_stay fs js m) where
-  by : (o : Option SourceFile) → slice_get fs j ≡ o → ((m : FileMap) → AllByRecursion (λ n. IsSome (get m n)) (names_of fs) → keys (after (files_at fs js) m) ≡ keys m)
+  by : (o : Option SourceFile) → slice_get fs j ≡ o
+      → ((m : FileMap) → AllByRecursion (λ n. IsSome (get m n)) (names_of fs) → keys (after (files_at fs js) m) ≡ keys m)
       → keys (after (cons_option o (files_at fs js)) held) ≡ keys held
   by None e rest = rest held h
-  by (Some g) e rest = rest (insert held g.name g.bytes) (still_there held g (names_of fs) h) ∙ keys_kept held g.name g.bytes (there_at held fs j g h e)
+  by (Some g) e rest = rest (insert held g.name g.bytes) (still_there held g (names_of fs) h)
+      ∙ keys_kept held g.name g.bytes (there_at held fs j g h e)
 
 -- ---- the sources of a folder
 
 -- files that a folder holds are those of their names
-read_back : (held : FileMap) (fs : List SourceFile) → ((k : ℕ) (f : SourceFile) → slice_get fs k ≡ Some f → get held f.name ≡ Some f.bytes) → files_in held (names_of fs) ≡ fs
+read_back : (held : FileMap) (fs : List SourceFile) → ((k : ℕ) (f : SourceFile) → slice_get fs k ≡ Some f → get held f.name ≡ Some f.bytes)
+    → files_in held (names_of fs) ≡ fs
 read_back held [] h = refl
 read_back held (f ∷ fs) h =
-    ap (λ (o : Option (List ℕ)). cons_option (option_map (λ bytes. record { name = f.name; bytes = bytes }) o) (files_in held (names_of fs))) (h 0 f refl)
+    ap (λ (o : Option (List ℕ)). cons_option (option_map (λ bytes. record { name = f.name; bytes = bytes }) o) (files_in held (names_of fs)))
+    (h 0 f refl)
     ∙ ap (λ (gs : List SourceFile). f ∷ gs) (read_back held fs (λ k g e. h (suc k) g e))
 
 -- and a folder holds its sources
-held_at : (held : FileMap) (ns : List (List ℕ)) (k : ℕ) (f : SourceFile) → AllByRecursion (λ n. IsSome (get held n)) ns → slice_get (files_in held ns) k ≡ Some f → get held f.name ≡ Some f.bytes
+held_at : (held : FileMap) (ns : List (List ℕ)) (k : ℕ) (f : SourceFile) → AllByRecursion (λ n. IsSome (get held n)) ns
+    → slice_get (files_in held ns) k ≡ Some f → get held f.name ≡ Some f.bytes
 held_at held [] k f h e = cc
 held_at held (n ∷ ns) k f h e = by (get held n) refl h.0 (λ j i. held_at held ns j f h.1 i) k e where
-  by : (o : Option (List ℕ)) → get held n ≡ o → IsSome o → ((j : ℕ) → slice_get (files_in held ns) j ≡ Some f → get held f.name ≡ Some f.bytes) → (k : ℕ) → slice_get (cons_option (option_map (λ bytes. record { name = n; bytes = bytes }) o) (files_in held ns)) k ≡ Some f → get held f.name ≡ Some f.bytes
+  by : (o : Option (List ℕ)) → get held n ≡ o → IsSome o → ((j : ℕ) → slice_get (files_in held ns) j ≡ Some f → get held f.name ≡ Some f.bytes)
+      → (k : ℕ) → slice_get (cons_option (option_map (λ bytes. record { name = n; bytes = bytes }) o) (files_in held ns)) k ≡ Some f
+      → get held f.name ≡ Some f.bytes
   by None g there rest k e = absurd cc
   by (Some bytes) g there rest zero e =
       let same : record { name = n; bytes = bytes } ≡ f = some_is _ f e in
@@ -143,7 +166,8 @@ all_sources (n ∷ ns) = by (is_source_name n) refl (all_sources ns) where
     other true f = absurd (no_source (subst (λ (x : List ℕ). is_source_name x ≡ true) (sym ((bytes_eq-Decides (codes "rotor.units") n).0 f)) e))
     other false f = rest
 
-module _ (held : FileMap) (old new : FileSet) (numbers : List ℕ) (is : loaded held ≡ Ok old) (others : AreOthers old new) (covers : Covers old.entries new.entries numbers) where
+module _ (held : FileMap) (old new : FileSet) (numbers : List ℕ) (is : loaded held ≡ Ok old) (others : AreOthers old new)
+    (covers : Covers old.entries new.entries numbers) where
   abbrev now : FileMap
   now = after (files_at new.entries numbers) held
 
@@ -186,7 +210,8 @@ module _ (held : FileMap) (old new : FileSet) (numbers : List ℕ) (is : loaded 
   loads : load_refusal new.entries new.manifest ≡ None → loaded now ≡ Ok new
   unfolding loaded
   loads taken =
-      ap (λ (fs : List SourceFile). unless_refused (load_refusal fs (manifest_of now)) (record { entries = fs; manifest = manifest_of now })) sources_now
+      ap (λ (fs : List SourceFile). unless_refused (load_refusal fs (manifest_of now)) (record { entries = fs; manifest = manifest_of now }))
+      sources_now
       ∙ (ap (λ (m : Option (List ℕ)). unless_refused (load_refusal new.entries m) (record { entries = new.entries; manifest = m })) manifest_now
       ∙ ap (λ (o : Option LoadError). unless_refused o new) taken)
 
@@ -203,11 +228,14 @@ module _ (held : FileMap) (old new : FileSet) (numbers : List ℕ) (is : loaded 
       by (inl same) = inl (new_holds k f (same ∙ e))
       by (inr c) = inr c
 
-    at_name : (q : List ℕ) (fs : List SourceFile) → ((k : ℕ) (f : SourceFile) → slice_get fs k ≡ Some f → (get again f.name ≡ Some f.bytes) × (get held f.name ≡ Some f.bytes)) → list_any (bytes_eq q) (names_of fs) ≡ true
+    at_name : (q : List ℕ) (fs : List SourceFile)
+        → ((k : ℕ) (f : SourceFile) → slice_get fs k ≡ Some f → (get again f.name ≡ Some f.bytes) × (get held f.name ≡ Some f.bytes))
+        → list_any (bytes_eq q) (names_of fs) ≡ true
         → get again q ≡ get held q
     at_name q [] h e = absurd cc
     at_name q (f ∷ fs) h e = by (bytes_eq q f.name) refl e (λ j. at_name q fs (λ k g i. h (suc k) g i) j) where
-      by : (b : Bool) → bytes_eq q f.name ≡ b → (b || list_any (bytes_eq q) (names_of fs)) ≡ true → (list_any (bytes_eq q) (names_of fs) ≡ true → get again q ≡ get held q) → get again q ≡ get held q
+      by : (b : Bool) → bytes_eq q f.name ≡ b → (b || list_any (bytes_eq q) (names_of fs)) ≡ true
+          → (list_any (bytes_eq q) (names_of fs) ≡ true → get again q ≡ get held q) → get again q ≡ get held q
       by true g e rest =
           let both = h 0 f refl in
           let same : get again f.name ≡ get held f.name = both.0 ∙ sym both.1 in
@@ -244,7 +272,8 @@ not_refused (Some error) said files e = absurd cc
 
 taken_none : (held : FileMap) (files : FileSet) → loaded held ≡ Ok files → load_refusal (sources_of held) (manifest_of held) ≡ None
 unfolding loaded
-taken_none held files e = not_refused (load_refusal (sources_of held) (manifest_of held)) (record { entries = sources_of held; manifest = manifest_of held }) files e
+taken_none held files e = not_refused (load_refusal (sources_of held) (manifest_of held))
+    (record { entries = sources_of held; manifest = manifest_of held }) files e
 
 pub loaded_files_are_a_project : LoadedFilesAreAProject
 loaded_files_are_a_project held files e =

@@ -1,5 +1,6 @@
 -- The names of a folder's sources are those of its list, whatever the list's order.
-use Rattle.std.proofs.Common.{◌≡◌, ℕ, List, [], ◌∷◌, Bool, true, false, ◌&&◌, ◌||◌, cond, map, filter, IsSome, IsPermutation, codes, refl, sym, ap, subst, ◌∙◌}
+use Rattle.std.proofs.Common.{◌≡◌, ℕ, List, [], ◌∷◌, Bool, true, false, ◌&&◌, ◌||◌, cond, map, filter, IsSome, IsPermutation, codes, refl, sym, ap}
+use Rattle.std.proofs.Common.{subst, ◌∙◌}
 use Rattle.std.proofs.Math.Dec.{T}
 use Rattle.std.specs.Option.{is_some}
 use Rattle.std.specs.List.{list_any, AllByRecursion}
@@ -26,21 +27,25 @@ not_among w (x ∷ xs) h =
     let differs : bytes_eq w x ≡ false = sym (is_eq-slice_cmp w x) ∙ ap is_eq h.0 in
     rw (differs, not_among w xs h.1) refl
 
-below_too : (w x : List ℕ) (xs : List (List ℕ)) → slice_cmp nat_cmp w x ≡ Less → AllByRecursion (λ y. slice_cmp nat_cmp x y ≡ Less) xs → AllByRecursion (λ y. slice_cmp nat_cmp w y ≡ Less) xs
+below_too : (w x : List ℕ) (xs : List (List ℕ)) → slice_cmp nat_cmp w x ≡ Less → AllByRecursion (λ y. slice_cmp nat_cmp x y ≡ Less) xs
+    → AllByRecursion (λ y. slice_cmp nat_cmp w y ≡ Less) xs
 below_too w x [] l h = tt
 below_too w x (y ∷ xs) l h = (nat_list_cmp_total.trans w x y l h.0, below_too w x xs l h.1)
 
 itself : (x : List ℕ) (xs : List (List ℕ)) → list_any (bytes_eq x) (x ∷ xs) ≡ true
 itself x xs = rw ((bytes_eq-Decides x x).1 refl) refl
 
-apart : (x y : List ℕ) (xs ys : List (List ℕ)) → slice_cmp nat_cmp x y ≡ Less → AllByRecursion (λ z. slice_cmp nat_cmp y z ≡ Less) ys → list_any (bytes_eq x) (x ∷ xs) ≡ list_any (bytes_eq x) (y ∷ ys) → ⊥
+apart : (x y : List ℕ) (xs ys : List (List ℕ)) → slice_cmp nat_cmp x y ≡ Less → AllByRecursion (λ z. slice_cmp nat_cmp y z ≡ Less) ys
+    → list_any (bytes_eq x) (x ∷ xs) ≡ list_any (bytes_eq x) (y ∷ ys) → ⊥
 apart x y xs ys l h e =
     let none : list_any (bytes_eq x) (y ∷ ys) ≡ false = not_among x (y ∷ ys) (l, below_too x y ys l h) in
     let bad : true ≡ false = sym (itself x xs) ∙ e ∙ none in
     cc
 
-tails : (x : List ℕ) (xs ys : List (List ℕ)) → AllByRecursion (λ z. slice_cmp nat_cmp x z ≡ Less) xs → AllByRecursion (λ z. slice_cmp nat_cmp x z ≡ Less) ys
-    → ((w : List ℕ) → list_any (bytes_eq w) (x ∷ xs) ≡ list_any (bytes_eq w) (x ∷ ys)) → (w : List ℕ) → list_any (bytes_eq w) xs ≡ list_any (bytes_eq w) ys
+tails : (x : List ℕ) (xs ys : List (List ℕ)) → AllByRecursion (λ z. slice_cmp nat_cmp x z ≡ Less) xs
+    → AllByRecursion (λ z. slice_cmp nat_cmp x z ≡ Less) ys
+    → ((w : List ℕ) → list_any (bytes_eq w) (x ∷ xs) ≡ list_any (bytes_eq w) (x ∷ ys)) → (w : List ℕ)
+    → list_any (bytes_eq w) xs ≡ list_any (bytes_eq w) ys
 tails x xs ys g h e w = by (bytes_eq w x) refl where
   by : (b : Bool) → bytes_eq w x ≡ b → list_any (bytes_eq w) xs ≡ list_any (bytes_eq w) ys
   by true p =
@@ -49,7 +54,8 @@ tails x xs ys g h e w = by (bytes_eq w x) refl where
   by false p = rw p at (e w)
 
 -- two lists in strict order with the same words are one
-pub same_words : (xs ys : List (List ℕ)) → IsStrictlySortedBy (slice_cmp nat_cmp) xs → IsStrictlySortedBy (slice_cmp nat_cmp) ys → ((w : List ℕ) → list_any (bytes_eq w) xs ≡ list_any (bytes_eq w) ys) → xs ≡ ys
+pub same_words : (xs ys : List (List ℕ)) → IsStrictlySortedBy (slice_cmp nat_cmp) xs → IsStrictlySortedBy (slice_cmp nat_cmp) ys
+    → ((w : List ℕ) → list_any (bytes_eq w) xs ≡ list_any (bytes_eq w) ys) → xs ≡ ys
 unfolding IsStrictlySortedBy
 same_words [] [] g h e = refl
 same_words [] (y ∷ ys) g h e = let bad : false ≡ true = e y ∙ itself y ys in cc
@@ -60,8 +66,10 @@ same_words (x ∷ xs) (y ∷ ys) g h e = by (slice_cmp nat_cmp x y) refl (same_w
   by Greater p rest = absurd (apart y x ys xs (nat_list_cmp_total.antisymm y x ∙ ap ordering_reverse p) g.0 (sym (e y)))
   by Equal p rest =
       let same : x ≡ y = slice_cmp-IsAntisymmetric nat_cmp-IsAntisymmetric x y p in
-      let words : (w : List ℕ) → list_any (bytes_eq w) (x ∷ xs) ≡ list_any (bytes_eq w) (x ∷ ys) = subst (λ z. (w : List ℕ) → list_any (bytes_eq w) (x ∷ xs) ≡ list_any (bytes_eq w) (z ∷ ys)) (sym same) e in
-      let below : AllByRecursion (λ z. slice_cmp nat_cmp x z ≡ Less) ys = subst (λ v. AllByRecursion (λ z. slice_cmp nat_cmp v z ≡ Less) ys) (sym same) h.0 in
+      let words : (w : List ℕ) → list_any (bytes_eq w) (x ∷ xs) ≡ list_any (bytes_eq w) (x ∷ ys) =
+      subst (λ z. (w : List ℕ) → list_any (bytes_eq w) (x ∷ xs) ≡ list_any (bytes_eq w) (z ∷ ys)) (sym same) e in
+      let below : AllByRecursion (λ z. slice_cmp nat_cmp x z ≡ Less) ys = subst (λ v. AllByRecursion (λ z. slice_cmp nat_cmp v z ≡ Less) ys)
+      (sym same) h.0 in
       ap (λ (v : List ℕ). v ∷ xs) same ∙ ap (λ (vs : List (List ℕ)). y ∷ vs) (rest (tails x xs ys g.0 below words))
 
 first_of_two : (a b : Bool) → T (a && b) → T a
@@ -77,7 +85,8 @@ is_less Less p = refl
 is_less Equal p = absurd p
 is_less Greater p = absurd p
 
-below_keys : (k : List ℕ) (es : List (List ℕ × List ℕ)) → T (below_all (slice_cmp nat_cmp) k es) → AllByRecursion (λ y. slice_cmp nat_cmp k y ≡ Less) (map (λ e. e.0) es)
+below_keys : (k : List ℕ) (es : List (List ℕ × List ℕ)) → T (below_all (slice_cmp nat_cmp) k es)
+    → AllByRecursion (λ y. slice_cmp nat_cmp k y ≡ Less) (map (λ e. e.0) es)
 below_keys k [] h = tt
 below_keys k (e ∷ es) h = (is_less _ (first_of_two _ _ h), below_keys k es (second_of_two _ _ h))
 
@@ -93,7 +102,8 @@ names_rise held = IsStrictlySortedBy-filter (slice_cmp nat_cmp) is_source_name (
 any_filtered : (p : List ℕ → Bool) (w : List ℕ) (xs : List (List ℕ)) → list_any (bytes_eq w) (filter p xs) ≡ list_any (λ x. p x && bytes_eq w x) xs
 any_filtered p w [] = refl
 any_filtered p w (x ∷ xs) = by (p x) (any_filtered p w xs) where
-  by : (b : Bool) → list_any (bytes_eq w) (filter p xs) ≡ list_any (λ x. p x && bytes_eq w x) xs → list_any (bytes_eq w) (cond b (x ∷ filter p xs) (filter p xs)) ≡ ((b && bytes_eq w x) || list_any (λ x. p x && bytes_eq w x) xs)
+  by : (b : Bool) → list_any (bytes_eq w) (filter p xs) ≡ list_any (λ x. p x && bytes_eq w x) xs
+      → list_any (bytes_eq w) (cond b (x ∷ filter p xs) (filter p xs)) ≡ ((b && bytes_eq w x) || list_any (λ x. p x && bytes_eq w x) xs)
   by true rest = ap (λ b. bytes_eq w x || b) rest
   by false rest = rest
 
@@ -102,31 +112,38 @@ pub names_are : (held : FileMap) (listed names : List (List ℕ)) → IsPermutat
     → ((test : List ℕ → Bool) → list_any test names ≡ list_any (λ name. is_source_name name && test name) listed) → names ≡ source_names held
 names_are held listed names moved order same =
     same_words names (source_names held) order (names_rise held)
-    (λ w. same (bytes_eq w) ∙ sym (list_any-IsPermutation (λ name. is_source_name name && bytes_eq w name) (keys held) listed moved) ∙ sym (any_filtered is_source_name w (keys held)))
+    (λ w. same (bytes_eq w) ∙ sym (list_any-IsPermutation (λ name. is_source_name name && bytes_eq w name) (keys held) listed moved)
+    ∙ sym (any_filtered is_source_name w (keys held)))
 
 any_same : (p q : List ℕ → Bool) (xs : List (List ℕ)) → ((w : List ℕ) → p w ≡ q w) → list_any p xs ≡ list_any q xs
 any_same p q [] h = refl
 any_same p q (x ∷ xs) h = rw (h x, any_same p q xs h) refl
 
 pub held_name : (held : FileMap) (w : List ℕ) → list_any (bytes_eq w) (keys held) ≡ is_some (get held w)
-held_name held w = any_same (bytes_eq w) (eq_by_cmp (slice_cmp nat_cmp) w) (keys held) (λ x. sym (is_eq-slice_cmp w x)) ∙ sym (contains_key-keys held w)
+held_name held w = any_same (bytes_eq w) (eq_by_cmp (slice_cmp nat_cmp) w) (keys held) (λ x. sym (is_eq-slice_cmp w x))
+    ∙ sym (contains_key-keys held w)
 
 -- the manifest is listed exactly if the folder has it
-pub manifest_listed : (held : FileMap) (listed : List (List ℕ)) → IsPermutation (keys held) listed → list_any (bytes_eq (codes "rotor.units")) listed ≡ is_some (manifest_of held)
-manifest_listed held listed moved = sym (list_any-IsPermutation (bytes_eq (codes "rotor.units")) (keys held) listed moved) ∙ held_name held (codes "rotor.units")
+pub manifest_listed : (held : FileMap) (listed : List (List ℕ)) → IsPermutation (keys held) listed
+    → list_any (bytes_eq (codes "rotor.units")) listed ≡ is_some (manifest_of held)
+manifest_listed held listed moved = sym (list_any-IsPermutation (bytes_eq (codes "rotor.units")) (keys held) listed moved)
+    ∙ held_name held (codes "rotor.units")
 
-among : (p : List ℕ → Bool) (all xs : List (List ℕ)) → ((x : List ℕ) → list_any (bytes_eq x) xs ≡ true → list_any (bytes_eq x) all ≡ true) → AllByRecursion (λ x. list_any (bytes_eq x) all ≡ true) (filter p xs)
+among : (p : List ℕ → Bool) (all xs : List (List ℕ)) → ((x : List ℕ) → list_any (bytes_eq x) xs ≡ true → list_any (bytes_eq x) all ≡ true)
+    → AllByRecursion (λ x. list_any (bytes_eq x) all ≡ true) (filter p xs)
 among p all [] h = tt
 among p all (x ∷ xs) h = by (p x) (among p all xs (λ w e. h w (either (bytes_eq w x) e))) where
   either : {b : Bool} (a : Bool) → b ≡ true → (a || b) ≡ true
   either true e = refl
   either false e = e
 
-  by : (b : Bool) → AllByRecursion (λ x. list_any (bytes_eq x) all ≡ true) (filter p xs) → AllByRecursion (λ x. list_any (bytes_eq x) all ≡ true) (cond b (x ∷ filter p xs) (filter p xs))
+  by : (b : Bool) → AllByRecursion (λ x. list_any (bytes_eq x) all ≡ true) (filter p xs)
+      → AllByRecursion (λ x. list_any (bytes_eq x) all ≡ true) (cond b (x ∷ filter p xs) (filter p xs))
   by true rest = (h x (itself x xs), rest)
   by false rest = rest
 
-held_all : (held : FileMap) (xs : List (List ℕ)) → AllByRecursion (λ x. list_any (bytes_eq x) (keys held) ≡ true) xs → AllByRecursion (λ x. IsSome (get held x)) xs
+held_all : (held : FileMap) (xs : List (List ℕ)) → AllByRecursion (λ x. list_any (bytes_eq x) (keys held) ≡ true) xs
+    → AllByRecursion (λ x. IsSome (get held x)) xs
 held_all held [] h = tt
 held_all held (x ∷ xs) h = (sym (held_name held x) ∙ h.0, held_all held xs h.1)
 

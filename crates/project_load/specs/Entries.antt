@@ -1,5 +1,6 @@
 -- The entries of a list, and the folder that they give.
-use Rattle.std.specs.Prelude.{◌≡◌, ◌⊎◌, ℕ, ◌==◌, ◌≤◌, true, false, List, [], ◌∷◌, ◌++◌, Option, Some, None, IsSome, is_some, Result, Ok, Err, MatchResult, String, length, map, string_bytes}
+use Rattle.std.specs.Prelude.{◌≡◌, ◌⊎◌, ℕ, ◌==◌, ◌≤◌, true, false, List, [], ◌∷◌, ◌++◌, Option, Some, None, IsSome, is_some, Result, Ok, Err}
+use Rattle.std.specs.Prelude.{MatchResult, String, length, map, string_bytes}
 use Rattle.std.specs.List.{list_any}
 use Rattle.std.specs.BTreeSet.{BTreeSet, contains_text}
 use Rattle.std.specs.FinMap.{empty, entries, from_entries, get, insert, remove}

@@ -12,7 +12,8 @@ invariant-loop-name g l = record {
   total : l.total ≡ sum_by (λ file. length file.bytes) l.files.items;
   within : l.total ≤ 8388608;
   passed : are_over l.files.items ≡ false;
-  read : (held : FileMap) → seen l.naming (g.T.Tree.content l.initial.tree) ≡ Some held → l.files.items ≡ files_in held (map string_bytes (take l.name-index l.names));
+  read : (held : FileMap) → seen l.naming (g.T.Tree.content l.initial.tree) ≡ Some held
+      → l.files.items ≡ files_in held (map string_bytes (take l.name-index l.names));
   content : g.T.Tree.content l.tree ≡ g.T.Tree.content l.initial.tree;
   room : KeepsRoom (g.T.Tree.room_for l.initial.tree) (g.T.Tree.room_for l.tree);
   count : g.T.Tree.faults l.tree ≡ g.T.Tree.faults l.initial.tree;
