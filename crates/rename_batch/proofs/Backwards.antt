@@ -22,6 +22,7 @@ use Rattle.rename_batch.proofs.Runs.{runs_more}
 -- an accepted step leaves a project
 pub is_project : RenamingsRewrite → (files : FileSet) (step : Step) (done : Renamed) → IsProject files → Answers files step (Ok done)
     → IsProject done.files
+unfolding Answers
 is_project rewrite files step done p a =
     let kept = rewrite files step.target step.name done p a in
     record {
@@ -45,6 +46,7 @@ module _ (rewrite : RenamingsRewrite) (undone : RenamingsAreUndone) (places : Un
   -- the step back from an accepted step is accepted, and gives the old files
   step_back : (files : FileSet) (step : Step) (done : Renamed) → IsProject files → Answers files step (Ok done)
       → (back : Renamed) × Answers done.files (undo_step (names_of files.entries) (undo_of (change_of done))) (Ok back) × (back.files ≡ files)
+  unfolding Answers
   step_back files step done p a =
       let place = places files step.target step.name done p a in
       let back = undone files step.target step.name done p a place.source place.number in
@@ -55,6 +57,7 @@ module _ (rewrite : RenamingsRewrite) (undone : RenamingsAreUndone) (places : Un
   steps_back : (files : FileSet) (steps : List Step) (last : FileSet) (changes : List Change) → IsProject files → Runs files steps last changes
       → (backs : List Change) × (names_of last.entries ≡ names_of files.entries) × Runs last (undo_steps (names_of files.entries) (undos_of changes))
       files backs
+  unfolding Answers
   steps_back files [] last [] p r = ([], ap (λ (fs : FileSet). names_of fs.entries) r, sym r)
   steps_back files [] last (change ∷ changes) p r = absurd r
   steps_back files (step ∷ steps) last [] p r = absurd r
@@ -95,6 +98,7 @@ module _ (rewrite : RenamingsRewrite) (undone : RenamingsAreUndone) (places : Un
 module _ (rewrite : RenamingsRewrite) (keep : RenamingsKeepRuns) (go_on : KeptRunsGoOn) where
   runs_kept : (files : FileSet) (step : Step) (steps : List Step) (last : FileSet) (changes : List Change) → IsProject files
       → Runs files (step ∷ steps) last changes → KeepsRuns files last
+  unfolding Answers
   runs_kept files step steps last [] p r = absurd r
   runs_kept files step [] last (change ∷ []) p r = subst (KeepsRuns files) (sym r.3) (keep files step.target step.name r.0 p r.1)
   runs_kept files step [] last (change ∷ next ∷ changes) p r = absurd r.3

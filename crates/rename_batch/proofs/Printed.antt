@@ -21,7 +21,7 @@ use Rattle.rename_laws.specs.Laws.{RenamingsRewrite, UndosHavePlaces}
 use Rattle.rename_batch.specs.declared.step.Step.{Step}
 use Rattle.rename_batch.specs.declared.step.Change.{Change}
 use Rattle.rename_batch.specs.declared.step.Undo.{Undo}
-use Rattle.rename_batch.specs.Batch.{Runs, change_of, undo_of, undo_step, undo_steps, undos_of}
+use Rattle.rename_batch.specs.Batch.{Answers, Runs, change_of, undo_of, undo_step, undo_steps, undos_of}
 use Rattle.rename_batch.specs.Laws.{UndosAreRead}
 use Rattle.rename_batch.specs.Reading.{AreSteps, IsStep, IsWhole, IsWord}
 use Rattle.rename_batch.specs.Text.{undo_words}
@@ -163,6 +163,7 @@ lines_read names (change ∷ changes) p =
 module _ (rewrite : RenamingsRewrite) (places : UndosHavePlaces) where
   printable : (files : FileSet) (steps : List Step) (last : FileSet) (changes : List Change) → IsProject files → Runs files steps last changes
       → AllByRecursion (λ change. IsPrintable (names_of files.entries) (undo_of change)) changes
+  unfolding Answers
   printable files steps last [] p r = tt
   printable files [] last (change ∷ changes) p r = absurd r
   printable files (step ∷ steps) last (change ∷ changes) p r =

@@ -12,16 +12,19 @@ use Rattle.rename_batch.specs.Batch.{Answers, IsBatched, Runs, Stops, change_of,
 use Rattle.rename_batch.specs.Laws.{BatchesAreOne}
 
 one_done : OneRenaming → (files : FileSet) (step : Step) (a b : Renamed) → Answers files step (Ok a) → Answers files step (Ok b) → a ≡ b
+unfolding Answers
 one_done one files step a b p q =
     let same : ◌≡◌ {A = Result Renamed Refusal} (Ok a) (Ok b) = one files step.target step.name (Ok a) (Ok b) p q in
     cc
 
 one_refusal : OneRenaming → (files : FileSet) (step : Step) (a b : Refusal) → Answers files step (Err a) → Answers files step (Err b) → a ≡ b
+unfolding Answers
 one_refusal one files step a b p q =
     let same : ◌≡◌ {A = Result Renamed Refusal} (Err a) (Err b) = one files step.target step.name (Err a) (Err b) p q in
     cc
 
 not_both : OneRenaming → (files : FileSet) (step : Step) (a : Renamed) (b : Refusal) → Answers files step (Ok a) → Answers files step (Err b) → ⊥
+unfolding Answers
 not_both one files step a b p q =
     let same : ◌≡◌ {A = Result Renamed Refusal} (Ok a) (Err b) = one files step.target step.name (Ok a) (Err b) p q in
     cc

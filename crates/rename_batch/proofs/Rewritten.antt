@@ -14,7 +14,7 @@ use Rattle.rotor_base.specs.Files.{FileSet, IsProject, load_refusal, names_of}
 use Rattle.rename_laws.specs.Laws.{RenamingsRewrite}
 use Rattle.rename_batch.specs.declared.step.Step.{Step}
 use Rattle.rename_batch.specs.declared.step.Change.{Change}
-use Rattle.rename_batch.specs.Batch.{Runs, changed_from}
+use Rattle.rename_batch.specs.Batch.{Answers, Runs, changed_from}
 use Rattle.rename_batch.specs.Laws.{BatchesRewrite}
 use Rattle.rename_batch.proofs.Backwards.{is_project}
 
@@ -28,6 +28,7 @@ pub record Keeps (files last : FileSet) : Type 0 where
 
 pub kept : RenamingsRewrite → (files : FileSet) (steps : List Step) (last : FileSet) (changes : List Change) → IsProject files
     → Runs files steps last changes → Keeps files last
+unfolding Answers
 kept rewrite files [] last [] p r =
     record {
       names = ap (λ (fs : FileSet). names_of fs.entries) r;

@@ -86,11 +86,13 @@ step_failed files steps at step left now changes error h read same r f =
 
 pub done_named : (files : FileSet) (step : Step) (given : List ℕ) (done : Renamed) → given ≡ step.name → Renames files step.target given (Ok done)
     → Answers files step (Ok done)
+unfolding Answers
 done_named files step given done e r = subst (λ (new : List ℕ). Renames files step.target new (Ok done)) e r
 
 pub refused_step : (files : FileSet) (step : Step) (number : ℕ) (given : List ℕ) (why : Refusal) (error : BatchError) → given ≡ step.name
     → IsRefusedFor (λ w. Renames files step.target given (Err w)) why → IsErrorOf number why error
     → IsFailedFor (IsRefusedStep files step number) error
+unfolding Answers
 refused_step files step number given why error e (inl r) (inl f) =
     subst (IsFailedFor (IsRefusedStep files step number)) (sym f.0)
     (inl (refl, subst (λ (new : List ℕ). Renames files step.target new (Err why)) e r))

@@ -17,7 +17,7 @@ use Rattle.rename_batch.specs.declared.step.Undo.{Undo}
 use Rattle.rename_batch.specs.declared.step.Batched.{Batched}
 
 -- the answer to a step on files
-abbrev pub Answers : FileSet → Step → Result Renamed Refusal → Type 0
+unfoldable pub Answers : FileSet → Step → Result Renamed Refusal → Type 0
 Answers files step answer = Renames files step.target step.name answer
 
 -- what an accepted renaming has done
