@@ -1,9 +1,9 @@
 -- The entries of a list, and the folder that they give.
-use Rattle.std.specs.Prelude.{◌≡◌, ◌⊎◌, ℕ, ◌==◌, ◌≤◌, true, false, List, [], ◌∷◌, ◌++◌, Option, Some, None, IsSome, is_some, Result, Ok, Err}
+use Rattle.std.specs.Prelude.{◌≡◌, ◌⊎◌, ℕ, ◌≤◌, true, List, [], ◌∷◌, ◌++◌, Option, Some, None, IsSome, is_some, Result, Ok, Err}
 use Rattle.std.specs.Prelude.{MatchResult, String, length, map, string_bytes}
-use Rattle.std.specs.List.{list_any}
 use Rattle.std.specs.BTreeSet.{BTreeSet, contains_text}
 use Rattle.std.specs.FinMap.{empty, entries, from_entries, get, insert, remove}
+use Rattle.line_words.specs.Cut.{IsWhole}
 use Rattle.rotor_base.specs.Files.{FileSet}
 use Rattle.rotor_base.specs.Limits.{max_file_bytes}
 use Rattle.rotor_base.specs.Lines.{feed_lines}
@@ -44,15 +44,6 @@ AreThere folder table = (source file : List ℕ) → get table source ≡ Some f
 -- each FILE is in the folder
 abbrev pub AreHeld : FileMap → FileMap → Type 0
 AreHeld held table = (source file : List ℕ) → get table source ≡ Some file → IsSome (get held file)
-
--- no byte is a space
-abbrev pub IsWhole : List ℕ → Type 0
-IsWhole bytes = list_any (λ b. b == 32) bytes ≡ false
-
--- the bytes are those before the first space, the space, and those behind it
-pub record IsCut (bytes front behind : List ℕ) : Type 0 where
-  pub split : bytes ≡ front ++ 32 ∷ behind
-  pub whole : IsWhole front
 
 -- the line is `SOURCE FILE`: SOURCE names a source or the manifest, and FILE is one of the names
 pub record IsLine {Y : Type 0} (folder : BTreeSet (String Y)) (line source file : List ℕ) : Type 0 where

@@ -1,9 +1,9 @@
 -- Loading by a list: the list gives a folder, which is loaded.
-use Rattle.std.specs.Prelude.{◌≡◌, ◌⊎◌, ℕ, ◌+◌, ◌<◌, ◌≤◌, ◌==◌, ◌||◌, Bool, true, false, List, [], ◌∷◌, ◌++◌, None, Some, IsSome, Result, Ok, Err}
+use Rattle.std.specs.Prelude.{◌≡◌, ◌⊎◌, ℕ, ◌+◌, ◌<◌, ◌≤◌, ◌||◌, Bool, true, List, [], ◌∷◌, ◌++◌, None, Some, IsSome, Result, Ok, Err}
 use Rattle.std.specs.Prelude.{MatchResult, length, codes}
-use Rattle.std.specs.List.{list_any}
 use Rattle.std.specs.Str.{bytes_eq}
 use Rattle.std.specs.FinMap.{empty, get, insert}
+use Rattle.line_words.specs.Cut.{IsWhole}
 use Rattle.rotor_base.specs.Files.{FileSet}
 use Rattle.rotor_base.specs.Limits.{max_file_bytes}
 use Rattle.rotor_base.specs.Lines.{feed_lines}
@@ -24,7 +24,7 @@ pub record IsEntry (held : FileMap) (line source bytes : List ℕ) : Type 0 wher
   pub file : List ℕ
   pub split : line ≡ source ++ 32 ∷ file
   pub named : is_listed_name source ≡ true
-  pub whole : list_any (λ b. b == 32) file ≡ false
+  pub whole : IsWhole file
   pub there : get held file ≡ Some bytes
 
 -- The lines give a folder: under each SOURCE the bytes of its FILE, and no SOURCE twice. `given` is the folder of the

@@ -1,18 +1,19 @@
 //! The lines of a list, and the file of each source that they name.
-ghost use Rattle.std.specs.Prelude.{◌≡◌, ◌==◌, ◌≤◌, ◌||◌, ℕ, List, None, IfOk, IfErr, IfSome, IfNone, OnOk, length, map, string_bytes, codes, true, false};
-ghost use Rattle.std.specs.List.{position};
+ghost use Rattle.std.specs.Prelude.{◌≡◌, ◌≤◌, ◌||◌, ℕ, List, None, IfOk, IfErr, IfSome, IfNone, OnOk, length, map, string_bytes, codes, true, false};
 ghost use Rattle.std.specs.Option.{option_copied};
 ghost use Rattle.std.specs.Str.{bytes_eq};
 ghost use Rattle.std.specs.BTreeSet.{contains_text};
 ghost use Rattle.std.specs.FinMap.{empty, get, insert, keys};
+ghost use Rattle.line_words.specs.Cut.{IsWhole};
 ghost use Rattle.rotor_base.specs.Limits.{max_file_bytes};
 ghost use Rattle.rotor_base.specs.Lines.{feed_lines};
 ghost use Rattle.tree_io.specs.Outside.{FileMap};
 ghost use Rattle.project_load.specs.Listed.{Gives, is_listed_name};
-ghost use Rattle.project_load.specs.Entries.{AreThere, IsCut, IsFolder, IsLine, IsNoEntry, IsNoLine, IsUnread, IsWhole, given_by, table_of};
+ghost use Rattle.project_load.specs.Entries.{AreThere, IsFolder, IsLine, IsNoEntry, IsNoLine, IsUnread, given_by, table_of};
 
 use crate::ListError;
 use crate::names::MANIFEST;
+use line_words::{cut_space, has_space};
 use rotor_base::{Memory, feed_line, is_source};
 use std::alloc::Global;
 use std::collections::{BTreeMap, BTreeSet};
@@ -150,7 +151,7 @@ fn file_in<'a>(folder: &Folder, bytes: &'a [u8]) -> Option<&'a str>
     ensures listed { IfSome result (λ file. contains_text folder.now bytes.now ≡ true) }
     ensures none { IfNone result (IsWhole bytes.now → contains_text folder.now bytes.now ≡ true → ⊥) }
 {
-    if space_in(bytes).is_some() {
+    if has_space(bytes) {
         return None;
     }
     let Ok(file) = std::str::from_utf8(bytes) else {
@@ -160,20 +161,4 @@ fn file_in<'a>(folder: &Folder, bytes: &'a [u8]) -> Option<&'a str>
         return None;
     }
     Some(file)
-}
-
-/// The bytes before the first space, and those behind it.
-fn cut_space(line: &[u8]) -> Option<(&[u8], &[u8])>
-    ensures found { IfSome result (λ parts. IsCut line.now parts.0.now parts.1.now) }
-    ensures none { IfNone result (IsWhole line.now) }
-{
-    let at = space_in(line)?;
-    Some((&line[..at], &line[at + 1..]))
-}
-
-/// The position of the first space.
-fn space_in(bytes: &[u8]) -> Option<usize>
-    ensures { result ≡ position (λ b. b == 32) bytes.now }
-{
-    bytes.iter().position(|byte| *byte == b' ')
 }

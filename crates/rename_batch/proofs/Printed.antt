@@ -10,6 +10,8 @@ use Rattle.std.proofs.lemmas.Fmt.{decimal_by_steps}
 use Rattle.std.proofs.lemmas.List.{map-append, reverse-append}
 use Rattle.std.proofs.lemmas.Str.{IsUtf8-from_ascii}
 use Rattle.std.proofs.lemmas.Str.Ascii.{IsAscii-cons, IsAscii-nil}
+use Rattle.line_words.specs.Cut.{IsWhole}
+use Rattle.line_words.proofs.Cutting.{free}
 use Rattle.rotor_base.specs.Files.{FileSet, IsProject, names_of}
 use Rattle.rotor_base.specs.Name.{is_identifier_byte, is_value_name}
 use Rattle.rotor_base.specs.Stem.{ends_stem, is_body_name, is_source_name, is_stem_byte, is_stem_word}
@@ -23,12 +25,11 @@ use Rattle.rename_batch.specs.declared.step.Change.{Change}
 use Rattle.rename_batch.specs.declared.step.Undo.{Undo}
 use Rattle.rename_batch.specs.Batch.{Answers, Runs, change_of, undo_of, undo_step, undo_steps, undos_of}
 use Rattle.rename_batch.specs.Laws.{UndosAreRead}
-use Rattle.rename_batch.specs.Reading.{AreSteps, IsStep, IsWhole, IsWord}
+use Rattle.rename_batch.specs.Reading.{AreSteps, IsStep, IsWord}
 use Rattle.rename_batch.specs.Text.{undo_words}
 use Rattle.rename_batch.proofs.Backwards.{is_project}
 use Rattle.rename_batch.proofs.Readings.{one_more}
 use Rattle.rename_batch.proofs.Rewritten.{kept}
-use Rattle.rename_batch.proofs.Words.{free}
 
 -- ---- bytes below 128 that are no space
 

@@ -1,22 +1,13 @@
 -- Reading a batch: lines `TARGET NAME`.
-use Rattle.std.specs.Prelude.{◌≡◌, ◌≢◌, ◌⊎◌, ℕ, ◌+◌, ◌≤◌, ◌==◌, List, [], ◌∷◌, ◌++◌, true, false, length}
-use Rattle.std.specs.List.{list_any}
+use Rattle.std.specs.Prelude.{◌≡◌, ◌≢◌, ◌⊎◌, ℕ, ◌+◌, ◌≤◌, List, [], ◌∷◌, ◌++◌, true, length}
 use Rattle.std.specs.Str.{IsUtf8}
+use Rattle.line_words.specs.Cut.{IsWhole}
 use Rattle.rotor_base.specs.Limits.{max_batch_lines}
 use Rattle.cli_words.specs.Target.{target_of}
 use Rattle.cli_words.specs.Words.{is_value}
 use Rattle.rename_batch.specs.declared.error.BatchReadError.{BatchReadError}
 use Rattle.rename_batch.specs.declared.error.BatchReadError.TheVariants.{Line, Memory}
 use Rattle.rename_batch.specs.declared.step.Step.{Step}
-
--- no byte is a space
-abbrev pub IsWhole : List ℕ → Type 0
-IsWhole bytes = list_any (λ b. b == 32) bytes ≡ false
-
--- the bytes are those before the first space, the space, and those behind it
-pub record IsCut (bytes front behind : List ℕ) : Type 0 where
-  pub split : bytes ≡ front ++ 32 ∷ behind
-  pub whole : IsWhole front
 
 -- a word: UTF-8, not empty, without a space
 pub record IsWord (word : List ℕ) : Type 0 where

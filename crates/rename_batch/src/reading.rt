@@ -1,11 +1,11 @@
 //! Reading a batch.
-ghost use Rattle.std.specs.Prelude.{◌≡◌, ◌==◌, ◌++◌, ◌∷◌, ℕ, List, IfErr, IfOk, IfNone, IfSome};
-ghost use Rattle.std.specs.List.{position};
+ghost use Rattle.std.specs.Prelude.{◌≡◌, IfErr, IfOk, IfNone, IfSome};
 ghost use Rattle.rotor_base.specs.Lines.{feed_lines};
-ghost use Rattle.rename_batch.specs.Reading.{AreWords, IsBatch, IsCut, IsNoStep, IsStep, IsUnread, IsWhole, IsWord};
+ghost use Rattle.rename_batch.specs.Reading.{AreWords, IsBatch, IsNoStep, IsStep, IsUnread, IsWord};
 
 use crate::{BatchReadError, Step};
 use cli_words::read_target;
+use line_words::{cut_space, has_space};
 use rotor_base::{MAX_BATCH_LINES, Memory, Name, feed_line};
 use std::alloc::Global;
 
@@ -73,27 +73,11 @@ fn word_in(bytes: &[u8]) -> Option<&str>
     if bytes.is_empty() {
         return None;
     }
-    if space_in(bytes).is_some() {
+    if has_space(bytes) {
         return None;
     }
     match std::str::from_utf8(bytes) {
         Ok(word) => Some(word),
         Err(_) => None,
     }
-}
-
-/// The bytes before the first space, and those behind it.
-fn cut_space(line: &[u8]) -> Option<(&[u8], &[u8])>
-    ensures found { IfSome result (λ parts. IsCut line.now parts.0.now parts.1.now) }
-    ensures none { IfNone result (IsWhole line.now) }
-{
-    let at = space_in(line)?;
-    Some((&line[..at], &line[at + 1..]))
-}
-
-/// The position of the first space.
-fn space_in(bytes: &[u8]) -> Option<usize>
-    ensures { result ≡ position (λ b. b == 32) bytes.now }
-{
-    bytes.iter().position(|byte| *byte == b' ')
 }

@@ -1,4 +1,5 @@
-use Rattle.project_load.proofs.ListWords.{if_none, no_file, no_source}
+use Rattle.line_words.proofs.Cutting.{if_none}
+use Rattle.project_load.proofs.ListWords.{no_file, no_source}
 use Rattle.project_load.proofs.entries.entry_in.Goals as goal
 
 pub returns-in_err-source-2-clause-none : goal.returns-in_err-source-2-clause-none

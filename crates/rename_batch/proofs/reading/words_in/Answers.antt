@@ -1,4 +1,5 @@
-use Rattle.rename_batch.proofs.Words.{if_none, no_first, no_second}
+use Rattle.line_words.proofs.Cutting.{if_none}
+use Rattle.rename_batch.proofs.Words.{no_first, no_second}
 use Rattle.rename_batch.proofs.reading.words_in.Goals as goal
 
 pub returns-in_err-target-2-clause-none : goal.returns-in_err-target-2-clause-none
