@@ -4,7 +4,7 @@ use std::alloc::{AllocError, Global};
 use std::fmt::Write;
 
 /// The lexemes with class and span, or the fault.
-fn told(alloc: Global, source: &[u8]) -> Result<String, AllocError> {
+fn answer_of(alloc: Global, source: &[u8]) -> Result<String, AllocError> {
     let mut text = String::new(alloc);
     if source.len() > 1_048_576 {
         return Ok(text);
@@ -43,7 +43,7 @@ fn hostile_texts(rt: HostRuntime) -> Result<(), AllocError> {
         for _ in 0..count {
             source.push_str(piece)?;
         }
-        assert_eq!(rt; told(alloc, source.as_bytes())?.as_str(), answer);
+        assert_eq!(rt; answer_of(alloc, source.as_bytes())?.as_str(), answer);
     }
     Ok(())
 }

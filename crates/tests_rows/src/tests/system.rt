@@ -10,20 +10,20 @@ use tree_io::HostTree;
 
 /// The answer of a load.
 #[derive(Clone, Copy)]
-enum Told {
+enum Wanted {
     /// The sources in order, with their texts.
     Loaded(&'static [(&'static str, &'static str)]),
     Read,
 }
 
 /// Whether a load answered so.
-fn is_told(answer: &Result<rotor_base::Files, LoadError>, told: &Told) -> bool {
+fn is_wanted(answer: &Result<rotor_base::Files, LoadError>, wanted: &Wanted) -> bool {
     match answer {
-        Ok(files) => match told {
-            Told::Loaded(sources) => are_sources(files.entries(), sources),
-            Told::Read => false,
+        Ok(files) => match wanted {
+            Wanted::Loaded(sources) => are_sources(files.entries(), sources),
+            Wanted::Read => false,
         },
-        Err(LoadError::Read) => matches!(told, Told::Read),
+        Err(LoadError::Read) => matches!(wanted, Wanted::Read),
         Err(_) => false,
     }
 }
@@ -104,17 +104,17 @@ fn loaded_folder(rt: HostRuntime) -> Result<(), Fail> {
     fs::write(&rt, "notes", "c")?;
     fs::create_dir(&rt, "sub.ml.d")?;
     let mut tree = HostTree::new(&rt);
-    let told = Told::Loaded(&[("a.mli", "val x : int"), ("b.ml", "let y = 1")]);
-    assert!(rt; is_told(&load(alloc, &mut tree), &told), "files");
+    let wanted = Wanted::Loaded(&[("a.mli", "val x : int"), ("b.ml", "let y = 1")]);
+    assert!(rt; is_wanted(&load(alloc, &mut tree), &wanted), "files");
     // A folder of a source's name cannot be read.
     fs::create_dir(&rt, "c.ml")?;
-    assert!(rt; is_told(&load(alloc, &mut tree), &Told::Read), "a folder");
+    assert!(rt; is_wanted(&load(alloc, &mut tree), &Wanted::Read), "a folder");
     fs::remove_dir(&rt, "c.ml")?;
     // Nor can a link that leads nowhere.
     rt.symlink("nowhere", "c.ml")?;
-    assert!(rt; is_told(&load(alloc, &mut tree), &Told::Read), "a link");
+    assert!(rt; is_wanted(&load(alloc, &mut tree), &Wanted::Read), "a link");
     fs::remove_file(&rt, "c.ml")?;
-    assert!(rt; is_told(&load(alloc, &mut tree), &told), "files again");
+    assert!(rt; is_wanted(&load(alloc, &mut tree), &wanted), "files again");
     for name in ["a.mli", "b.ml", "notes", "rotor.units"] {
         fs::remove_file(&rt, name)?;
     }
@@ -126,19 +126,19 @@ fn loaded_folder(rt: HostRuntime) -> Result<(), Fail> {
 fn odd_names<R: Abort + Files>(rt: &R, alloc: Global) -> Result<(), Fail> {
     fs::write(rt, "a.ml", "let x = 1")?;
     // A name that is listed twice is loaded once; one that is no UTF-8 is a fault, a source or not.
-    let cases: [(&[u8], Told); 4] = [
+    let cases: [(&[u8], Wanted); 4] = [
         (
             b".\0..\0a.ml\0\xc3\xa9\0a.ml\0",
-            Told::Loaded(&[("a.ml", "let x = 1")]),
+            Wanted::Loaded(&[("a.ml", "let x = 1")]),
         ),
-        (b"a.ml\0\xff.ml\0", Told::Read),
-        (b"\xc3\0a.ml\0", Told::Read),
-        (b"a.ml\0b.ml\0", Told::Read),
+        (b"a.ml\0\xff.ml\0", Wanted::Read),
+        (b"\xc3\0a.ml\0", Wanted::Read),
+        (b"a.ml\0b.ml\0", Wanted::Read),
     ];
-    for (names, told) in cases {
+    for (names, wanted) in cases {
         let listed = Listed { rt, names };
         let mut tree = HostTree::new(&listed);
-        assert!(rt; is_told(&load(alloc, &mut tree), &told), "{names:?}");
+        assert!(rt; is_wanted(&load(alloc, &mut tree), &wanted), "{names:?}");
     }
     fs::remove_file(rt, "a.ml")?;
     Ok(())
