@@ -12,9 +12,9 @@ ghost use Rattle.binding_model.specs.Looks.{looks as looks_of};
 ghost use Rattle.binding_model.specs.Scopes.{after_units};
 ghost use Rattle.binding_model.specs.Sums.{heavy};
 
+use crate::project::units;
 use found_facts::{facts_in, from_nothing, groups_in, looks_in, recorder_of};
 use ml_syntax::Project;
-use mod_resolve::units;
 use rotor_base::{Facts, Looks, Memory, Place, Row, Watch};
 use shape_core::{FactError, Scope};
 use std::alloc::Global;

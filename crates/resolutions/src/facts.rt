@@ -4,7 +4,7 @@ use crate::pieces::{Object, goal, line, list, place};
 use binding_model::Sums;
 use found_facts::from_nothing;
 use ml_syntax::Project;
-use mod_resolve::units;
+use mod_shape::units;
 use rename_survey::{Survey, survey};
 use rotor_base::{Facts, Files, Link, Outcome, Place, Ref, Refusal, Row, SourceFile};
 use shape_core::{FactError, Scope};

@@ -10,7 +10,7 @@ use Rattle.binding_model.specs.Walk.{units_steps}
 use Rattle.binding_model.proofs.Takings.{heavy_stays}
 use Rattle.resolve_base.proofs.Lemmas.{entries_appended}
 use Rattle.expr_resolve.proofs.Forms.{passed}
-use Rattle.mod_resolve.proofs.project.units.Goals as goal
+use Rattle.mod_shape.proofs.project.units.Goals as goal
 
 pub returns-in_err-shape-clause-heavy : goal.returns-in_err-shape-clause-heavy
 returns-in_err-shape-clause-heavy c =

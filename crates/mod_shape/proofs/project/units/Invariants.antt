@@ -4,7 +4,7 @@ use Rattle.shape_core.specs.Node.{entries_of}
 use Rattle.binding_model.specs.Scopes.{after_units}
 use Rattle.binding_model.specs.Taken.{taken, Going}
 use Rattle.binding_model.specs.Walk.{units_steps}
-use Rattle.mod_resolve.proofs.project.units.Given as goal
+use Rattle.mod_shape.proofs.project.units.Given as goal
 
 abbrev pub invariant-loop-tree : goal.invariant-loop-tree
 invariant-loop-tree l =

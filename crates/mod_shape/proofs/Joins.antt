@@ -5,7 +5,7 @@ use Rattle.shape_core.specs.Shape.{Shape, Entries}
 use Rattle.binding_model.specs.Scopes.{file_shape, parts_shape}
 use Rattle.binding_model.specs.Steps.{Steps}
 use Rattle.binding_model.specs.Walk.{unit_links}
-use Rattle.mod_resolve.specs.Joined.{maybe_shape, joined_steps, joined_shape}
+use Rattle.mod_shape.specs.Joined.{maybe_shape, joined_steps, joined_shape}
 
 pub links_joined : (sc : Entries) (b f : Option FileTree) → unit_links sc b f ≡ joined_steps (maybe_shape sc b) (maybe_shape sc f)
 links_joined sc None None = refl

@@ -7,11 +7,11 @@ ghost use Rattle.binding_model.specs.Scopes.{file_shape, unit_shape, after_units
 ghost use Rattle.binding_model.specs.Steps.{UnitStart, ◌⨾◌};
 ghost use Rattle.binding_model.specs.Taken.{HasTaken, HasStopped, taken, Going};
 ghost use Rattle.binding_model.specs.Walk.{file_steps, maybe_file_steps, file_number as number_of_file, last_file as last_of, unit_steps, units_steps};
-ghost use Rattle.mod_resolve.specs.Joined.{maybe_shape, joined_steps, joined_shape};
+ghost use Rattle.mod_shape.specs.Joined.{maybe_shape, joined_steps, joined_shape};
 
-use crate::modules::{signature, structure};
 use binding_model::Found;
 use ml_syntax::{FileTree, UnitTree};
+use mod_resolve::{signature, structure};
 use resolve_base::{matched, pinned, unit_start, weighed_site};
 use rotor_base::{Memory, Name, Place};
 use shape_core::{FactError, Scope, Shared, SharedEntry, make_opaque, make_struct};
