@@ -28,10 +28,9 @@ pub fn suggest(alloc: Global, project: &Project, new: &Files) -> Result<Suggeste
 {
     let binders = list_binders(alloc, project)?;
     let lists = lex_all(alloc, new.entries())?;
-    Ok(Suggested {
-        names: candidate(alloc, &binders, &lists)?,
-        changes: changes(alloc, &binders, &lists)?,
-    })
+    let names = candidate(alloc, &binders, &lists)?;
+    let changes = changes(alloc, &binders, &lists)?;
+    Ok(Suggested { names, changes })
 }
 
 /// The lexemes of each source: none for a source that is not cut into lexemes. `Memory` is the only error.
