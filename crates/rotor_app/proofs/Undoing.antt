@@ -49,7 +49,8 @@ use Rattle.rotor_app.specs.declared.status.Status.TheVariants.{Done, Refused, Pr
 use Rattle.rotor_app.specs.declared.reply.Reply.{Reply}
 use Rattle.rotor_app.specs.Said.{status_of, reply_by, outcome_text, MayWrite, IsAnswer, not_loaded, answered, SaysTo, answers, pends, batches}
 use Rattle.rotor_app.specs.Said.{batch_in, batched_reply, SaysSteps, stopped, batched, SaysBatch, lacks, large, unread, runs, SaysRecovery, idle}
-use Rattle.rotor_app.specs.Said.{finished, lost, SaysVerify, no_list, listed, SaysAgainst, unlisted, judged, IsJudged, RefusesList, judged_reply, Says}
+use Rattle.rotor_app.specs.Said.{finished, lost, SaysVerify, no_list, listed, SaysAgainst, unlisted, judged, IsJudged, RefusesList}
+use Rattle.rotor_app.specs.Said.{judged_reply, Says}
 use Rattle.rotor_app.specs.Said.{SomeReply}
 use Rattle.rotor_app.specs.Table.{IsAsSaid, Seen, TreeStopped}
 use Rattle.rotor_app.proofs.Saying.{no_done_refusal}
@@ -493,7 +494,8 @@ module _ (laws : HasLaws) where
   by_valid (Some (command.Shape target)) held reply status s e = tt
   by_valid (Some (command.Rename target new write safe json)) held reply status s e = tt
   by_valid (Some (command.Sample units)) held reply status s e = tt
-  by_valid (Some (command.Verify old_name new_name)) held reply status s e = λ old new f g v. e ∙ valid_done held old_name new_name reply s old new f g v
+  by_valid (Some (command.Verify old_name new_name)) held reply status s e =
+      λ old new f g v. e ∙ valid_done held old_name new_name reply s old new f g v
   by_valid (Some (command.Batch file write)) held reply status s e = tt
   by_valid (Some command.Recover) held reply status s e = tt
 
