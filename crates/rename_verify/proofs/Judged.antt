@@ -1,16 +1,18 @@
 -- The verdict on new files whose sources have the old names and whose manifest is the same.
-use Rattle.std.proofs.Common.{◌≡◌, ℕ, List, Some, None, map, length, ap, sym, subst, ◌∙◌}
+use Rattle.std.proofs.Common.{◌≡◌, ℕ, List, Option, Some, None, Contains, map, length, ap, sym, subst, ◌∙◌}
 use Rattle.std.proofs.lemmas.List.{length-map}
 use Rattle.rotor_base.specs.Files.{FileSet, IsProject, names_of}
 use Rattle.rotor_base.specs.declared.place.Facts.{Facts}
 use Rattle.rotor_base.specs.declared.place.Place.{Place}
 use Rattle.rotor_base.specs.declared.source.SourceFile.{SourceFile}
 use Rattle.ml_lexer.specs.Lexed.{Lexeme}
+use Rattle.ml_syntax.specs.Each.{Each}
 use Rattle.ml_syntax.specs.Sound.{IsSound}
 use Rattle.ml_syntax.specs.Tree.{UnitTree}
 use Rattle.shape_core.specs.Respell.{Words}
 use Rattle.binding_model.specs.Facts.{facts}
-use Rattle.binding_model.specs.Renaming.{Renaming, name_of, respell}
+use Rattle.binding_model.specs.Least.{IsBinder}
+use Rattle.binding_model.specs.Renaming.{IsFixedSite, Renaming, at_place, name_of, places, respell}
 use Rattle.binding_model.specs.Sums.{heavy}
 use Rattle.capture_check.specs.declared.fault.Fault.{Fault}
 use Rattle.capture_check.specs.Fault.{IsMet, IsFirstFault}
@@ -20,24 +22,18 @@ use Rattle.project_reading.proofs.Soundness.{read_is_sound}
 use Rattle.rename_respell.specs.Respelled.{AreRespelledBytes, changed, mapped_words}
 use Rattle.rename_survey.specs.declared.answer.Binder.{Binder}
 use Rattle.rename_survey.specs.Survey.{binders_of}
+use Rattle.rename_verify.specs.declared.bytes.Spot.{Spot}
 use Rattle.rename_verify.specs.declared.verdict.Why.TheVariants as why
 use Rattle.rename_verify.specs.Candidate.{AreLexemesOf, candidate, changes}
 use Rattle.rename_verify.specs.Changed.{Changed}
 use Rattle.rename_verify.specs.Differ.{FilesPartAt}
 use Rattle.rename_verify.specs.Fixed.{IsLeastHeld}
-use Rattle.rename_verify.specs.Steps.{HasFirstFault, IsSameShape}
-use Rattle.rename_verify.specs.Verdict.{IsBytes, IsFixedAt, IsSources, reasons}
-use Rattle.rename_verify.proofs.Listing.{all_free, least_fixed}
+use Rattle.rename_verify.specs.Steps.{HasFirstFault, HasSpot, IsSameShape, IsSuggested}
+use Rattle.rename_verify.specs.Verdict.{AreChanges, IsBytes, IsFixedAt, IsSources, reasons}
+use Rattle.rename_verify.proofs.Given.{are_binders}
+use Rattle.rename_verify.proofs.Listing.{all_free, least_fixed, not_fixed}
 use Rattle.rename_verify.proofs.Reasons.{as_many, no_broken, no_bytes, no_fixed, no_reason, no_sources, then_broken, then_bytes, then_fixed}
 use Rattle.rename_verify.proofs.Renamed.{AreRespelling, stays, still}
-
-pub map_is : {A : Type 0} (view : A → List Lexeme) (ls ks : List A) (bs cs : List Binder) (m : Renaming) → m ≡ candidate (map view ks) cs → ks ≡ ls
-    → cs ≡ bs → m ≡ candidate (map view ls) bs
-map_is view ls ks bs cs m h e f = h ∙ (ap (λ l. candidate (map view l) cs) e ∙ ap (candidate (map view ls)) f)
-
-pub changes_are : {A : Type 0} (view : A → List Lexeme) (ls ks : List A) (bs cs : List Binder) (m : List Changed) → m ≡ changes (map view ks) cs
-    → ks ≡ ls → cs ≡ bs → m ≡ changes (map view ls) bs
-changes_are view ls ks bs cs m h e f = h ∙ (ap (λ l. changes (map view l) cs) e ∙ ap (changes (map view ls)) f)
 
 pub as_many_sources : {A : Type 0} (f : A → List ℕ) (w : Words) (olds news : List SourceFile) (outs : List A) → names_of olds ≡ names_of news
     → AreRespelledBytes w 0 olds (map f outs) → length outs ≡ length news
@@ -116,3 +112,43 @@ module _ (old new : FileSet) (us : List UnitTree) (p : IsProject old) (reads : R
       no_reason_is fs e h =
           no_reason us old new lists cut no_other no_bytes_part none_is_fixed
           (no_broken us r old new h.0 h.1 (subst (λ f. IsFirstFault (name_of h.0) f (facts h.0) None) e h.2))
+
+-- the same by what the words of the new files suggest
+module _ (old new : FileSet) (us : List UnitTree) (p : IsProject old) (reads : Reads old us) (light : heavy us ≡ None)
+    (names : names_of old.entries ≡ names_of new.entries) (manifest : old.manifest ≡ new.manifest)
+    (m : Renaming) (list : List Changed) (h : IsSuggested us new m list) where
+  pub names_binders : Each (λ e. IsBinder us e.0) m
+  names_binders = subst (λ (r : Renaming). Each (λ e. IsBinder us e.0) r) (sym h.2) (are_binders us (read_is_sound old us p reads) h.0)
+
+  pub changes_free : (k : Changed) → Contains list k → IsFixedSite (at_place (places us) k.0) → ⊥
+  changes_free k among = not_fixed us (read_is_sound old us p reads) h.0 k (subst (λ (l : List Changed). Contains l k) h.3 among)
+
+  made : (sources : List (List ℕ)) → AreRespelledBytes (mapped_words us m) 0 old.entries sources
+      → AreRespelledBytes (mapped_words us (candidate h.0 (binders_of us))) 0 old.entries sources
+  made sources = subst (λ (r : Renaming). AreRespelledBytes (mapped_words us r) 0 old.entries sources) h.2
+
+  held : (o : Option Place) → IsLeastHeld us list o → IsLeastHeld us (changes h.0 (binders_of us)) o
+  held o = subst (λ (l : List Changed). IsLeastHeld us l o) h.3
+
+  pub other_bytes : (spot : Spot) → HasSpot us m old new (Some spot) → reasons us old new (why.Bytes spot.file spot.offset)
+  other_bytes spot k = bytes_part old new us p reads light names manifest h.0 h.1 k.0 (made k.0 k.1) spot.file spot.offset k.2
+
+  module _ (k : HasSpot us m old new None) where
+    pub fixed_binder : (at : Place) → IsLeastHeld us list (Some at) → reasons us old new (why.Fixed at)
+    fixed_binder at f = one_is_fixed old new us p reads light names manifest h.0 h.1 k.0 (made k.0 k.1) k.2 at (held (Some at) f)
+
+    module _ (f : IsLeastHeld us list None) where
+      pub is_read_again : (vs : List UnitTree) × Reads new vs
+      is_read_again = is_read old new us p reads light names manifest h.0 h.1 k.0 (made k.0 k.1) k.2 (held None f)
+
+      pub same_shape : (fs : Facts) → fs ≡ facts us → (vs : List UnitTree) → Reads new vs → IsSameShape fs vs
+      same_shape = has_shape old new us p reads light names manifest h.0 h.1 k.0 (made k.0 k.1) k.2 (held None f)
+
+      pub broken_fault : (fs : Facts) → fs ≡ facts us → (fault : Fault) → HasFirstFault new fs (Some fault) → reasons us old new (why.Broken fault)
+      broken_fault = is_broken old new us p reads light names manifest h.0 h.1 k.0 (made k.0 k.1) k.2 (held None f)
+
+      pub all_kept : (fs : Facts) → fs ≡ facts us → HasFirstFault new fs None → (IsMet (reasons us old new) → ⊥) × AreChanges us new list
+      all_kept fs e b = (
+        no_reason_is old new us p reads light names manifest h.0 h.1 k.0 (made k.0 k.1) k.2 (held None f) fs e b,
+        (h.0, h.1, h.3),
+      )

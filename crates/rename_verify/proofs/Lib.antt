@@ -18,3 +18,4 @@ pub mod Valid
 pub mod Respelt
 pub mod Unrepeated
 pub mod Complete
+pub mod Said

@@ -153,7 +153,7 @@ one_verdict old new us (No a) (No b) h k = one_reason us old new a b h k
 
 -- ---- the refusals
 
-accepted_or_not : (old : FileSet) (us : List UnitTree) (e : Refusal) → Accepts old us → Rejects old e → ⊥
+pub accepted_or_not : (old : FileSet) (us : List UnitTree) (e : Refusal) → Accepts old us → Rejects old e → ⊥
 accepted_or_not old us e a h =
     let counts = counts_of old.entries us in
     let wrong : ◌≡◌ {A = Result Counts Refusal} (Ok counts) (Err e) = one_check old (Ok counts) (Err e) (us, a, refl) h in

@@ -69,6 +69,26 @@ YesIsValid = (old new : FileSet) (list : Vec Changed) → IsProject old → IsPr
 abbrev pub YesKeepsRuns : Type 0
 YesKeepsRuns = (old new : FileSet) (list : Vec Changed) → IsProject old → IsProject new → Verdicts old new (Ok (Yes list)) → KeepsRuns old new
 
+-- the new files are a valid respelling of the old ones, which `check` accepts
+pub record IsValidRespelling (old new : FileSet) : Type 0 where
+  pub project : List UnitTree
+  pub accepts : Accepts old project
+  pub renaming : Renaming
+  pub valid : IsValid project renaming
+  pub other : ChangesAll project renaming
+  pub respelled : AreRespelledBy old new project renaming
+
+-- an answer of `verify` is yes
+abbrev pub IsYesAnswer : Result Verdict Refusal → Type 0
+IsYesAnswer (Ok (Yes list)) = Unit {0}
+IsYesAnswer (Ok (No reason)) = ⊥
+IsYesAnswer (Err why) = ⊥
+
+-- Law: each answer to a valid respelling is yes
+abbrev pub ValidSaysYes : Type 0
+ValidSaysYes = (old new : FileSet) (answer : Result Verdict Refusal) → IsProject old → IsProject new → IsValidRespelling old new
+    → Verdicts old new answer → IsYesAnswer answer
+
 -- the verdict is yes: there is no reason against it, and this is what is changed
 pub record IsYes (old new : FileSet) (us : List UnitTree) : Type 0 where
   pub none : IsMet (reasons us old new) → ⊥

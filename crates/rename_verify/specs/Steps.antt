@@ -1,14 +1,31 @@
 -- What the steps of `verify` give.
-use Rattle.std.specs.Prelude.{◌≡◌, List, Option, None, map}
+use Rattle.std.specs.Prelude.{◌≡◌, ℕ, List, Option, None, map}
 use Rattle.rotor_base.specs.Files.{FileSet}
 use Rattle.rotor_base.specs.declared.place.Facts.{Facts}
+use Rattle.ml_lexer.specs.Lexed.{Lexeme}
 use Rattle.ml_syntax.specs.Tree.{UnitTree}
 use Rattle.binding_model.specs.Facts.{facts}
-use Rattle.binding_model.specs.Renaming.{name_of}
+use Rattle.binding_model.specs.Renaming.{Renaming, name_of}
 use Rattle.binding_model.specs.Sums.{heavy}
 use Rattle.capture_check.specs.declared.fault.Fault.{Fault}
 use Rattle.capture_check.specs.Fault.{IsFirstFault}
 use Rattle.project_reading.specs.Reads.{Reads}
+use Rattle.rename_respell.specs.Respelled.{AreRespelledBytes, mapped_words}
+use Rattle.rename_survey.specs.Survey.{binders_of}
+use Rattle.rename_verify.specs.declared.bytes.Spot.{Spot}
+use Rattle.rename_verify.specs.Candidate.{AreLexemesOf, candidate, changes}
+use Rattle.rename_verify.specs.Changed.{Changed}
+use Rattle.rename_verify.specs.Scans.{IsSpot}
+
+-- the candidate by the words of new files, and the binders that it changes
+abbrev pub IsSuggested : List UnitTree → FileSet → Renaming → List Changed → Type 0
+IsSuggested us new names list = (lists : List (List Lexeme)) × AreLexemesOf new.entries lists
+    × (names ≡ candidate lists (binders_of us)) × (list ≡ changes lists (binders_of us))
+
+-- the first byte at which the new sources differ from the old ones with other names; or none
+abbrev pub HasSpot : List UnitTree → Renaming → FileSet → FileSet → Option Spot → Type 0
+HasSpot us r old new spot = (sources : List (List ℕ)) × AreRespelledBytes (mapped_words us r) 0 old.entries sources
+    × IsSpot sources (map (λ s. s.bytes) new.entries) spot
 
 -- the facts have the reference places, the items and the groups of a project, which has no site that is too heavy
 pub record IsSameShape (old : Facts) (us : List UnitTree) : Type 0 where

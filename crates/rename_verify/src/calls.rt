@@ -4,18 +4,21 @@ ghost use Rattle.std.specs.Prelude.{◌≡◌, Err, IfErr, IfOk, List, Ok, map, 
 ghost use Rattle.rotor_base.specs.Files.{IsProject, names_of};
 ghost use Rattle.rotor_base.specs.declared.refusal.Refusal.TheVariants as refusal;
 ghost use Rattle.ml_lexer.specs.Lexed.{view_tokens};
+ghost use Rattle.ml_syntax.specs.Each.{Each};
+ghost use Rattle.ml_syntax.specs.Sound.{IsSound};
 ghost use Rattle.ml_syntax.specs.Tree.{UnitTree};
 ghost use Rattle.ml_syntax.specs.View.{view_project};
 ghost use Rattle.binding_model.specs.Facts.{facts as facts_of};
+ghost use Rattle.binding_model.specs.Least.{IsBinder};
 ghost use Rattle.binding_model.specs.Sums.{heavy};
 ghost use Rattle.project_reading.specs.Reads.{Reads};
 ghost use Rattle.project_reading.specs.Sources.{AreCut};
 ghost use Rattle.rename_project.specs.Steps.{IsRefusedFor};
-ghost use Rattle.rename_verify.specs.Steps.{HasFirstFault, IsSameShape};
+ghost use Rattle.rename_verify.specs.Steps.{HasFirstFault, HasSpot, IsSameShape};
 ghost use Rattle.rename_verify.specs.Verdict.{IsVerdict, Verdicts};
 
-use crate::bytes::first_spot;
-use crate::candidate::{candidate, changes, lex_all};
+use crate::bytes::{Spot, first_spot};
+use crate::candidate::{Suggested, suggest};
 use crate::fixed::least_fixed;
 use crate::names::other_source;
 use crate::verdict::{Verdict, Why};
@@ -23,8 +26,7 @@ use capture_check::{Fault, first_fault};
 use project_reading::{Read, read_project};
 use rename_project::{resolve, resolve_facts};
 use rename_respell::respell_read;
-use rename_survey::list_binders;
-use rotor_base::{Facts, Files, Refusal};
+use rotor_base::{Facts, Files, Memory, Refusal};
 use std::alloc::Global;
 
 /// Whether a project is a valid respelling of another, by the renaming that gives each binder the word of the same
@@ -63,24 +65,41 @@ fn judge(
     ensures verdict { IfOk result (IsVerdict old.now new.now (view_project read.now.project)) }
     ensures memory { IfErr result (λ why. why ≡ refusal.Memory) }
 {
-    let lists = lex_all(alloc, new.entries())?;
-    let binders = list_binders(alloc, &read.project)?;
-    let map = candidate(alloc, &binders, &lists)?;
-    let sources = respell_read(alloc, old, read, facts, &map)?;
-    if let Some(spot) = first_spot(&sources, new.entries()) {
+    let found = suggest(alloc, &read.project, new)?;
+    if let Some(spot) = other_byte(alloc, old, new, read, facts, &found)? {
         return Ok(Verdict::No(Why::Bytes {
             file: spot.file,
             offset: spot.offset,
         }));
     }
-    let changes = changes(alloc, &binders, &lists)?;
-    if let Some(at) = least_fixed(alloc, &read.project, facts, &changes)? {
+    if let Some(at) = least_fixed(alloc, &read.project, facts, &found.changes)? {
         return Ok(Verdict::No(Why::Fixed { at }));
     }
     match broken(alloc, new, facts)? {
         Some(fault) => Ok(Verdict::No(Why::Broken(fault))),
-        None => Ok(Verdict::Yes(changes)),
+        None => Ok(Verdict::Yes(found.changes)),
     }
+}
+
+/// The first byte at which new sources differ from the old ones with the suggested names, if they differ. `Memory` is the
+/// only error.
+fn other_byte(
+    alloc: Global,
+    old: &Files,
+    new: &Files,
+    read: &Read,
+    facts: &Facts,
+    found: &Suggested,
+) -> Result<Option<Spot>, Memory>
+    requires sound { IsSound (view_project read.now.project) }
+    requires cut { AreCut old.now.entries (map (λ list. view_tokens list.items) read.now.tokens.items) }
+    requires facts { facts.now ≡ facts_of (view_project read.now.project) }
+    requires binders { Each (λ e. IsBinder (view_project read.now.project) e.0) found.now.names.items }
+    requires names { names_of old.now.entries ≡ names_of new.now.entries }
+    ensures { IfOk result (HasSpot (view_project read.now.project) found.now.names.items old.now new.now) }
+{
+    let sources = respell_read(alloc, old, read, facts, &found.names)?;
+    Ok(first_spot(&sources, new.entries()))
 }
 
 /// The first fault of the project that new files are read as, against the facts of the old one. `Memory` is the only

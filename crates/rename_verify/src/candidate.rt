@@ -4,16 +4,37 @@ ghost use Rattle.std.specs.Prelude.{◌≡◌, ◌≤◌, All, IfOk, OnOk, lengt
 ghost use Rattle.std.specs.Option.{option_copied};
 ghost use Rattle.rotor_base.specs.Limits.{max_file_bytes};
 ghost use Rattle.ml_lexer.specs.Lexed.{view_tokens};
+ghost use Rattle.ml_syntax.specs.View.{view_project};
 ghost use Rattle.rename_verify.specs.Candidate.{AreLexemes, AreLexemesOf, candidate, changes, given_name, if_lower, word_at};
+ghost use Rattle.rename_verify.specs.Steps.{IsSuggested};
 
 use crate::verdict::Change;
 use ml_lexer::{LexError, lex};
-use rename_survey::Binder;
-use rotor_base::{Class, Memory, Name, Place, SourceFile, Token};
+use ml_syntax::Project;
+use rename_survey::{Binder, list_binders};
+use rotor_base::{Class, Files, Memory, Name, Place, SourceFile, Token};
 use std::alloc::Global;
 
+/// What the words of new sources suggest: a name for each binder, and the binders that take another one.
+#[derive(Drop)]
+pub struct Suggested {
+    pub names: Vec<(Place, Name)>,
+    pub changes: Vec<Change>,
+}
+
+/// What the words of new files suggest for the binders of a project. `Memory` is the only error.
+pub fn suggest(alloc: Global, project: &Project, new: &Files) -> Result<Suggested, Memory>
+    ensures { IfOk result (λ found. IsSuggested (view_project project.now) new.now found.names.items found.changes.items) }
+{
+    let binders = list_binders(alloc, project)?;
+    let lists = lex_all(alloc, new.entries())?;
+    let names = candidate(alloc, &binders, &lists)?;
+    let changes = changes(alloc, &binders, &lists)?;
+    Ok(Suggested { names, changes })
+}
+
 /// The lexemes of each source: none for a source that is not cut into lexemes. `Memory` is the only error.
-pub fn lex_all<'a>(alloc: Global, sources: &'a [SourceFile]) -> Result<Vec<Vec<Token<'a>>>, Memory>
+fn lex_all<'a>(alloc: Global, sources: &'a [SourceFile]) -> Result<Vec<Vec<Token<'a>>>, Memory>
     requires { All (λ file. length file.bytes ≤ max_file_bytes) sources.now }
     ensures { IfOk result (λ lists. AreLexemesOf sources.now (map (λ list. view_tokens list.items) lists.items)) }
 {
@@ -38,7 +59,7 @@ fn lex_source<'a>(alloc: Global, source: &'a SourceFile) -> Result<Vec<Token<'a>
 }
 
 /// The candidate's name for each binder. `Memory` is the only error.
-pub fn candidate(
+fn candidate(
     alloc: Global,
     binders: &[Binder],
     lists: &[Vec<Token>],
@@ -54,7 +75,7 @@ pub fn candidate(
 }
 
 /// The binders that the candidate changes, each with its old name and its new one. `Memory` is the only error.
-pub fn changes(
+fn changes(
     alloc: Global,
     binders: &[Binder],
     lists: &[Vec<Token>],

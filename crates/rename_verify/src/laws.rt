@@ -1,6 +1,6 @@
 //! The laws of verdicts, each as the contract of a function.
 
-ghost use Rattle.rename_verify.specs.Laws.{ValidIsYes, VerdictsAreOne, YesIsValid, YesKeepsRuns};
+ghost use Rattle.rename_verify.specs.Laws.{ValidIsYes, ValidSaysYes, VerdictsAreOne, YesIsValid, YesKeepsRuns};
 
 /// Two projects have at most one verdict.
 pub fn verdicts_are_one()
@@ -12,5 +12,6 @@ pub fn verdicts_are_one()
 pub fn yes_is_valid()
     ensures valid { YesIsValid }
     ensures yes { ValidIsYes }
+    ensures said { ValidSaysYes }
     ensures runs { YesKeepsRuns }
 {}

@@ -28,7 +28,8 @@ use Rattle.rename_laws.specs.Laws.{IsValidFor, KeepsFacts, KeepsRuns, IsLeastFor
 use Rattle.rename_verify.specs.declared.verdict.Verdict.TheVariants.{Yes}
 use Rattle.rename_verify.specs.Changed.{Changed}
 use Rattle.rename_verify.specs.Verdict.{Verdicts}
-use Rattle.rename_verify.specs.Laws.{AreValidlyRespelled}
+use Rattle.rename_verify.specs.Laws.{AreValidlyRespelled, IsValidRespelling}
+use Rattle.rotor_app.specs.declared.status.Status.{Status}
 use Rattle.rotor_app.specs.declared.status.Status.TheVariants.{Done}
 use Rattle.rotor_app.specs.declared.reply.Reply.{Reply}
 use Rattle.cli_words.specs.Words.{command_of}
@@ -131,3 +132,15 @@ IsRecoverable (Some (command.Sample units)) held now = Unit {0}
 IsRecoverable (Some (command.Verify old new)) held now = Unit {0}
 IsRecoverable (Some (command.Batch file write)) held now = Unit {0}
 IsRecoverable (Some command.Recover) held now = (found : FileSet) → Recovers held found → Recovers now found
+
+-- `verify` is done if its lists give two projects, `check` accepts the first, and the second is a valid respelling of it
+abbrev pub IsDoneIfValid : Option Command → FileMap → Status → Type 0
+IsDoneIfValid None held status = Unit {0}
+IsDoneIfValid (Some command.Check) held status = Unit {0}
+IsDoneIfValid (Some (command.Shape target)) held status = Unit {0}
+IsDoneIfValid (Some (command.Rename target name write safe json)) held status = Unit {0}
+IsDoneIfValid (Some (command.Sample units)) held status = Unit {0}
+IsDoneIfValid (Some (command.Verify old_name new_name)) held status =
+    (old new : FileSet) → Lists held old_name (Ok old) → Lists held new_name (Ok new) → IsValidRespelling old new → status ≡ Done
+IsDoneIfValid (Some (command.Batch file write)) held status = Unit {0}
+IsDoneIfValid (Some command.Recover) held status = Unit {0}

@@ -4,7 +4,7 @@ ghost use Rattle.std.specs.Option.{ForSome};
 ghost use Rattle.tree_io.specs.Outside.{HasFault, StaysSteady, Rose};
 ghost use Rattle.cli_words.specs.Words.{command_of};
 ghost use Rattle.rotor_app.specs.Said.{AsksNothing, SomeReply};
-ghost use Rattle.rotor_app.specs.Done.{IsDoneSo, IsRecoverable};
+ghost use Rattle.rotor_app.specs.Done.{IsDoneIfValid, IsDoneSo, IsRecoverable};
 ghost use Rattle.rotor_app.specs.Laws.{HasLaws};
 ghost use Rattle.rotor_app.specs.Table.{Ending, seen, IsComplete, Carried, Put, IsQuiet, IsAsSaid, IsFault, TreeStopped, SinkStopped, IsRefusal, AnsweredAlone, CutAlone};
 ghost use Rattle.tree_writes.specs.Writes.{HasRoom};
@@ -12,7 +12,9 @@ ghost use Rattle.tree_writes.specs.Writes.{HasRoom};
 use crate::reply::{Reply, decide};
 use crate::status::Status;
 use cli_words::undos_are_read;
-use project_load::{loaded_files_are_a_project, new_sources_are_loaded, old_sources_come_back};
+use project_load::{
+    lists_are_one, loaded_files_are_a_project, new_sources_are_loaded, old_sources_come_back,
+};
 use rename_batch::{
     batches_are_undone, batches_keep_runs, batches_rewrite, undos_are_read as batch_undos_are_read,
 };
@@ -81,6 +83,12 @@ pub fn rotor<T: Tree, S: Sink>(alloc: Global, words: &[String], tree: &mut T, ou
         (seen (T.faults tree.new) (S.faults out.new) (T.content tree.new) (S.taken out.new)) result
         × IsDoneSo (command_of (map string_bytes words.now)) files reply)) }
 
+    // A `verify` of two versions is done if `check` accepts the first and the second is a valid respelling of it.
+    ensures verified { ForSome (T.content tree.old) (λ files.
+        IsQuiet (seen (T.faults tree.old) (S.faults out.old) (T.content tree.old) (S.taken out.old))
+        (seen (T.faults tree.new) (S.faults out.new) (T.content tree.new) (S.taken out.new))
+        → (result ≡ Status.Memory → ⊥) → IsDoneIfValid (command_of (map string_bytes words.now)) files result) }
+
     // Over a folder and an output that do not fail, the status is the one that is said, or there was no memory.
     ensures complete { T.is_steady tree.old → ForSome (T.content tree.old) (λ files. IsComplete (command_of (map string_bytes words.now)) files (S.accepts out.old) result) }
     ensures steady { T.is_steady tree.old → T.is_steady tree.new }
@@ -110,6 +118,7 @@ fn recall_laws()
     batch_undos_are_read();
     batches_keep_runs();
     yes_is_valid();
+    lists_are_one();
 }
 
 /// Runs the command of the words over a folder and an output.

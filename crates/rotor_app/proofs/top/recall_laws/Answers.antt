@@ -20,4 +20,6 @@ returns c = record {
   batch_runs = c.batches_keep_runs.ensures;
   verified = c.yes_is_valid.ensures.valid;
   verified_runs = c.yes_is_valid.ensures.runs;
+  verified_all = c.yes_is_valid.ensures.said;
+  lists = c.lists_are_one.ensures;
 }
