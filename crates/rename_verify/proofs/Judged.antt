@@ -20,7 +20,6 @@ use Rattle.project_reading.specs.Reads.{Reads}
 use Rattle.project_reading.proofs.OneReading.{one_project}
 use Rattle.project_reading.proofs.Soundness.{read_is_sound}
 use Rattle.rename_respell.specs.Respelled.{AreRespelledBytes, changed, mapped_words}
-use Rattle.rename_survey.specs.declared.answer.Binder.{Binder}
 use Rattle.rename_survey.specs.Survey.{binders_of}
 use Rattle.rename_verify.specs.declared.bytes.Spot.{Spot}
 use Rattle.rename_verify.specs.declared.verdict.Why.TheVariants as why

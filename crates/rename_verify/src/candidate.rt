@@ -75,11 +75,7 @@ fn candidate(
 }
 
 /// The binders that the candidate changes, each with its old name and its new one. `Memory` is the only error.
-fn changes(
-    alloc: Global,
-    binders: &[Binder],
-    lists: &[Vec<Token>],
-) -> Result<Vec<Change>, Memory>
+fn changes(alloc: Global, binders: &[Binder], lists: &[Vec<Token>]) -> Result<Vec<Change>, Memory>
     ensures { IfOk result (λ list. list.items ≡ changes (map (λ list. view_tokens list.items) lists.now) binders.now) }
 {
     let mut list = Vec::new(alloc);

@@ -1,5 +1,5 @@
 -- The reply to a command is said, and has a status that a reply has.
-use Rattle.std.proofs.Common.{◌≡◌, ◌&&◌, not, is_none, ◌⊎◌, ℕ, ◌+◌, ◌-◌, length, arith, List, [], ◌∷◌, ◌++◌, cond, Bool, true, false, Option, Some}
+use Rattle.std.proofs.Common.{◌≡◌, ◌&&◌, not, is_none, ◌⊎◌, ℕ, ◌+◌, ◌-◌, length, arith, List, [], ◌∷◌, ◌++◌, Bool, true, false, Option, Some}
 use Rattle.std.proofs.Common.{None, Result, Ok, Err, IfSome, IfOk, IfErr, OnOk, ◌≢◌, refl, sym, ap, subst, ◌∙◌, inl, inr}
 use Rattle.std.specs.List.{cons_option}
 use Rattle.rotor_base.specs.Files.{FileSet, IsProject, names_of}

@@ -108,7 +108,10 @@ fn loaded_folder(rt: HostRuntime) -> Result<(), Fail> {
     assert!(rt; is_wanted(&load(alloc, &mut tree), &wanted), "files");
     // A folder of a source's name cannot be read.
     fs::create_dir(&rt, "c.ml")?;
-    assert!(rt; is_wanted(&load(alloc, &mut tree), &Wanted::Read), "a folder");
+    assert!(rt;
+        is_wanted(&load(alloc, &mut tree), &Wanted::Read),
+        "a folder"
+    );
     fs::remove_dir(&rt, "c.ml")?;
     // Nor can a link that leads nowhere.
     rt.symlink("nowhere", "c.ml")?;

@@ -1,5 +1,4 @@
-use Rattle.std.proofs.Common.{◌≡◌, List, None, Some, Contains, subst}
-use Rattle.rotor_base.specs.declared.place.Place.{Place}
+use Rattle.std.proofs.Common.{List, None, Some, Contains, subst}
 use Rattle.ml_syntax.specs.View.{view_project}
 use Rattle.project_reading.proofs.Soundness.{read_is_sound}
 use Rattle.rename_verify.specs.Changed.{Changed}
@@ -76,8 +75,8 @@ returns-in-Some-3-clause-verdict c =
     c.args.facts.now c.requires.facts c.in-Some-3.fault
     (subst (HasFirstFault c.args.new.now c.args.facts.now) c.in-Some-3.is c.in_ok-fault.ensures.fault)
 
-pub returns-clause-verdict : goal.returns-clause-verdict
-returns-clause-verdict c =
+pub returns-in-None-clause-verdict : goal.returns-in-None-clause-verdict
+returns-in-None-clause-verdict c =
     let us = view_project c.args.read.now.project in
     let names = c.in_ok-found.found.names.items in
     all_kept c.args.old.now c.args.new.now us c.requires.project c.requires.reads c.requires.light c.requires.names c.requires.manifest names
