@@ -1,10 +1,11 @@
 -- The laws of accepted renamings.
-use Rattle.std.proofs.Common.{◌≡◌, ◌<◌, List, All, length, inl, inr, Contains, map, sym, ap, subst, ◌∙◌}
+use Rattle.std.proofs.Common.{◌≡◌, ◌<◌, List, All, length, inl, inr, Contains, IsSome, map, sym, ap, subst, ◌∙◌}
 use Rattle.std.specs.List.Sorted.{IsStrictlySortedBy}
 use Rattle.std.specs.Ordering.{nat_cmp}
 use Rattle.std.proofs.lemmas.List.{length-map}
 use Rattle.rotor_base.specs.declared.place.Place.{Place}
 use Rattle.rotor_base.specs.declared.place.Foot.{Foot}
+use Rattle.rotor_base.specs.declared.report.FootReport.{FootReport}
 use Rattle.rotor_base.specs.declared.report.Renamed.{Renamed}
 use Rattle.rotor_base.specs.declared.target.Target.{Target}
 use Rattle.rotor_base.specs.Files.{FileSet, IsProject}
@@ -13,15 +14,15 @@ use Rattle.dependency_kernel.specs.Foot.{IsFoot}
 use Rattle.binding_model.specs.Facts.{facts}
 use Rattle.binding_model.specs.Local.{renaming}
 use Rattle.binding_model.specs.Renaming.{Renaming, IsValid, respell}
-use Rattle.binding_model.proofs.Leasts.{changes_whole_foot}
+use Rattle.binding_model.proofs.Leasts.{changes_whole_foot, outside_stays}
 use Rattle.project_reading.specs.Reads.{Reads}
 use Rattle.project_reading.proofs.Soundness.{read_is_sound}
 use Rattle.rename_model.specs.Foot.{hits}
 use Rattle.rename_model.specs.Renaming.{watch_of, renamed}
-use Rattle.rename_files.specs.Answer.{Accepted}
+use Rattle.rename_files.specs.Answer.{Accepted, Shown}
 use Rattle.renamed_sources.proofs.Unhit.{sources_without_hits_stay}
 use Rattle.rename_laws.specs.Laws.{new_names, ChangesAreListed, RenamingsRewrite, RenamingsAreValid, RenamingsKeepFacts, RenamingsKeepRuns}
-use Rattle.rename_laws.specs.Laws.{FootprintsAreLeast}
+use Rattle.rename_laws.specs.Laws.{FootprintsAreLeast, ShownAreLeast, ShownOutsideIsKept}
 use Rattle.rename_laws.proofs.Ordered.{hits_rise}
 use Rattle.rename_laws.proofs.Kept.{IsRenamable, same_facts, same_runs, still, valid, names, taken}
 
@@ -88,6 +89,28 @@ footprints_are_least files target new done p a = record {
   reads = a.accepts.reads;
   whole = λ r m y valid c changes b. changes_whole_foot a.project r a.binder done.foot (read_is_sound files a.project p a.accepts.reads) valid
       a.aims.1 (subst (λ foot. IsFoot (facts a.project).links a.binder foot) (sym a.renaming.footprint) a.is_foot) m y c changes b;
+}
+
+-- the declarations that are shown are the footprint of the target's binder
+shown_foot : (files : FileSet) (target : Target) (shown : FootReport) (a : Shown files target shown)
+    → IsFoot (facts a.project).links a.binder shown.foot
+shown_foot files target shown a =
+    subst (λ (foot : Foot). IsFoot (facts a.project).links a.binder foot) (sym (ap (λ (report : FootReport). report.foot) a.report)) a.is_foot
+
+pub shown_are_least : ShownAreLeast
+shown_are_least files target shown p a = record {
+  project = a.project;
+  reads = a.accepts.reads;
+  whole = λ r m y valid. changes_whole_foot a.project r a.binder shown.foot (read_is_sound files a.project p a.accepts.reads) valid a.aims.1
+      (shown_foot files target shown a) m y;
+}
+
+pub shown_outside_is_kept : ShownOutsideIsKept
+shown_outside_is_kept files target shown p a out = record {
+  project = a.project;
+  reads = a.accepts.reads;
+  kept = λ r m y valid. outside_stays a.project r a.binder shown.foot (read_is_sound files a.project p a.accepts.reads) valid a.aims.1
+      (shown_foot files target shown a) out m y;
 }
 
 pub renamings_keep_runs : RenamingsKeepRuns

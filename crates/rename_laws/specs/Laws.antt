@@ -1,9 +1,10 @@
 -- What a renaming that is accepted keeps.
-use Rattle.std.specs.Prelude.{◌≡◌, ◌⊎◌, ℕ, ◌<◌, ◌≤◌, List, map, length, true, Some, None, All, Contains, Ok, slice_get}
+use Rattle.std.specs.Prelude.{◌≡◌, ◌⊎◌, ℕ, ◌<◌, ◌≤◌, List, map, length, true, Some, None, All, Contains, IsSome, Ok, slice_get}
 use Rattle.std.specs.List.Sorted.{IsStrictlySortedBy}
 use Rattle.std.specs.Ordering.{nat_cmp}
 use Rattle.rotor_base.specs.Limits.{max_file_bytes}
 use Rattle.rotor_base.specs.declared.place.Place.{Place}
+use Rattle.rotor_base.specs.declared.report.FootReport.{FootReport}
 use Rattle.rotor_base.specs.declared.report.Renamed.{Renamed}
 use Rattle.rotor_base.specs.declared.target.Target.{Target}
 use Rattle.rotor_base.specs.declared.target.Target.TheVariants.{At}
@@ -17,7 +18,7 @@ use Rattle.binding_model.specs.Renaming.{Renaming, Changes, IsValid, respell}
 use Rattle.module_meaning.specs.Run.{run}
 use Rattle.project_reading.specs.Reads.{Reads}
 use Rattle.rename_model.specs.Target.{number_of}
-use Rattle.rename_files.specs.Answer.{Renames}
+use Rattle.rename_files.specs.Answer.{Shows, Renames}
 
 -- the new sources have the old names, the manifest is the same, they are taken as a project's files, and each source
 -- that differs is among those that changed
@@ -66,6 +67,12 @@ pub record IsLeastFor (files : FileSet) (decls : List Place) : Type 0 where
   pub whole : (r : Renaming) (a : Place) (y : Name) → IsValid project r → Contains decls a → Changes project r a y
       → (b : Place) → Contains decls b → Changes project r b y
 
+-- no renaming that is valid changes one of these declarations
+pub record AreKept (files : FileSet) (decls : List Place) : Type 0 where
+  pub project : List UnitTree
+  pub reads : Reads files project
+  pub kept : (r : Renaming) (a : Place) (y : Name) → IsValid project r → Contains decls a → Changes project r a y → ⊥
+
 -- where an undo begins: the name of a source that gives the target's file, and the number of a token; the old name is a
 -- value name
 pub record IsUndoPlace (files : FileSet) (done : Renamed) : Type 0 where
@@ -111,7 +118,17 @@ abbrev pub FootprintsAreLeast : Type 0
 FootprintsAreLeast = (files : FileSet) (target : Target) (new : Name) (done : Renamed) → IsProject files → Renames files target new (Ok done)
     → IsLeastFor files done.foot.decls
 
--- Law: and it is undone. If a source's name gives the target's file, the renaming back of the target's place is
+-- Law: the declarations that `footprint` shows are a least footprint too
+abbrev pub ShownAreLeast : Type 0
+ShownAreLeast = (files : FileSet) (target : Target) (shown : FootReport) → IsProject files → Shows files target (Ok shown)
+    → IsLeastFor files shown.foot.decls
+
+-- Law: and if `footprint` shows a place that is linked with the outside, no valid renaming changes any of them
+abbrev pub ShownOutsideIsKept : Type 0
+ShownOutsideIsKept = (files : FileSet) (target : Target) (shown : FootReport) → IsProject files → Shows files target (Ok shown)
+    → IsSome shown.foot.outside → AreKept files shown.foot.decls
+
+-- Law: a renaming that is accepted is undone. If a source's name gives the target's file, the renaming back of the target's place is
 -- accepted, and gives the old files
 abbrev pub RenamingsAreUndone : Type 0
 RenamingsAreUndone =

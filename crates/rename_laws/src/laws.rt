@@ -1,6 +1,6 @@
 //! The laws of accepted renamings, each as the contract of a function.
 
-ghost use Rattle.rename_laws.specs.Laws.{ChangesAreListed, FootprintsAreLeast, KeptRunsGoOn, RenamingsAreUndone, RenamingsAreValid, RenamingsKeepFacts, RenamingsKeepRuns, RenamingsRewrite, UndosHavePlaces};
+ghost use Rattle.rename_laws.specs.Laws.{ChangesAreListed, FootprintsAreLeast, KeptRunsGoOn, RenamingsAreUndone, RenamingsAreValid, RenamingsKeepFacts, RenamingsKeepRuns, RenamingsRewrite, ShownAreLeast, ShownOutsideIsKept, UndosHavePlaces};
 
 /// A renaming that is accepted rewrites sources, and nothing else.
 pub fn renamings_rewrite()
@@ -35,6 +35,13 @@ pub fn kept_runs_go_on()
 /// A renaming that is accepted changes a least footprint.
 pub fn footprints_are_least()
     ensures { FootprintsAreLeast }
+{}
+
+/// The declarations that `footprint` shows are a least footprint. If it shows a place that is linked with the outside, no
+/// valid renaming changes any of them.
+pub fn shown_footprints_are_least()
+    ensures least { ShownAreLeast }
+    ensures outside { ShownOutsideIsKept }
 {}
 
 /// A renaming that is accepted is undone by the renaming of its target back, which gives the old files.
