@@ -62,6 +62,12 @@ done_is_undone undone places n files target new (Ok done) same h =
     is_undone undone places files target new done (subst IsProject (sym same) (is_project n)) h
 done_is_undone undone places n files target new (Err why) same h = tt
 
+pub sample_is_undone : RenamingsAreUndone → UndosHavePlaces → (n : ℕ) (files : FileSet) (target : Target) (new : List ℕ) (r : Result Renamed Refusal)
+    → files ≡ sample_files n
+    → IfOk r (λ done. Renames files target new (Ok done)) → IfOk r (IsUndone (sample_files n))
+sample_is_undone undone places n files target new r same h =
+    subst (λ (fs : FileSet). IfOk r (IsUndone fs)) same (done_is_undone undone places n files target new r same h)
+
 pub given_back_by : OneRenaming → (files : FileSet) (done back : Renamed) (undo : Target) (old : List ℕ) (entries : List SourceFile)
     → undo ≡ undo_target entries done → entries ≡ files.entries → old ≡ done.old → IsUndone files done → Renames done.files undo old (Ok back)
     → back.files ≡ files

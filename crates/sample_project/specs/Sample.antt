@@ -18,14 +18,9 @@ sample_target = Dotted (codes "U0" ∷ codes "S" ∷ codes "f" ∷ [])
 abbrev pub Answers : ℕ → Result Renamed Refusal → Type 0
 Answers n answer = Renames (sample_files n) sample_target (codes "renamed") answer
 
--- the numbers of a renaming, whose undo gives the files back
+-- the numbers of a renaming that is undone
 abbrev pub report_of : ℕ → Renamed → SampleReport
 report_of n done = record { units = n; footprint = length done.foot.decls; references = done.refs; undone = true }
-
--- what `sample` reports of so many units, or the refusal of the renaming
-abbrev pub Samples : ℕ → Result SampleReport Refusal → Type 0
-Samples n (Ok report) = (done : Renamed) × Answers n (Ok done) × (report ≡ report_of n done)
-Samples n (Err why) = Answers n (Err why)
 
 abbrev pub name_of : Option SourceFile → List ℕ
 name_of (Some file) = file.name
@@ -38,3 +33,8 @@ undo_target entries done = At (name_of (slice_get entries done.undo_at.file)) do
 -- the renaming back of what was renamed in these files is accepted, and gives them back
 abbrev pub IsUndone : FileSet → Renamed → Type 0
 IsUndone files done = (back : Renamed) × Renames done.files (undo_target files.entries done) done.old (Ok back) × (back.files ≡ files)
+
+-- What `sample` reports of so many units: the numbers of the renaming, which is undone. Or the refusal of the renaming.
+abbrev pub Samples : ℕ → Result SampleReport Refusal → Type 0
+Samples n (Ok report) = (done : Renamed) × Answers n (Ok done) × IsUndone (sample_files n) done × (report ≡ report_of n done)
+Samples n (Err why) = Answers n (Err why)

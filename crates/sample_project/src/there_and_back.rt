@@ -38,7 +38,8 @@ pub fn sample(alloc: Global, units: u32) -> Result<SampleReport, Refusal>
 fn rename_sample(alloc: Global, units: u32, files: &Files) -> Result<Renamed, Refusal>
     requires { files.now ≡ sample_files units }
     ensures done { IfOk result (λ done. Answers units (Ok done)) }
-    ensures undone { IfOk result (IsUndone files.now) }
+    ensures undone { IfOk result (IsUndone (sample_files units)) }
+    ensures back { IfOk result (IsUndone files.now) }
     ensures refused { IfErr result (IsRefusedFor (λ why. Answers units (Err why))) }
 {
     renamings_are_undone();
