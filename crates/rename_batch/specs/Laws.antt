@@ -1,15 +1,16 @@
 -- What is said of batches as a whole.
-use Rattle.std.specs.Prelude.{◌≡◌, ◌≢◌, ◌⊎◌, ◌<◌, ℕ, List, [], None, All, Contains, Result, Ok, length, map, slice_get}
+use Rattle.std.specs.Prelude.{◌≡◌, ◌≢◌, ◌⊎◌, ◌<◌, ℕ, List, [], None, All, Contains, Result, Ok, length, slice_get}
 use Rattle.std.specs.List.Sorted.{IsStrictlySortedBy}
 use Rattle.std.specs.Ordering.{nat_cmp}
 use Rattle.rotor_base.specs.Files.{FileSet, IsProject, load_refusal, names_of}
+use Rattle.rotor_base.specs.Lines.{feed_lines}
 use Rattle.rename_laws.specs.Laws.{KeepsRuns}
 use Rattle.rename_batch.specs.declared.error.BatchError.{BatchError}
 use Rattle.rename_batch.specs.declared.step.Step.{Step}
 use Rattle.rename_batch.specs.declared.step.Batched.{Batched}
 use Rattle.rename_batch.specs.Batch.{Batches, undo_steps}
-use Rattle.rename_batch.specs.Reading.{AreSteps, IsBatch, IsBadLine}
-use Rattle.rename_batch.specs.Text.{undo_words}
+use Rattle.rename_batch.specs.Reading.{IsBatch, IsBadLine}
+use Rattle.rename_batch.specs.Text.{undo_text}
 
 -- Law: lines are a batch of one list of steps at most
 abbrev pub OneBatch : Type 0
@@ -48,13 +49,14 @@ BatchesAreUndone =
     (files : FileSet) (steps : List Step) (done : Batched) → IsProject files → Batches files steps (Ok done)
     → (back : Batched) × Batches done.files (undo_steps (names_of done.files.entries) done.undo) (Ok back) × (back.files ≡ files)
 
--- Law: what its report prints behind `undo ` are lines that request the steps back
+-- Law: what the report of a batch prints behind `undo ` is a batch of the steps back
 abbrev pub UndosAreRead : Type 0
 UndosAreRead =
-    (files : FileSet) (steps : List Step) (done : Batched) → IsProject files → Batches files steps (Ok done)
-    → AreSteps (map (undo_words (names_of done.files.entries)) done.undo) (undo_steps (names_of done.files.entries) done.undo)
+    (files : FileSet) (lines : List (List ℕ)) (steps : List Step) (done : Batched) → IsProject files → IsBatch lines steps
+    → Batches files steps (Ok done)
+    → IsBatch (feed_lines (undo_text (names_of done.files.entries) done.undo)) (undo_steps (names_of done.files.entries) done.undo)
 
--- Law: if it has a step, it keeps the bounded runs
+-- Law: if a batch that is accepted has a step, it keeps the bounded runs
 abbrev pub BatchesKeepRuns : Type 0
 BatchesKeepRuns =
     (files : FileSet) (steps : List Step) (done : Batched) → IsProject files → steps ≢ [] → Batches files steps (Ok done)

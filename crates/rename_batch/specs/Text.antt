@@ -15,6 +15,10 @@ change_line names change = join (codes "rename " ∷ change.old ∷ codes " to "
 abbrev pub undo_words : List Word → Undo → Word
 undo_words names undo = join (place_text names undo.at ∷ codes " " ∷ undo.old ∷ [])
 
+-- the lines P OLD of these steps back, as a text
+abbrev pub undo_text : List Word → List Undo → List ℕ
+undo_text names undos = flat_map ended (map (undo_words names) undos)
+
 -- undo P OLD
 abbrev pub undo_line : List Word → Undo → Word
 undo_line names undo = join (codes "undo " ∷ undo_words names undo ∷ [])
