@@ -1,10 +1,10 @@
 mod Words
 mod Readings
 mod Runs
-mod Results
+pub mod Results
 mod Backwards
 mod Texts
 mod Changed
-mod OneReading
+pub mod OneReading
 mod Rewritten
 mod Printed

@@ -4,3 +4,5 @@ pub mod Saying
 pub mod Undoing
 pub mod Batching
 pub mod Verifying
+pub mod OneReply
+pub mod Accepting

@@ -41,10 +41,8 @@ use Rattle.rename_batch.specs.Batch.{Batches}
 use Rattle.rename_batch.specs.Reading.{IsBatch}
 use Rattle.rename_verify.specs.declared.verdict.Verdict.{Verdict}
 use Rattle.rename_verify.specs.declared.verdict.Verdict.TheVariants.{Yes, No}
-use Rattle.rename_verify.specs.Laws.{IsValidRespelling, IsYesAnswer}
 use Rattle.rename_verify.specs.Verdict.{Verdicts}
 use Rattle.rotor_base.specs.declared.refusal.Refusal.{Refusal}
-use Rattle.rotor_app.specs.declared.status.Status.{Status}
 use Rattle.rotor_app.specs.declared.status.Status.TheVariants.{Done, Refused, Project}
 use Rattle.rotor_app.specs.declared.reply.Reply.{Reply}
 use Rattle.rotor_app.specs.Said.{status_of, reply_by, outcome_text, MayWrite, IsAnswer, not_loaded, answered, SaysTo, answers, pends, batches}
@@ -52,11 +50,11 @@ use Rattle.rotor_app.specs.Said.{batch_in, batched_reply, SaysSteps, stopped, ba
 use Rattle.rotor_app.specs.Said.{finished, lost, SaysVerify, no_list, listed, SaysAgainst, unlisted, judged, IsJudged, RefusesList}
 use Rattle.rotor_app.specs.Said.{judged_reply, Says}
 use Rattle.rotor_app.specs.Said.{SomeReply}
-use Rattle.rotor_app.specs.Table.{IsAsSaid, Seen, TreeStopped}
+use Rattle.rotor_app.specs.Table.{TreeStopped}
 use Rattle.rotor_app.proofs.Saying.{no_done_refusal}
 use Rattle.rotor_app.specs.Laws.{HasLaws}
-use Rattle.rotor_app.specs.Done.{rename_words, undo_of, AreSameButForPlan, GivesBack, GivesFilesBack, IsDone, IsBatchDone, IsVerified, IsDoneSo}
-use Rattle.rotor_app.specs.Done.{IsDoneIfValid, IsRecoverable}
+use Rattle.rotor_app.specs.Done.{rename_words, undo_of, AreSameButForPlan, GivesBack, GivesFilesBack, IsDone, IsShown, IsBatchDone, IsVerified}
+use Rattle.rotor_app.specs.Done.{IsDoneSo, IsRecoverable}
 
 -- ---- the last line of the report
 
@@ -286,6 +284,25 @@ module _ (laws : HasLaws) where
     by_reply reply (batches file files b l may s) d = cc
     by_reply reply (pends p e) d = absurd (let no : Project ≡ Done = sym (ap (λ (r : Reply). r.status) e) ∙ d in cc)
 
+  -- a footprint that is shown
+  shown_so : (held : FileMap) (target : Target) (reply : Reply) → SaysTo (command.Shape target) held reply → reply.status ≡ Done
+      → IsShown held target reply
+  shown_so held target reply (answers sources o (not_loaded error l) e) d =
+      absurd (let no : Project ≡ Done = sym (ap (λ (r : Reply). r.status) e) ∙ d in cc)
+  shown_so held target reply (answers sources o (answered files _ l may (Err r, a, t)) e) d =
+      absurd (no_done_refusal r (sym (ap status_of t) ∙ (sym (ap (λ (x : Reply). x.status) e) ∙ d)))
+  shown_so held target reply (answers sources o (answered files _ l may (Ok shown, a, t)) e) d = record {
+    old = files;
+    shown = shown;
+    loads = l;
+    shows = a;
+    replied = e ∙ ap (λ (x : Outcome). reply_by (command.Shape target) (names_of files.entries) x) t;
+    least = laws.shown_least files target shown (laws.project held files l) a;
+    outside = laws.shown_kept files target shown (laws.project held files l) a;
+  }
+  shown_so held target reply (pends p e) d = absurd (let no : Project ≡ Done = sym (ap (λ (r : Reply). r.status) e) ∙ d in cc)
+  shown_so held target reply (batches file files b l may s) d = cc
+
   -- a batch that is done
   module _ (held : FileMap) (file : List ℕ) (write : Bool) (old : FileSet) (bytes : List ℕ) (steps : List Step) (done : Batched)
       (loads : loaded held ≡ Ok old) (found : batch_in held file ≡ Some bytes)
@@ -316,7 +333,7 @@ module _ (laws : HasLaws) where
       written = λ w. subst (λ (ws : List SourceFile). loaded (after ws held) ≡ Ok done.files) (sym (ap (λ (r : Reply). r.writes) e))
           (batch_loads write w);
       undone = laws.batch_undone old steps done project_of accepted;
-      asked = laws.batch_asked old steps done project_of accepted;
+      asked = laws.batch_asked old (feed_lines bytes) steps done project_of reads accepted;
       runs = λ some. laws.batch_runs old steps done project_of some accepted;
     }
 
@@ -350,7 +367,7 @@ module _ (laws : HasLaws) where
   recovered_so held reply (lost l e) d = absurd (let no : Project ≡ Done = sym (ap (λ (r : Reply). r.status) e) ∙ d in cc)
 
   -- the files that a list gives are a project
-  list_project : (held : FileMap) (name : List ℕ) (files : FileSet) → Lists held name (Ok files) → IsProject files
+  pub list_project : (held : FileMap) (name : List ℕ) (files : FileSet) → Lists held name (Ok files) → IsProject files
   list_project held name files l = by (Ok files) l refl where
     by : (result : Result FileSet ListError) → Lists held name result → result ≡ Ok files → IsProject files
     by result (lacks_list none e) t = cc
@@ -395,7 +412,7 @@ module _ (laws : HasLaws) where
   unfolding Says
   by_says None held reply s d = tt
   by_says (Some command.Check) held reply s d = tt
-  by_says (Some (command.Shape target)) held reply s d = tt
+  by_says (Some (command.Shape target)) held reply s d = shown_so held target reply s d
   by_says (Some (command.Rename target new write safe json)) held reply s d =
       by_reply held target new write safe json (IsDone held target new write safe json)
       (λ old done l may a r e. is_done held target new write safe json old done l may a r e) reply s d
@@ -453,55 +470,6 @@ module _ (laws : HasLaws) where
     one_of : Some now ≡ Some held → now ≡ held
     one_of e = cc
   recoverable (Some command.Recover) held now (inr (reply, said, (d, halt))) = λ found r. stopped_recovery held now reply said d halt found r
-
-  -- ---- a valid respelling
-
-  -- two answers of one list are one
-  no_error : (held : FileMap) (name : List ℕ) (files : FileSet) (error : ListError) → Lists held name (Ok files) → Lists held name (Err error) → ⊥
-  no_error held name files error l m =
-      let wrong : ◌≡◌ {A = Result FileSet ListError} (Ok files) (Err error) = laws.lists held name (Ok files) (Err error) l m in cc
-
-  one_list : (held : FileMap) (name : List ℕ) (files other : FileSet) → Lists held name (Ok files) → Lists held name (Ok other) → other ≡ files
-  one_list held name files other l m =
-      let same : ◌≡◌ {A = Result FileSet ListError} (Ok other) (Ok files) = laws.lists held name (Ok other) (Ok files) m l in cc
-
-  yes_done : (names : List (List ℕ)) (answer : Result Verdict Refusal) (reply : Reply) → IsYesAnswer answer → reply ≡ judged_reply names answer
-      → reply.status ≡ Done
-  yes_done names (Ok (Yes changes)) reply y e = ap (λ (r : Reply). r.status) e
-  yes_done names (Ok (No why)) reply y e = absurd y
-  yes_done names (Err why) reply y e = absurd y
-
-  -- the reply to `verify` of such files is done
-  valid_done : (held : FileMap) (old_name new_name : List ℕ) (reply : Reply) → SaysVerify old_name new_name held reply → (old new : FileSet)
-      → Lists held old_name (Ok old) → Lists held new_name (Ok new) → IsValidRespelling old new → reply.status ≡ Done
-  valid_done held old_name new_name reply (no_list error l h) old new f g v = absurd (no_error held old_name old error f l)
-  valid_done held old_name new_name reply (listed files l s) old new f g v =
-      by (subst (λ (x : FileSet). SaysAgainst x new_name held reply) (one_list held old_name old files f l) s)
-    where
-      by : SaysAgainst old new_name held reply → reply.status ≡ Done
-      by (unlisted error m h) = absurd (no_error held new_name new error g m)
-      by (judged other m j) = judged_done (subst (λ (x : FileSet). IsJudged old x reply) (one_list held new_name new other g m) j) where
-        judged_done : IsJudged old new reply → reply.status ≡ Done
-        judged_done (answer, d, e) =
-            yes_done (names_of old.entries) answer reply
-            (laws.verified_all old new answer (list_project held old_name old f) (list_project held new_name new g) v d) e
-
-  by_valid : (request : Option Command) (held : FileMap) (reply : Reply) (status : Status) → Says request held reply → status ≡ reply.status
-      → IsDoneIfValid request held status
-  unfolding Says
-  by_valid None held reply status s e = tt
-  by_valid (Some command.Check) held reply status s e = tt
-  by_valid (Some (command.Shape target)) held reply status s e = tt
-  by_valid (Some (command.Rename target new write safe json)) held reply status s e = tt
-  by_valid (Some (command.Sample units)) held reply status s e = tt
-  by_valid (Some (command.Verify old_name new_name)) held reply status s e =
-      λ old new f g v. e ∙ valid_done held old_name new_name reply s old new f g v
-  by_valid (Some (command.Batch file write)) held reply status s e = tt
-  by_valid (Some command.Recover) held reply status s e = tt
-
-  pub done_if_valid : (request : Option Command) (held : FileMap) (before now : Seen) (status : Status)
-      → SomeReply request held (λ reply. IsAsSaid reply held before now status) → IsDoneIfValid request held status
-  done_if_valid request held before now status s = by_valid request held s.0 status s.1 s.2.status
 
   pub done_so : (request : Option Command) (held : FileMap) (P : Reply → Type 0) → SomeReply request held (λ reply. P reply × (reply.status ≡ Done))
       → SomeReply request held (λ reply. P reply × IsDoneSo request held reply)

@@ -1,39 +1,45 @@
 -- What holds of a command that is done: what a renaming keeps, that the words of its undo give the old files back, what
 -- a recovery leaves, and what a yes of `verify` says.
-use Rattle.std.specs.Prelude.{◌≡◌, ℕ, List, [], ◌∷◌, ◌++◌, ◌≢◌, ◌⊎◌, ◌||◌, Bool, true, false, Option, Some, None, Ok, codes, map}
+use Rattle.std.specs.Prelude.{◌≡◌, ℕ, ◌≤◌, List, [], ◌∷◌, ◌++◌, ◌≢◌, ◌⊎◌, ◌||◌, Bool, true, false, Option, Some, None, IsSome, Ok}
+use Rattle.std.specs.Prelude.{codes, length}
 use Rattle.std.specs.Global.{Vec}
 use Rattle.std.specs.FinMap.{get}
 use Rattle.rotor_base.specs.Files.{FileSet, names_of}
+use Rattle.rotor_base.specs.Limits.{max_file_bytes}
 use Rattle.rotor_base.specs.Lines.{feed_lines}
 use Rattle.rotor_base.specs.declared.report.Outcome.TheVariants as outcome
+use Rattle.rotor_base.specs.declared.report.Counts.{Counts}
+use Rattle.rotor_base.specs.declared.report.FootReport.{FootReport}
 use Rattle.rotor_base.specs.declared.report.Renamed.{Renamed}
+use Rattle.rotor_base.specs.declared.report.SampleReport.{SampleReport}
 use Rattle.rotor_base.specs.declared.target.Target.{Target}
 use Rattle.tree_io.specs.Outside.{FileMap}
 use Rattle.project_load.specs.Load.{loaded}
 use Rattle.project_load.specs.Listed.{Lists}
 use Rattle.project_load.specs.Rewritten.{after}
-use Rattle.apply_journal.specs.Recovered.{plan_name, gate_name, IsOpen, project_in, Recovers}
+use Rattle.apply_journal.specs.Recovered.{plan_name, gate_name, IsLost, IsOpen, project_in, Recovers}
 use Rattle.report.specs.Pieces.{place_text}
 use Rattle.report.specs.Lines.{undo_line}
 use Rattle.report.specs.Text.{ended}
 use Rattle.cli_words.specs.declared.command.Command.{Command}
 use Rattle.cli_words.specs.declared.command.Command.TheVariants as command
-use Rattle.rename_files.specs.Answer.{Renames}
+use Rattle.rename_files.specs.Answer.{Checks, Shows, Renames}
 use Rattle.rename_batch.specs.declared.step.Step.{Step}
 use Rattle.rename_batch.specs.declared.step.Batched.{Batched}
 use Rattle.rename_batch.specs.Batch.{Batches, undo_steps}
-use Rattle.rename_batch.specs.Reading.{AreSteps, IsBatch}
-use Rattle.rename_batch.specs.Text.{undo_words}
-use Rattle.rename_laws.specs.Laws.{IsValidFor, KeepsFacts, KeepsRuns, IsLeastFor}
+use Rattle.rename_batch.specs.Reading.{IsBatch}
+use Rattle.rename_batch.specs.Text.{undo_text}
+use Rattle.rename_laws.specs.Laws.{AreKept, IsValidFor, KeepsFacts, KeepsRuns, IsLeastFor}
 use Rattle.rename_verify.specs.declared.verdict.Verdict.TheVariants.{Yes}
 use Rattle.rename_verify.specs.Changed.{Changed}
 use Rattle.rename_verify.specs.Verdict.{Verdicts}
 use Rattle.rename_verify.specs.Laws.{AreValidlyRespelled, IsValidRespelling}
+use Rattle.sample_project.specs.Sample.{Samples}
 use Rattle.rotor_app.specs.declared.status.Status.{Status}
 use Rattle.rotor_app.specs.declared.status.Status.TheVariants.{Done}
 use Rattle.rotor_app.specs.declared.reply.Reply.{Reply}
 use Rattle.cli_words.specs.Words.{command_of}
-use Rattle.rotor_app.specs.Said.{reply_by, batched_reply, judged_reply, batch_in, SomeReply}
+use Rattle.rotor_app.specs.Said.{reply_by, batched_reply, judged_reply, batch_in, MayWrite, SomeReply}
 
 -- the words `rename PLACE NAME --write`
 abbrev pub rename_words : List ℕ → List ℕ → List (List ℕ)
@@ -78,8 +84,19 @@ pub record IsDone (held : FileMap) (target : Target) (new : List ℕ) (write saf
   pub back : write ≡ true → safe ≡ false → GivesBack (undo_of (names_of old.entries) done) held reply
   pub safe_back : safe ≡ true → GivesFilesBack (undo_of (names_of old.entries) done) held reply
 
--- A batch over the files that a folder loads as is done, and the reply is its. What the report prints behind `undo `
--- requests the steps back.
+-- The footprint of a target in the files that a folder loads as is shown. It is a least one, and if it has a place that is
+-- linked with the outside, no valid renaming changes any of it.
+pub record IsShown (held : FileMap) (target : Target) (reply : Reply) : Type 0 where
+  pub old : FileSet
+  pub shown : FootReport
+  pub loads : loaded held ≡ Ok old
+  pub shows : Shows old target (Ok shown)
+  pub replied : reply ≡ reply_by (command.Shape target) (names_of old.entries) (outcome.Shown shown)
+  pub least : IsLeastFor old shown.foot.decls
+  pub outside : IsSome shown.foot.outside → AreKept old shown.foot.decls
+
+-- A batch over the files that a folder loads as is done, and the reply is its. What the report prints behind `undo ` is a
+-- batch of the steps back.
 pub record IsBatchDone (held : FileMap) (file : List ℕ) (write : Bool) (reply : Reply) : Type 0 where
   pub old : FileSet
   pub bytes : List ℕ
@@ -92,7 +109,7 @@ pub record IsBatchDone (held : FileMap) (file : List ℕ) (write : Bool) (reply 
   pub replied : reply ≡ batched_reply (command.Batch file write) (names_of old.entries) done
   pub written : write ≡ true → loaded (after reply.writes held) ≡ Ok done.files
   pub undone : (back : Batched) × Batches done.files (undo_steps (names_of done.files.entries) done.undo) (Ok back) × (back.files ≡ old)
-  pub asked : AreSteps (map (undo_words (names_of done.files.entries)) done.undo) (undo_steps (names_of done.files.entries) done.undo)
+  pub asked : IsBatch (feed_lines (undo_text (names_of done.files.entries) done.undo)) (undo_steps (names_of done.files.entries) done.undo)
   pub runs : steps ≢ [] → KeepsRuns old done.files
 
 -- `verify` is done: its lists give two projects, and the second is a valid respelling of the first, which keeps the runs
@@ -111,7 +128,7 @@ pub record IsVerified (held : FileMap) (old_name new_name : List ℕ) (reply : R
 abbrev pub IsDoneSo : Option Command → FileMap → Reply → Type 0
 IsDoneSo None held reply = Unit {0}
 IsDoneSo (Some command.Check) held reply = Unit {0}
-IsDoneSo (Some (command.Shape target)) held reply = Unit {0}
+IsDoneSo (Some (command.Shape target)) held reply = IsShown held target reply
 IsDoneSo (Some (command.Rename target name write safe json)) held reply = IsDone held target name write safe json reply
 IsDoneSo (Some (command.Sample units)) held reply = Unit {0}
 IsDoneSo (Some (command.Verify old new)) held reply = IsVerified held old new reply
@@ -133,14 +150,22 @@ IsRecoverable (Some (command.Verify old new)) held now = Unit {0}
 IsRecoverable (Some (command.Batch file write)) held now = Unit {0}
 IsRecoverable (Some command.Recover) held now = (found : FileSet) → Recovers held found → Recovers now found
 
--- `verify` is done if its lists give two projects, `check` accepts the first, and the second is a valid respelling of it
-abbrev pub IsDoneIfValid : Option Command → FileMap → Status → Type 0
-IsDoneIfValid None held status = Unit {0}
-IsDoneIfValid (Some command.Check) held status = Unit {0}
-IsDoneIfValid (Some (command.Shape target)) held status = Unit {0}
-IsDoneIfValid (Some (command.Rename target name write safe json)) held status = Unit {0}
-IsDoneIfValid (Some (command.Sample units)) held status = Unit {0}
-IsDoneIfValid (Some (command.Verify old_name new_name)) held status =
+-- If the answer of a command is an Ok, and the gate does not forbid its writes, the status is Done (Completeness). The
+-- answer of `verify` is one if `check` accepts the first project and the second is a valid respelling of it.
+abbrev pub IsDoneIfAccepted : Option Command → FileMap → Status → Type 0
+IsDoneIfAccepted None held status = Unit {0}
+IsDoneIfAccepted (Some command.Check) held status = (files : FileSet) (counts : Counts) → loaded held ≡ Ok files → Checks files (Ok counts)
+    → status ≡ Done
+IsDoneIfAccepted (Some (command.Shape target)) held status =
+    (files : FileSet) (shown : FootReport) → loaded held ≡ Ok files → Shows files target (Ok shown) → status ≡ Done
+IsDoneIfAccepted (Some (command.Rename target name write safe json)) held status =
+    (files : FileSet) (done : Renamed) → loaded held ≡ Ok files → MayWrite (command.Rename target name write safe json) held
+    → Renames files target name (Ok done) → status ≡ Done
+IsDoneIfAccepted (Some (command.Sample units)) held status = (report : SampleReport) → Samples units (Ok report) → status ≡ Done
+IsDoneIfAccepted (Some (command.Verify old_name new_name)) held status =
     (old new : FileSet) → Lists held old_name (Ok old) → Lists held new_name (Ok new) → IsValidRespelling old new → status ≡ Done
-IsDoneIfValid (Some (command.Batch file write)) held status = Unit {0}
-IsDoneIfValid (Some command.Recover) held status = Unit {0}
+IsDoneIfAccepted (Some (command.Batch file write)) held status =
+    (files : FileSet) (bytes : List ℕ) (steps : List Step) (done : Batched) → loaded held ≡ Ok files → MayWrite (command.Batch file write) held
+    → batch_in held file ≡ Some bytes → length bytes ≤ max_file_bytes → IsBatch (feed_lines bytes) steps → Batches files steps (Ok done)
+    → status ≡ Done
+IsDoneIfAccepted (Some command.Recover) held status = (IsLost held → ⊥) → status ≡ Done

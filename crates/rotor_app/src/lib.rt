@@ -2,6 +2,7 @@
 #![tactic(auto)]
 
 mod batch;
+mod laws;
 mod outcome;
 mod reply;
 mod status;
@@ -9,6 +10,7 @@ mod top;
 mod verify;
 mod words;
 
+pub use laws::replies_are_one;
 pub use reply::Reply;
 pub use status::Status;
 pub use top::rotor;

@@ -4,7 +4,7 @@ ghost use Rattle.std.specs.Option.{ForSome};
 ghost use Rattle.tree_io.specs.Outside.{HasFault, StaysSteady, Rose};
 ghost use Rattle.cli_words.specs.Words.{command_of};
 ghost use Rattle.rotor_app.specs.Said.{AsksNothing, SomeReply};
-ghost use Rattle.rotor_app.specs.Done.{IsDoneIfValid, IsDoneSo, IsRecoverable};
+ghost use Rattle.rotor_app.specs.Done.{IsDoneIfAccepted, IsDoneSo, IsRecoverable};
 ghost use Rattle.rotor_app.specs.Laws.{HasLaws};
 ghost use Rattle.rotor_app.specs.Table.{Ending, seen, IsComplete, Carried, Put, IsQuiet, IsAsSaid, IsFault, TreeStopped, SinkStopped, IsRefusal, AnsweredAlone, CutAlone};
 ghost use Rattle.tree_writes.specs.Writes.{HasRoom};
@@ -20,7 +20,8 @@ use rename_batch::{
 };
 use rename_laws::{
     changes_are_listed, footprints_are_least, renamings_are_undone, renamings_are_valid,
-    renamings_keep_facts, renamings_keep_runs, renamings_rewrite, undos_have_places,
+    renamings_keep_facts, renamings_keep_runs, renamings_rewrite, shown_footprints_are_least,
+    undos_have_places,
 };
 use rename_verify::yes_is_valid;
 use std::alloc::Global;
@@ -75,19 +76,21 @@ pub fn rotor<T: Tree, S: Sink>(alloc: Global, words: &[String], tree: &mut T, ou
     ensures quiet { (result ≡ Status.TreeFault) ⊎ (result ≡ Status.Memory) → out.new ≡ out.old }
 
     // A renaming that is done is valid, keeps facts and runs, and changes a least footprint. The files and the text are
-    // those of its reply, and the words of its undo give the old files back. A recovery that is done leaves what is recovered.
-    // A `verify` that is done says yes: the second project is a valid respelling of the first, which keeps the runs.
+    // those of its reply, and the words of its undo give the old files back. A footprint that is shown is a least one. A
+    // recovery that is done leaves what is recovered. A `verify` that is done says yes: the second project is a valid
+    // respelling of the first, which keeps the runs.
     ensures renamed { (result ≡ Status.Done) → ForSome (T.content tree.old) (λ files. SomeReply (command_of (map string_bytes words.now)) files (λ reply.
         IsAsSaid reply files
         (seen (T.faults tree.old) (S.faults out.old) (T.content tree.old) (S.taken out.old))
         (seen (T.faults tree.new) (S.faults out.new) (T.content tree.new) (S.taken out.new)) result
         × IsDoneSo (command_of (map string_bytes words.now)) files reply)) }
 
-    // A `verify` of two versions is done if `check` accepts the first and the second is a valid respelling of it.
-    ensures verified { ForSome (T.content tree.old) (λ files.
+    // If a command's answer is an Ok and the gate does not forbid its writes, the status is Done. The answer of `verify` is
+    // one if `check` accepts the first version and the second is a valid respelling of it.
+    ensures accepted { ForSome (T.content tree.old) (λ files.
         IsQuiet (seen (T.faults tree.old) (S.faults out.old) (T.content tree.old) (S.taken out.old))
         (seen (T.faults tree.new) (S.faults out.new) (T.content tree.new) (S.taken out.new))
-        → (result ≡ Status.Memory → ⊥) → IsDoneIfValid (command_of (map string_bytes words.now)) files result) }
+        → (result ≡ Status.Memory → ⊥) → IsDoneIfAccepted (command_of (map string_bytes words.now)) files result) }
 
     // Over a folder and an output that do not fail, the status is the one that is said, or there was no memory.
     ensures complete { T.is_steady tree.old → ForSome (T.content tree.old) (λ files. IsComplete (command_of (map string_bytes words.now)) files (S.accepts out.old) result) }
@@ -112,6 +115,7 @@ fn recall_laws()
     renamings_keep_facts();
     renamings_keep_runs();
     footprints_are_least();
+    shown_footprints_are_least();
     changes_are_listed();
     batches_rewrite();
     batches_are_undone();

@@ -5,7 +5,8 @@ use Rattle.rotor_app.specs.Table.{seen, IsAsSaid, TreeStopped}
 use Rattle.rotor_app.proofs.Endings.{answers, usage_only, alone_same, alone_said, alone_cut, tree_fault, sink_fault, tree_stopped, sink_stopped}
 use Rattle.rotor_app.proofs.Endings.{unchanged, quiet_sink, done_said}
 use Rattle.rotor_app.proofs.Concluded.{alone_writes}
-use Rattle.rotor_app.proofs.Undoing.{done_if_valid, done_so, recoverable}
+use Rattle.rotor_app.proofs.Accepting.{done_if_accepted}
+use Rattle.rotor_app.proofs.Undoing.{done_so, recoverable}
 use Rattle.rotor_app.proofs.top.rotor.Goals as goal
 
 pub returns-clause-answer : goal.returns-clause-answer
@@ -120,9 +121,9 @@ returns-clause-recoverable g c = λ fault held before now left.
     (g.S.Sink.taken c.conclude.new.out))
     (c.conclude.new.tree ≡ c.args.tree.now) (c.conclude.new.out ≡ c.args.out.now) c.conclude.result c.conclude.ensures.ending fault held before))
 
-pub returns-clause-verified : goal.returns-clause-verified
-returns-clause-verified g c = λ files held quiet memory.
-    done_if_valid c.recall_laws.ensures (command_of (map string_bytes c.args.words.now)) files
+pub returns-clause-accepted : goal.returns-clause-accepted
+returns-clause-accepted g c = λ files held quiet memory.
+    done_if_accepted c.recall_laws.ensures (command_of (map string_bytes c.args.words.now)) files
     (seen (g.T.Tree.faults c.args.tree.now) (g.S.Sink.faults c.args.out.now) (g.T.Tree.content c.args.tree.now) (g.S.Sink.taken c.args.out.now))
     (seen (g.T.Tree.faults c.conclude.new.tree) (g.S.Sink.faults c.conclude.new.out) (g.T.Tree.content c.conclude.new.tree)
     (g.S.Sink.taken c.conclude.new.out)) c.conclude.result (
