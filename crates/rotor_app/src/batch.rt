@@ -161,24 +161,16 @@ fn stopped_batch(
 ) -> Result<Reply, Memory>
     ensures { IfOk result (λ reply. reply ≡ stopped_batch (map string_bytes names.now) step refusal) }
 {
-    let number = format!(in alloc; "{step}")?;
     let outcome = Outcome::Refused(refusal);
-    let mut line = Vec::new(alloc);
-    line.extend_from_slice(b"step ")?;
-    line.extend_from_slice(number.as_bytes())?;
-    line.extend_from_slice(b" ")?;
+    let mut line = format!(in alloc; "step {step} ")?.into_bytes();
     line.extend_from_slice(&text(alloc, names, &outcome)?)?;
-    reply_of(alloc, status_of(&outcome), &line)
+    Ok(reply_of(alloc, status_of(&outcome), line))
 }
 
 /// The reply to a batch whose line of this number is bad.
 fn bad_batch(alloc: Global, number: u32) -> Result<Reply, Memory>
     ensures { IfOk result (λ reply. reply ≡ bad_batch number) }
 {
-    let digits = format!(in alloc; "{number}")?;
-    let mut line = Vec::new(alloc);
-    line.extend_from_slice(b"project: badbatch ")?;
-    line.extend_from_slice(digits.as_bytes())?;
-    line.extend_from_slice(b"\n")?;
-    reply_of(alloc, Status::Project, &line)
+    let line = format!(in alloc; "project: badbatch {number}\n")?;
+    Ok(reply_of(alloc, Status::Project, line.into_bytes()))
 }

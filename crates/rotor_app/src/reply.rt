@@ -28,6 +28,10 @@ use tree_writes::take_room;
 const PENDING_LINE: &[u8] = b"project: pending\n";
 /// The same as JSON.
 const PENDING_JSON: &[u8] = b"{\"project\":[\"pending\"]}\n";
+/// The line of a recovery, if the gate is not open.
+const NOTHING_LINE: &[u8] = b"nothing to recover\n";
+/// The line of a recovery without a plan.
+const BAD_PLAN_LINE: &[u8] = b"project: badplan\n";
 
 /// An answer, before anything is written: the status, the writes in their order, and the text.
 #[derive(Debug, Drop)]
@@ -150,7 +154,9 @@ fn may_write<T: Tree>(alloc: Global, command: &Command, tree: &mut T) -> Result<
     match gate_open(alloc, tree) {
         Ok(is_open) => Ok(!is_open),
         Err(RecoverError::Read) => Err(TreeError::Failed),
-        Err(_) => Err(TreeError::Memory),
+        Err(RecoverError::Write | RecoverError::BadPlan | RecoverError::Memory) => {
+            Err(TreeError::Memory)
+        }
     }
 }
 
@@ -163,18 +169,18 @@ fn pending_reply(alloc: Global, command: &Command) -> Result<Reply, Memory>
     } else {
         PENDING_LINE
     };
-    reply_of(alloc, Status::Project, text)
+    Ok(reply_of(alloc, Status::Project, text.to_vec(alloc)?))
 }
 
 /// A reply that writes nothing.
-pub fn reply_of(alloc: Global, status: Status, text: &[u8]) -> Result<Reply, Memory>
-    ensures { IfOk result (λ reply. reply ≡ reply_of status [] text.now) }
+pub fn reply_of(alloc: Global, status: Status, text: Vec<u8>) -> Reply
+    ensures { result ≡ reply_of status [] text.items }
 {
-    Ok(Reply {
+    Reply {
         status,
         writes: Row::new(alloc),
-        text: Row::from_vec(text.to_vec(alloc)?),
-    })
+        text: Row::from_vec(text),
+    }
 }
 
 /// The reply to `recover`, with its room.
@@ -188,9 +194,11 @@ fn recovery_reply<T: Tree>(alloc: Global, tree: &mut T) -> Result<Reply, TreeErr
     ensures steady { StaysSteady (T.is_steady tree.old) (T.is_steady tree.new) (IsErrOf result TreeError.Failed) }
 {
     match read_recovery(alloc, tree) {
-        Ok(None) => Ok(reply_of(alloc, Status::Done, b"nothing to recover\n")?),
+        Ok(None) => Ok(reply_of(alloc, Status::Done, NOTHING_LINE.to_vec(alloc)?)),
         Ok(Some(writes)) => Ok(recovered_reply(alloc, writes)?),
-        Err(RecoverError::BadPlan) => Ok(reply_of(alloc, Status::Project, b"project: badplan\n")?),
+        Err(RecoverError::BadPlan) => {
+            Ok(reply_of(alloc, Status::Project, BAD_PLAN_LINE.to_vec(alloc)?))
+        }
         Err(RecoverError::Read) => Err(TreeError::Failed),
         Err(RecoverError::Write | RecoverError::Memory) => Err(TreeError::Memory),
     }
@@ -200,11 +208,8 @@ fn recovery_reply<T: Tree>(alloc: Global, tree: &mut T) -> Result<Reply, TreeErr
 fn recovered_reply(alloc: Global, writes: Vec<SourceFile>) -> Result<Reply, Memory>
     ensures { IfOk result (λ reply. reply ≡ reply_of Status.Done writes.items (recovered_text (length writes.items - 1))) }
 {
-    let count = format!(in alloc; "{}", writes.len().saturating_sub(1))?;
-    let mut text = Vec::new(alloc);
-    text.extend_from_slice(b"recovered ")?;
-    text.extend_from_slice(count.as_bytes())?;
-    text.extend_from_slice(b"\n")?;
+    let count = writes.len().saturating_sub(1);
+    let text = format!(in alloc; "recovered {count}\n")?.into_bytes();
     Ok(Reply {
         status: Status::Done,
         writes: Row::from_vec(writes),

@@ -75,21 +75,18 @@ fn unloaded_reply(alloc: Global, error: LoadError) -> Result<Reply, Memory>
     ensures { IfOk result (λ reply. reply ≡ unloaded_list error) }
 {
     let line = text(alloc, &[], &Outcome::NotLoaded(error))?;
-    reply_of(alloc, Status::Project, &line)
+    Ok(reply_of(alloc, Status::Project, line))
 }
 
 /// The reply to a list whose line of this number is bad.
 fn bad_list(alloc: Global, list: &str, number: u32) -> Result<Reply, Memory>
     ensures { IfOk result (λ reply. reply ≡ bad_list list.now number) }
 {
-    let digits = format!(in alloc; "{number}")?;
-    let mut line = Vec::new(alloc);
-    line.extend_from_slice(b"project: badlist ")?;
+    let number = format!(in alloc; " {number}\n")?;
+    let mut line = b"project: badlist ".to_vec(alloc)?;
     line.extend_from_slice(list.as_bytes())?;
-    line.extend_from_slice(b" ")?;
-    line.extend_from_slice(digits.as_bytes())?;
-    line.extend_from_slice(b"\n")?;
-    reply_of(alloc, Status::Project, &line)
+    line.extend_from_slice(number.as_bytes())?;
+    Ok(reply_of(alloc, Status::Project, line))
 }
 
 /// The reply to the verdict on two projects.
@@ -108,7 +105,7 @@ fn verdict_reply(alloc: Global, names: &[String], verdict: &Verdict) -> Result<R
     ensures { IfOk result (λ reply. reply ≡ judged_reply (map string_bytes names.now) (Ok verdict.now)) }
 {
     let lines = verdict_text(alloc, names, verdict)?;
-    reply_of(alloc, status_of_verdict(verdict), &lines)
+    Ok(reply_of(alloc, status_of_verdict(verdict), lines))
 }
 
 /// The status of a verdict.
@@ -128,5 +125,5 @@ fn refused_reply(alloc: Global, names: &[String], refusal: Refusal) -> Result<Re
 {
     let outcome = refused(refusal)?;
     let line = text(alloc, names, &outcome)?;
-    reply_of(alloc, status_of(&outcome), &line)
+    Ok(reply_of(alloc, status_of(&outcome), line))
 }
