@@ -92,9 +92,17 @@ asked (name ∷ rest) = form_of name rest
 
 -- ---- the command of a form
 
--- a number of units: 2 to 500, in decimal without a leading zero
+-- the fewest units of `sample`
+abbrev pub min_sample : ℕ
+min_sample = 2
+
+-- the most units of `sample`
+abbrev pub max_sample : ℕ
+max_sample = 500
+
+-- a number of units, if it is within these bounds
 abbrev pub sample_of : ℕ → Option Command
-sample_of n = if nat_le 2 n && nat_le n 500 then Some (command.Sample n) else None
+sample_of n = if nat_le min_sample n && nat_le n max_sample then Some (command.Sample n) else None
 
 abbrev pub command_by : Asked Word → Option Command
 command_by form.Check = Some command.Check

@@ -17,7 +17,7 @@ use std::alloc::Global;
 use tree_io::{Tree, TreeError};
 
 /// The most bytes of a file that are read: one more than it may have.
-const READ_LIMIT: u32 = 1_048_577;
+const READ_LIMIT: u32 = MAX_FILE_BYTES + 1;
 
 /// The names of a folder.
 pub(crate) fn list_names<T: Tree>(alloc: Global, tree: &mut T) -> Result<Vec<String>, LoadError>
@@ -42,8 +42,8 @@ pub(crate) fn read_front<T: Tree>(
     tree: &mut T,
 ) -> Result<Vec<u8>, LoadError>
     requires { ForSome (T.content tree.old) (λ held. IsSome (get held name.now)) }
-    ensures bytes { IfOk result (λ bytes. IfSome (T.content tree.old) (λ held. IsFront 1048577 (get held name.now) bytes.items)) }
-    ensures limit { IfOk result (λ bytes. length bytes.items ≤ 1048577) }
+    ensures bytes { IfOk result (λ bytes. IfSome (T.content tree.old) (λ held. IsFront (max_file_bytes + 1) (get held name.now) bytes.items)) }
+    ensures limit { IfOk result (λ bytes. length bytes.items ≤ max_file_bytes + 1) }
     ensures outside { IfErr result IsOutside }
     ensures content { T.content tree.new ≡ T.content tree.old }
     ensures room { KeepsRoom (T.room_for tree.old) (T.room_for tree.new) }
@@ -65,8 +65,8 @@ fn read_source<T: Tree>(
     tree: &mut T,
 ) -> Result<Vec<u8>, LoadError>
     requires { ForSome (seen naming.now (T.content tree.old)) (λ held. IsSome (get held source.now)) }
-    ensures bytes { IfOk result (λ bytes. IfSome (seen naming.now (T.content tree.old)) (λ held. IsFront 1048577 (get held source.now) bytes.items)) }
-    ensures limit { IfOk result (λ bytes. length bytes.items ≤ 1048577) }
+    ensures bytes { IfOk result (λ bytes. IfSome (seen naming.now (T.content tree.old)) (λ held. IsFront (max_file_bytes + 1) (get held source.now) bytes.items)) }
+    ensures limit { IfOk result (λ bytes. length bytes.items ≤ max_file_bytes + 1) }
     ensures outside { IfErr result IsOutside }
     ensures content { T.content tree.new ≡ T.content tree.old }
     ensures room { KeepsRoom (T.room_for tree.old) (T.room_for tree.new) }
@@ -141,7 +141,7 @@ pub(crate) fn read_manifest<T: Tree>(
     tree: &mut T,
 ) -> Result<Option<Vec<u8>>, LoadError>
     requires { ForSome (seen naming.now (T.content tree.old)) (λ held. is_there ≡ is_some (manifest_of held)) }
-    ensures read { IfOk result (λ manifest. IfSome (seen naming.now (T.content tree.old)) (λ held. option_map (λ bytes. bytes.items) manifest ≡ option_map (take 1048577) (manifest_of held))) }
+    ensures read { IfOk result (λ manifest. IfSome (seen naming.now (T.content tree.old)) (λ held. option_map (λ bytes. bytes.items) manifest ≡ option_map (take (max_file_bytes + 1)) (manifest_of held))) }
     ensures outside { IfErr result IsOutside }
     ensures content { T.content tree.new ≡ T.content tree.old }
     ensures room { KeepsRoom (T.room_for tree.old) (T.room_for tree.new) }
