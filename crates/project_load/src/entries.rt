@@ -1,7 +1,6 @@
 //! The lines of a list, and the file of each source that they name.
-ghost use Rattle.std.specs.Prelude.{◌≡◌, ◌≤◌, ◌||◌, ℕ, List, None, IfOk, IfErr, IfSome, IfNone, OnOk, length, map, string_bytes, codes, true, false};
+ghost use Rattle.std.specs.Prelude.{◌≡◌, ◌≤◌, ℕ, None, IfOk, IfErr, IfSome, IfNone, OnOk, length, map, string_bytes, true, false};
 ghost use Rattle.std.specs.Option.{option_copied};
-ghost use Rattle.std.specs.Str.{bytes_eq};
 ghost use Rattle.std.specs.BTreeSet.{contains_text};
 ghost use Rattle.std.specs.FinMap.{empty, get, insert, keys};
 ghost use Rattle.line_words.specs.Cut.{IsWhole};
@@ -12,9 +11,9 @@ ghost use Rattle.project_load.specs.Listed.{Gives, is_listed_name};
 ghost use Rattle.project_load.specs.Entries.{AreThere, IsFolder, IsLine, IsNoEntry, IsNoLine, IsUnread, given_by, table_of};
 
 use crate::ListError;
-use crate::names::MANIFEST;
+use crate::names::is_project_file;
 use line_words::{cut_space, has_space};
-use rotor_base::{Memory, feed_line, is_source};
+use rotor_base::{Memory, feed_line};
 use std::alloc::Global;
 use std::collections::{BTreeMap, BTreeSet};
 
@@ -131,17 +130,10 @@ fn source_in(bytes: &[u8]) -> Option<&str>
     let Ok(source) = std::str::from_utf8(bytes) else {
         return None;
     };
-    if !may_be_listed(source) {
+    if !is_project_file(source) {
         return None;
     }
     Some(source)
-}
-
-/// Whether a name is that of a source or of the manifest.
-fn may_be_listed(name: &str) -> bool
-    ensures { result ≡ is_listed_name name.now }
-{
-    is_source(name.as_bytes()) || name == MANIFEST
 }
 
 /// The file that some bytes name, if they have no space and the folder has the file.

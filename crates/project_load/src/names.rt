@@ -1,16 +1,24 @@
 //! The names of a folder's sources.
-ghost use Rattle.std.specs.Prelude.{◌≡◌, ◌&&◌, true, Bool, List, ℕ, codes, map, string_bytes};
+ghost use Rattle.std.specs.Prelude.{◌≡◌, ◌&&◌, ◌||◌, true, Bool, List, ℕ, codes, map, string_bytes};
 ghost use Rattle.std.specs.List.{list_all, list_any};
 ghost use Rattle.std.specs.List.Sorted.{IsStrictlySortedBy};
 ghost use Rattle.std.specs.Ordering.{nat_cmp};
 ghost use Rattle.std.specs.Cmp.Lexicographic.{slice_cmp};
 ghost use Rattle.std.specs.Str.{bytes_eq};
 ghost use Rattle.rotor_base.specs.Stem.{is_source_name};
+ghost use Rattle.project_load.specs.Listed.{is_listed_name};
 
 use rotor_base::is_source;
 
 /// The name of the manifest.
-pub(crate) const MANIFEST: &str = "rotor.units";
+pub const MANIFEST: &str = "rotor.units";
+
+/// Whether a file of this name is a source or the manifest. No other file of a folder is part of its project.
+pub fn is_project_file(name: &str) -> bool
+    ensures { result ≡ is_listed_name name.now }
+{
+    is_source(name.as_bytes()) || name == MANIFEST
+}
 
 /// The names of sources among those of a listing, each once, in byte order.
 pub(crate) fn source_names(listed: Vec<String>) -> Vec<String>

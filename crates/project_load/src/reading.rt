@@ -1,5 +1,5 @@
 //! Reading the names of a folder and its files.
-ghost use Rattle.std.specs.Prelude.{◌≡◌, ◌⊎◌, ◌≤◌, ◌+◌, ◌^◌, ◌<◌, ◌||◌, nat_lt, Some, List, ℕ, map, take, length, string_bytes, IfOk, IfErr, IfSome, IsSome, IsErrOf, IsPermutation};
+ghost use Rattle.std.specs.Prelude.{◌≡◌, ◌⊎◌, ◌≤◌, ◌+◌, ◌^◌, ◌<◌, ◌||◌, nat_lt, Some, ℕ, map, take, length, string_bytes, IfOk, IfErr, IfSome, IsSome, IsErrOf, IsPermutation};
 ghost use Rattle.std.specs.Option.{ForSome, is_some, option_map};
 ghost use Rattle.std.specs.List.{AllByRecursion};
 ghost use Rattle.std.specs.FinMap.{get, keys};
