@@ -43,16 +43,16 @@ project_in held = record { entries = sources_of held; manifest = manifest_of hel
 abbrev pub HoldsPlan : FileMap → List SourceFile → Type 0
 HoldsPlan held files = (bytes : List ℕ) × (get held plan_name ≡ Some bytes) × IsPlan bytes files
 
+-- the folder holds no plan
+abbrev pub HoldsNoPlan : FileMap → Type 0
+HoldsNoPlan held = (files : List SourceFile) → HoldsPlan held files → ⊥
+
 -- The sources and the manifest that are recovered. If the gate is open and there is a plan, the plan's files replace
 -- those of the folder. If not, they are as they are (Recovered).
 pub data Recovers (held : FileMap) : FileSet → Type 0 where
   planned : (files : List SourceFile) → IsOpen held → HoldsPlan held files → Recovers held (project_in (after files held))
   closed : (IsOpen held → ⊥) → Recovers held (project_in held)
-  unplanned : IsOpen held → ((files : List SourceFile) → HoldsPlan held files → ⊥) → Recovers held (project_in held)
-
--- the folder holds no plan
-abbrev pub HoldsNoPlan : FileMap → Type 0
-HoldsNoPlan held = (files : List SourceFile) → HoldsPlan held files → ⊥
+  unplanned : IsOpen held → HoldsNoPlan held → Recovers held (project_in held)
 
 -- the gate is open, and the folder holds no plan (BadPlan)
 pub record IsLost (held : FileMap) : Type 0 where
