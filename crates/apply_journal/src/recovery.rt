@@ -1,5 +1,5 @@
 //! The recovery after a stop.
-ghost use Rattle.std.specs.Prelude.{◌≡◌, ◌⊎◌, List, IfErr, IfOk, IfSome, IsErrOf, IsPermutation, OnErr, OnOk, length, map, string_bytes};
+ghost use Rattle.std.specs.Prelude.{◌≡◌, ◌⊎◌, IfOk, IfSome, IsErrOf, IsPermutation, OnErr, OnOk, map, string_bytes};
 ghost use Rattle.std.specs.Option.{ForSome, option_map};
 ghost use Rattle.std.specs.FinMap.{keys};
 ghost use Rattle.rotor_base.specs.declared.source.SourceFile.{SourceFile};

@@ -1,5 +1,5 @@
 //! Safe writes.
-ghost use Rattle.std.specs.Prelude.{◌≡◌, ◌⊎◌, IfOk, IsErr, OnOk, OnErr};
+ghost use Rattle.std.specs.Prelude.{◌≡◌, IfOk, IsErr, OnOk, OnErr};
 ghost use Rattle.tree_io.specs.Outside.{HasFault, KeepsRoom, StaysSteady};
 ghost use Rattle.tree_writes.specs.Writes.{HasRoom, Written, StoppedWriting};
 ghost use Rattle.apply_journal.specs.Recovered.{plan_writes, safe_writes};
