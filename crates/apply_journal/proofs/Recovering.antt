@@ -22,10 +22,6 @@ pub goes_on : {A B E : Type 0} (r : Result A E) (e wanted : E) → IsErr r → I
 goes_on (Ok x) e wanted h k w = absurd cc
 goes_on (Err y) e wanted h k w = cc
 
--- an error is the same in a result of another kind
-pub goes_up : {A B E : Type 0} (e wanted : E) → IsErrOf {T = A} {E = E} (Err e) wanted → IsErrOf {T = B} {E = E} (Err e) wanted
-goes_up e wanted h = cc
-
 -- ---- the plan's file
 
 none_there : (file : Option (List ℕ)) → ◌≡◌ {A = Option (List ℕ)} None (option_map (take 16777217) file) → (bytes : List ℕ) → file ≡ Some bytes → ⊥

@@ -1,6 +1,8 @@
 -- When a reading of the gate or of the plan, and a recovery, fail because of the folder.
 use Rattle.std.specs.Prelude.{◌≡◌, ◌⊎◌, ℕ, ◌<◌, ◌≤◌, Result, IsErrOf}
 use Rattle.tree_io.specs.Outside.{Rose}
+use Rattle.tree_io.specs.declared.outside.TreeError.{TreeError}
+use Rattle.tree_io.specs.declared.outside.TreeError.TheVariants as tree
 use Rattle.apply_journal.specs.declared.error.RecoverError.{RecoverError}
 use Rattle.apply_journal.specs.declared.error.RecoverError.TheVariants.{Read, Write, Memory}
 
@@ -23,3 +25,8 @@ pub record HasRecoverCause {T : Type 0} (before now : ℕ) (result : Result T Re
 -- the errors of a reading: the folder failed, or there was no memory
 abbrev pub IsOutside : RecoverError → Type 0
 IsOutside error = (error ≡ Read) ⊎ (error ≡ Memory)
+
+-- the error of a call that reads a folder, as the error of a reading
+abbrev pub read_error : TreeError → RecoverError
+read_error tree.Failed = Read
+read_error tree.Memory = Memory

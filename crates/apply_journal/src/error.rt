@@ -6,6 +6,7 @@ ghost use Rattle.apply_journal.specs.declared.error.PlanError.TheVariants as pla
 use rotor_base::Memory;
 use std::alloc::{AllocError, AllocFailed};
 use thiserror::Error;
+use tree_io::TreeError;
 
 /// Why a recovery failed.
 #[derive(Clone, Copy, Debug, PartialEq, Eq, Error)]
@@ -45,6 +46,19 @@ impl<T: Drop> From<AllocFailed<T>> for RecoverError {
 
     fn from(_error: AllocFailed<T>) -> Self {
         RecoverError::Memory
+    }
+}
+
+impl From<TreeError> for RecoverError {
+    ghost use Rattle.apply_journal.specs.Cause.{read_error};
+
+    ghost from_gives = { λ error e. e ≡ read_error error };
+
+    fn from(error: TreeError) -> Self {
+        match error {
+            TreeError::Failed => RecoverError::Read,
+            TreeError::Memory => RecoverError::Memory,
+        }
     }
 }
 

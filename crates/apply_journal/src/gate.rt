@@ -6,11 +6,11 @@ ghost use Rattle.std.specs.FinMap.{get, keys};
 ghost use Rattle.std.specs.Str.{bytes_eq};
 ghost use Rattle.tree_io.specs.Outside.{KeepsRoom, StaysSteady};
 ghost use Rattle.apply_journal.specs.Cause.{HasReadCause, IsOutside};
-ghost use Rattle.apply_journal.specs.Recovered.{IsOpen, gate_name};
+ghost use Rattle.apply_journal.specs.Recovered.{IsOpen};
 
 use crate::RecoverError;
 use std::alloc::Global;
-use tree_io::{Tree, TreeError};
+use tree_io::Tree;
 
 /// The name of the gate's file.
 pub(crate) const GATE: &str = "rotor.gate";
@@ -65,11 +65,7 @@ pub(crate) fn list_names<T: Tree>(alloc: Global, tree: &mut T) -> Result<Vec<Str
     ensures cause { HasReadCause (T.faults tree.old) (T.faults tree.new) result }
     ensures steady { StaysSteady (T.is_steady tree.old) (T.is_steady tree.new) (IsErrOf result RecoverError.Read) }
 {
-    match tree.list(alloc) {
-        Ok(names) => Ok(names),
-        Err(TreeError::Failed) => Err(RecoverError::Read),
-        Err(TreeError::Memory) => Err(RecoverError::Memory),
-    }
+    Ok(tree.list(alloc)?)
 }
 
 /// The first bytes of a file, as many as the limit, if its name is listed.
@@ -91,11 +87,7 @@ pub(crate) fn read_listed<T: Tree>(
     if !is_listed(listed, name) {
         return Ok(None);
     }
-    match tree.read(alloc, name, limit) {
-        Ok(bytes) => Ok(Some(bytes)),
-        Err(TreeError::Failed) => Err(RecoverError::Read),
-        Err(TreeError::Memory) => Err(RecoverError::Memory),
-    }
+    Ok(Some(tree.read(alloc, name, limit)?))
 }
 
 /// Whether a name is listed.

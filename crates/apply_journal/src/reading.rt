@@ -84,13 +84,9 @@ fn read_entries(
     let mut files = Vec::new(alloc);
     let mut rest = bytes;
     for _ in 0..count {
-        match read_entry(alloc, rest) {
-            Err(error) => return Err(error),
-            Ok((file, behind)) => {
-                files.push(file)?;
-                rest = behind;
-            }
-        }
+        let (file, behind) = read_entry(alloc, rest)?;
+        files.push(file)?;
+        rest = behind;
     }
     Ok((files, rest))
 }
