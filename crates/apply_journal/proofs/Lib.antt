@@ -1,5 +1,6 @@
 pub mod Gates
 pub mod Maps
+pub mod Numbers
 pub mod Plans
 pub mod Stops
 pub mod Texts

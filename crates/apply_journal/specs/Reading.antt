@@ -1,5 +1,5 @@
 -- The pieces of a plan, and the rest behind each.
-use Rattle.std.specs.Prelude.{◌≡◌, ℕ, ◌≤◌, ◌==◌, List, [], ◌∷◌, ◌++◌, true, false, length, codes}
+use Rattle.std.specs.Prelude.{◌≡◌, ℕ, ◌≤◌, ◌==◌, ◌&&◌, Bool, List, [], ◌∷◌, ◌++◌, true, false, length, codes, nat_le}
 use Rattle.std.specs.Fmt.{decimal}
 use Rattle.std.specs.List.{list_any}
 use Rattle.rotor_base.specs.Limits.{max_file_bytes, max_sources}
@@ -15,6 +15,12 @@ IsWithout end word = list_any (λ b. b == end) word ≡ false
 pub record IsCut (end : ℕ) (bytes word rest : List ℕ) : Type 0 where
   pub split : bytes ≡ (word ++ end ∷ []) ++ rest
   pub without : IsWithout end word
+
+-- the word is one digit, or begins with a digit other than 0
+abbrev pub begins_number : List ℕ → Bool
+begins_number [] = false
+begins_number (b ∷ []) = nat_le 48 b && nat_le b 57
+begins_number (b ∷ c ∷ bs) = nat_le 49 b && nat_le b 57
 
 -- the bytes are a line with a number of at most `limit` in decimal, and the rest
 pub record IsNumber (limit : ℕ) (bytes : List ℕ) (number : ℕ) (rest : List ℕ) : Type 0 where

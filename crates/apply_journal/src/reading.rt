@@ -9,7 +9,7 @@ ghost use Rattle.rotor_base.specs.Limits.{max_file_bytes, max_sources, max_total
 ghost use Rattle.rotor_base.specs.Files.{names_of};
 ghost use Rattle.rotor_base.specs.declared.source.SourceFile.{SourceFile};
 ghost use Rattle.apply_journal.specs.Plan.{IsPlan, line};
-ghost use Rattle.apply_journal.specs.Reading.{IsWithout, IsCut, IsNumber, IsHead, IsEntry, AreEntries};
+ghost use Rattle.apply_journal.specs.Reading.{begins_number, IsWithout, IsCut, IsNumber, IsHead, IsEntry, AreEntries};
 
 use crate::PlanError;
 use crate::plan::make_file;
@@ -37,7 +37,9 @@ pub fn read_plan(alloc: Global, bytes: &[u8]) -> Result<Vec<SourceFile>, PlanErr
     if bytes.len() > MAX_PLAN_BYTES as usize {
         return Err(PlanError::Bad);
     }
-    let (count, rest) = read_head(alloc, bytes)?;
+    let Some((count, rest)) = read_head(bytes) else {
+        return Err(PlanError::Bad);
+    };
     let (files, rest) = read_entries(alloc, count, rest)?;
     if rest != END {
         return Err(PlanError::Bad);
@@ -52,23 +54,19 @@ pub fn read_plan(alloc: Global, bytes: &[u8]) -> Result<Vec<SourceFile>, PlanErr
 }
 
 /// The number of the files of a plan, and the rest behind it.
-fn read_head(alloc: Global, bytes: &[u8]) -> Result<(u32, &[u8]), PlanError>
-    ensures read { IfOk result (λ found. IsHead bytes.now found.0 found.1.now) }
-    ensures bad { IsErrOf result PlanError.Bad → (count : ℕ) → (rest : List ℕ) → IsHead bytes.now count rest → ⊥ }
+fn read_head(bytes: &[u8]) -> Option<(u32, &[u8])>
+    ensures read { IfSome result (λ found. IsHead bytes.now found.0 found.1.now) }
+    ensures none { IfNone result ((count : ℕ) → (rest : List ℕ) → IsHead bytes.now count rest → ⊥) }
 {
-    let Some((title, rest)) = cut_line(bytes) else {
-        return Err(PlanError::Bad);
-    };
+    let (title, rest) = cut_line(bytes)?;
     if title != TITLE {
-        return Err(PlanError::Bad);
+        return None;
     }
-    let Some((word, rest)) = cut_word(rest) else {
-        return Err(PlanError::Bad);
-    };
+    let (word, rest) = cut_word(rest)?;
     if word != COUNTED {
-        return Err(PlanError::Bad);
+        return None;
     }
-    read_number(alloc, rest, MAX_SOURCES as u32)
+    read_number(rest, MAX_SOURCES as u32)
 }
 
 /// So many files of a plan, and the rest behind them.
@@ -105,7 +103,9 @@ fn read_entry(alloc: Global, bytes: &[u8]) -> Result<(SourceFile, &[u8]), PlanEr
     if !is_source(name.as_bytes()) {
         return Err(PlanError::Bad);
     }
-    let (len, rest) = read_number(alloc, rest, MAX_FILE_BYTES)?;
+    let Some((len, rest)) = read_number(rest, MAX_FILE_BYTES) else {
+        return Err(PlanError::Bad);
+    };
     let Some((content, rest)) = cut_behind(rest, len) else {
         return Err(PlanError::Bad);
     };
@@ -113,38 +113,42 @@ fn read_entry(alloc: Global, bytes: &[u8]) -> Result<(SourceFile, &[u8]), PlanEr
 }
 
 /// A number of at most `limit` on a line of its own, and the rest behind the line.
-fn read_number(alloc: Global, bytes: &[u8], limit: u32) -> Result<(u32, &[u8]), PlanError>
-    ensures read { IfOk result (λ found. IsNumber limit bytes.now found.0 found.1.now) }
-    ensures bad { IsErrOf result PlanError.Bad → (number : ℕ) → (rest : List ℕ) → IsNumber limit bytes.now number rest → ⊥ }
+fn read_number(bytes: &[u8], limit: u32) -> Option<(u32, &[u8])>
+    ensures read { IfSome result (λ found. IsNumber limit bytes.now found.0 found.1.now) }
+    ensures none { IfNone result ((number : ℕ) → (rest : List ℕ) → IsNumber limit bytes.now number rest → ⊥) }
 {
-    let Some((word, rest)) = cut_line(bytes) else {
-        return Err(PlanError::Bad);
-    };
-    let number = number_of(alloc, word)?;
+    let (word, rest) = cut_line(bytes)?;
+    let number = number_of(word)?;
     if number > limit {
-        return Err(PlanError::Bad);
+        return None;
     }
-    Ok((number, rest))
+    Some((number, rest))
 }
 
 /// The number of a word in decimal.
-fn number_of(alloc: Global, word: &[u8]) -> Result<u32, PlanError>
-    ensures read { IfOk result (λ number. word.now ≡ decimal number) }
-    ensures small { IfOk result (λ number. number < 2 ^ 32) }
-    ensures bad { IsErrOf result PlanError.Bad → (number : ℕ) → number < 2 ^ 32 → word.now ≡ decimal number → ⊥ }
+fn number_of(word: &[u8]) -> Option<u32>
+    ensures read { IfSome result (λ number. word.now ≡ decimal number) }
+    ensures small { IfSome result (λ number. number < 2 ^ 32) }
+    ensures none { IfNone result ((number : ℕ) → number < 2 ^ 32 → word.now ≡ decimal number → ⊥) }
 {
+    // `parse` accepts a sign and leading zeros, which no number of a plan has.
+    if !begins_number(word) {
+        return None;
+    }
     let Ok(text) = std::str::from_utf8(word) else {
-        return Err(PlanError::Bad);
+        return None;
     };
     let Ok(number) = text.parse::<u32>() else {
-        return Err(PlanError::Bad);
+        return None;
     };
-    // `parse` accepts leading zeros and a sign, which no number of a plan has.
-    let digits = format!(in alloc; "{number}")?;
-    if digits.as_str() != text {
-        return Err(PlanError::Bad);
-    }
-    Ok(number)
+    Some(number)
+}
+
+/// Whether a word is one digit, or begins with a digit other than 0.
+fn begins_number(word: &[u8]) -> bool
+    ensures { result ≡ begins_number word.now }
+{
+    matches!(word, [b'0'..=b'9'] | [b'1'..=b'9', ..])
 }
 
 /// The first line without its LF, and the rest behind it.

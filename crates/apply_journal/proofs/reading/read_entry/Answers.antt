@@ -1,7 +1,5 @@
 use Rattle.std.proofs.Common.{◌∙◌}
-use Rattle.apply_journal.specs.declared.error.PlanError.TheVariants.{Bad}
 use Rattle.apply_journal.proofs.Readings.{no_text, no_source, no_length, no_content}
-use Rattle.apply_journal.proofs.Recovering.{goes_on}
 use Rattle.apply_journal.proofs.reading.read_entry.Goals as goal
 
 pub returns-in_default-from_utf8-clause-bad : goal.returns-in_default-from_utf8-clause-bad
@@ -13,12 +11,11 @@ returns-then-not-is_source-clause-bad c = λ _.
     no_source c.args.bytes.now c.in-Some.name.now c.in-Some.rest.now c.as_bytes.result.now c.is_source.result c.in-Some.ensures.found
     (c.as_bytes.ensures.value ∙ c.in-Ok.ensures.cases.0) c.is_source.ensures c.if-not-is_source.true
 
-pub returns-in_err-len-clause-bad : goal.returns-in_err-len-clause-bad
-returns-in_err-len-clause-bad c = λ is.
-    no_length c.args.bytes.now c.in-Some.name.now c.in-Some.rest.now c.in-Some.ensures.found
-    (c.in_err-len.ensures.bad (goes_on c.from_residual.result c.in_err-len.field-0.0 Bad c.from_residual.ensures.0 c.from_residual.ensures.1 is))
+pub returns-in_default-read_number-clause-bad : goal.returns-in_default-read_number-clause-bad
+returns-in_default-read_number-clause-bad c = λ _.
+    no_length c.args.bytes.now c.in-Some.name.now c.in-Some.rest.now c.in-Some.ensures.found c.in_default-read_number.ensures.none
 
 pub returns-in_default-cut_behind-clause-bad : goal.returns-in_default-cut_behind-clause-bad
 returns-in_default-cut_behind-clause-bad c = λ _.
-    no_content c.args.bytes.now c.in-Some.name.now c.in-Some.rest.now c.in_ok-len.len c.in_ok-len.rest.now c.in-Some.ensures.found
-    c.in_ok-len.ensures.read c.in_default-cut_behind.ensures.missing
+    no_content c.args.bytes.now c.in-Some.name.now c.in-Some.rest.now c.in-Some-read_number.len c.in-Some-read_number.rest.now c.in-Some.ensures.found
+    c.in-Some-read_number.ensures.read c.in_default-cut_behind.ensures.missing
