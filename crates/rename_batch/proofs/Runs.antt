@@ -1,6 +1,7 @@
 -- The run of a batch, step by step.
-use Rattle.std.proofs.Common.{◌≡◌, ◌∙◌, inl, inr, ℕ, suc, ◌+◌, ◌<◌, List, [], ◌∷◌, ◌++◌, length, take, drop, get_or, Ok, Err, take-append-drop, refl}
+use Rattle.std.proofs.Common.{◌≡◌, ◌∙◌, inl, inr, ℕ, suc, ◌+◌, ◌<◌, List, [], ◌∷◌, ◌++◌, length, take, drop, get_or, Result, Ok, Err, IfErr, take-append-drop, refl}
 use Rattle.std.proofs.Common.{sym, ap, subst, arith}
+use Rattle.std.specs.Result.{IsErrAnd}
 use Rattle.std.proofs.lemmas.List.{drop_more, length-take-le, take_more}
 use Rattle.rotor_base.specs.declared.refusal.Refusal.{Refusal}
 use Rattle.rotor_base.specs.declared.report.Renamed.{Renamed}
@@ -81,6 +82,11 @@ step_failed files steps at step left now changes error h read same r f =
     subst (λ (s : Step). IsFailedFor (IsRefusedStep left s (at + 1)) error) read
     (subst (λ (fs : FileSet). IsFailedFor (IsRefusedStep fs step (at + 1)) error) same f) in
     run_fails files steps at step left changes error h r here
+
+-- an error that is passed on is the one that was returned
+pub passed_on : {A : Type 0} (r : Result A BatchError) (error : BatchError) (P : BatchError → Type 0) → IsErrAnd r (λ y. y ≡ error) → P error → IfErr r P
+passed_on (Ok done) error P same p = tt
+passed_on (Err y) error P same p = subst P (sym same) p
 
 -- ---- one step
 

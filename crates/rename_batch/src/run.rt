@@ -8,7 +8,8 @@ use rename_files::rename;
 use rotor_base::{Files, Memory, Name, Refusal, Renamed, Row, SourceFile, Text};
 use std::alloc::Global;
 
-/// Renames one step after the other, each in the files that the step before it left.
+/// Renames one step after the other, each in the files that the step before it left. The caller makes sure that there
+/// are fewer than 4,294,967,296 steps.
 ///
 /// # Errors
 ///
@@ -44,17 +45,13 @@ fn run_steps(
     let mut last = None;
     let mut changes = Row::new(alloc);
     for at in 0..steps.len() {
-        match run_step(alloc, latest(files, &last), &steps[at], at as u32 + 1) {
-            Err(error) => return Err(error),
-            Ok(done) => {
-                changes.push(Change {
-                    old: done.old,
-                    new: done.new,
-                    at: done.undo_at,
-                })?;
-                last = Some(done.files);
-            }
-        }
+        let done = run_step(alloc, latest(files, &last), &steps[at], at as u32 + 1)?;
+        changes.push(Change {
+            old: done.old,
+            new: done.new,
+            at: done.undo_at,
+        })?;
+        last = Some(done.files);
     }
     Ok((left(alloc, files, last)?, changes))
 }
