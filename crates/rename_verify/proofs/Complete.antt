@@ -1,4 +1,4 @@
--- The verdict on a valid respelling is yes.
+-- The verdict on a valid respelling is yes, if each entry of the map gives a binder another name.
 use Rattle.std.proofs.Common.{◌≡◌, ◌||◌, ◌⊎◌, inl, inr, ℕ, List, [], ◌∷◌, Bool, true, false, cond, Option, Some, None, map, filter, Contains}
 use Rattle.std.proofs.Common.{slice_get, refl, ap, sym, subst, ◌∙◌, unwrap_or, arith}
 use Rattle.rotor_base.specs.Files.{FileSet, IsProject}
@@ -38,7 +38,7 @@ use Rattle.rename_respell.proofs.Given.{bytes_same}
 use Rattle.rename_steps.proofs.Having.{Has, has_as, has_mapped, has_filtered, contained_has}
 use Rattle.rename_survey.specs.Survey.{binder_of, binders_of}
 use Rattle.rename_verify.specs.Candidate.{AreLexemesOf, candidate, changes, given_name, word_at}
-use Rattle.rename_verify.specs.Laws.{AreRespelledBy, ChangesAll, IsYes, ValidIsYes}
+use Rattle.rename_verify.specs.Laws.{AreRespelledBy, ChangesAll, IsYes}
 use Rattle.rename_verify.proofs.Alone.{more_in}
 use Rattle.rename_verify.proofs.Given.{changed_is, changed_word, changes_are_changed, in_changed, is_other, is_other_name, keeps_fixed}
 use Rattle.rename_verify.proofs.Listing.{entry_is}
@@ -56,7 +56,7 @@ all_kept test (x ∷ xs) h =
     ap (λ b. cond b (x ∷ filter test xs) (filter test xs)) (h x (0, omega arith, refl))
     ∙ ap (λ l. x ∷ l) (all_kept test xs (λ y c. h y (more_in x xs y c)))
 
-at_contains : (r : Renaming) (d : Place) (y : Name) → at_place r d ≡ Some y → Contains r (d, y)
+pub at_contains : (r : Renaming) (d : Place) (y : Name) → at_place r d ≡ Some y → Contains r (d, y)
 at_contains [] d y e = let wrong : None ≡ Some y = e in absurd cc
 at_contains (x ∷ r) d y e = by (same_place x.0 d) refl e (at_contains r d y) where
   by : (b : Bool) → same_place x.0 d ≡ b → or_else (some_if b x.1) (at_place r d) ≡ Some y → (at_place r d ≡ Some y → Contains r (d, y))
@@ -266,5 +266,6 @@ module _ (old new : FileSet) (us : List UnitTree) (r : Renaming) (p : IsProject 
         changes = (lists, cut, refl);
       }
 
-pub valid_is_yes : ValidIsYes
-valid_is_yes old new us r p q accepts valid only by = yes old new us r p q accepts valid only by
+pub changing_is_yes : (old new : FileSet) (us : List UnitTree) (r : Renaming) → IsProject old → IsProject new → Accepts old us → IsValid us r
+    → ChangesAll us r → AreRespelledBy old new us r → IsYes old new us
+changing_is_yes old new us r p q accepts valid only by = yes old new us r p q accepts valid only by

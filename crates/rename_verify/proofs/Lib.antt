@@ -18,4 +18,5 @@ pub mod Valid
 pub mod Respelt
 pub mod Unrepeated
 pub mod Complete
+pub mod Trimming
 pub mod Said

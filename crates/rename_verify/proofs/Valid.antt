@@ -35,7 +35,7 @@ use Rattle.rename_survey.specs.Survey.{binders_of}
 use Rattle.rename_verify.specs.declared.verdict.Why.TheVariants as why
 use Rattle.rename_verify.specs.Candidate.{AreLexemesOf, candidate, changes}
 use Rattle.rename_verify.specs.Differ.{source, manifest}
-use Rattle.rename_verify.specs.Laws.{AreRespelledBy, IsListedChange, YesIsValid, YesKeepsRuns, ChangesAll}
+use Rattle.rename_verify.specs.Laws.{AreRespelledBy, IsListedChange, IsMap, YesIsValid, YesKeepsRuns, ChangesAll}
 use Rattle.rename_verify.specs.Scans.{first_alone}
 use Rattle.rename_verify.specs.Verdict.{IsSources, IsBytes, IsFixed, IsFixedAt, IsBroken, ForCandidate, reasons}
 use Rattle.rename_verify.proofs.Alone.{IsToldAlone, told}
@@ -95,7 +95,7 @@ respelled_all w n (o ∷ olds) (t ∷ ts) h =
 
 -- ---- a list that is filtered twice
 
-filtered_again : {A : Type 0} (test : A → Bool) (xs : List A) → filter test (filter test xs) ≡ filter test xs
+pub filtered_again : {A : Type 0} (test : A → Bool) (xs : List A) → filter test (filter test xs) ≡ filter test xs
 filtered_again test [] = refl
 filtered_again test (x ∷ xs) = by (test x) refl (filtered_again test xs) where
   kept : (b : Bool) → b ≡ true → filter test (filter test xs) ≡ filter test xs
@@ -207,6 +207,14 @@ module _ (old new : FileSet) (us : List UnitTree) (p : IsProject old) (q : IsPro
   pub all_other : ChangesAll us R
   all_other d y c = given.other_name us d y (each_in (λ e. given.is_other us e ≡ true) R (d, y) (given.changed_other us r) c)
 
+  entry_given : (d : Place) (y : Name) → Contains R (d, y) → given.IsGiven us sound lists (d, y)
+  entry_given d y c =
+      let each = given.each_filtered (given.IsGiven us sound lists) (given.is_other us) r (given.given us sound lists) in
+      (each_in (λ e. given.IsGiven us sound lists e × (given.is_other us e ≡ true)) R (d, y) each c).0
+
+  pub single : IsMap R
+  single d y z c k = given.one_given us sound lists d y z (entry_given d y c) (entry_given d z k)
+
   pub is_respelled : AreRespelledBy old new us R
   is_respelled = record {
     names = names;
@@ -237,6 +245,7 @@ yes_is_valid old new list p q h =
       reads = h.1.reads;
       renaming = changed us (candidate lists (binders_of us));
       valid = valid old new us p q h.1 lists cut h.2.0;
+      single = single old new us p q h.1 lists cut h.2.0;
       other = all_other old new us p q h.1 lists cut h.2.0;
       respelled = is_respelled old new us p q h.1 lists cut h.2.0;
       listed = λ d y. (

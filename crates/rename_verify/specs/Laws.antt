@@ -39,6 +39,10 @@ pub record AreRespelledBy (old new : FileSet) (us : List UnitTree) (r : Renaming
   pub manifest : old.manifest ≡ new.manifest
   pub bytes : AreRespelledBytes (mapped_words us r) 0 old.entries (map (λ s. s.bytes) new.entries)
 
+-- the renaming, which is a list, is a map: it gives each place at most one name
+abbrev pub IsMap : Renaming → Type 0
+IsMap r = (d : Place) (y z : Name) → Contains r (d, y) → Contains r (d, z) → y ≡ z
+
 -- each entry of the renaming gives a binder another name
 abbrev pub ChangesAll : List UnitTree → Renaming → Type 0
 ChangesAll us r = (d : Place) (y : Name) → Contains r (d, y) → y ≢ name_of us d
@@ -55,6 +59,7 @@ pub record AreValidlyRespelled (old new : FileSet) (list : List Changed) : Type 
   pub project : List UnitTree
   pub reads : Reads old project
   pub renaming : Renaming
+  pub single : IsMap renaming
   pub valid : IsValid project renaming
   pub other : ChangesAll project renaming
   pub respelled : AreRespelledBy old new project renaming
@@ -69,13 +74,14 @@ YesIsValid = (old new : FileSet) (list : Vec Changed) → IsProject old → IsPr
 abbrev pub YesKeepsRuns : Type 0
 YesKeepsRuns = (old new : FileSet) (list : Vec Changed) → IsProject old → IsProject new → Verdicts old new (Ok (Yes list)) → KeepsRuns old new
 
--- the new files are a valid respelling of the old ones, which `check` accepts
+-- the new files are a valid respelling of the old ones, which `check` accepts, by a map that may give a binder its own
+-- name
 pub record IsValidRespelling (old new : FileSet) : Type 0 where
   pub project : List UnitTree
   pub accepts : Accepts old project
   pub renaming : Renaming
+  pub single : IsMap renaming
   pub valid : IsValid project renaming
-  pub other : ChangesAll project renaming
   pub respelled : AreRespelledBy old new project renaming
 
 -- an answer of `verify` is yes
@@ -98,6 +104,6 @@ pub record IsYes (old new : FileSet) (us : List UnitTree) : Type 0 where
 -- Law: the verdict on a valid respelling is yes
 abbrev pub ValidIsYes : Type 0
 ValidIsYes =
-    (old new : FileSet) (us : List UnitTree) (r : Renaming) → IsProject old → IsProject new → Accepts old us → IsValid us r → ChangesAll us r
+    (old new : FileSet) (us : List UnitTree) (r : Renaming) → IsProject old → IsProject new → Accepts old us → IsMap r → IsValid us r
     → AreRespelledBy old new us r
     → IsYes old new us
