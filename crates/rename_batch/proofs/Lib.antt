@@ -3,7 +3,6 @@ mod Readings
 mod Runs
 pub mod Results
 mod Backwards
-mod Texts
 mod Changed
 pub mod OneReading
 mod Rewritten

@@ -1,16 +1,15 @@
 //! The text of a verdict.
 
 ghost use Rattle.std.specs.Prelude.{◌≡◌, ◌++◌, ◌∷◌, [], IfOk, OnOk, codes, flat_map, length, map, string_bytes};
-ghost use Rattle.std.specs.Fmt.{decimal};
 ghost use Rattle.report.specs.Lines.{number_line};
-ghost use Rattle.report.specs.Pieces.{file_of, join, place_text as place_text_of};
+ghost use Rattle.report.specs.Pieces.{join};
 ghost use Rattle.report.specs.Text.{ended};
 ghost use Rattle.rename_verify.specs.Text.{change_line, verdict_text, why_lines};
 
 use crate::verdict::{Change, Verdict, Why};
 use rename_steps::refusal_of_fault;
-use report::text;
-use rotor_base::{Memory, Outcome, Place};
+use report::{file_name, number_text, place_text, push_line, text};
+use rotor_base::{Memory, Outcome};
 use std::alloc::Global;
 
 /// The text of a verdict: `verified N` and a line for each changed binder, or the line that says why not. `names` are
@@ -30,7 +29,7 @@ fn yes_text(alloc: Global, names: &[String], changes: &[Change]) -> Result<Vec<u
 {
     let mut bytes = Vec::new(alloc);
     let count = number_text(alloc, changes.len() as u64)?;
-    add_line(&mut bytes, &[b"verified", b" ", count.as_slice()])?;
+    push_line(&mut bytes, &[b"verified", b" ", count.as_slice()])?;
     for change in changes {
         add_change(alloc, &mut bytes, names, change)?;
     }
@@ -48,7 +47,7 @@ fn add_change(
 {
     let at = place_text(alloc, names, change.0)?;
     let (old, new) = (change.1.as_bytes(), change.2.as_bytes());
-    add_line(bytes, &[at.as_slice(), b" ", old, b" ", new])
+    push_line(bytes, &[at.as_slice(), b" ", old, b" ", new])
 }
 
 /// The line that says why a project is no valid respelling.
@@ -75,46 +74,6 @@ fn line(alloc: Global, words: &[&[u8]]) -> Result<Vec<u8>, Memory>
     ensures { IfOk result (λ bytes. bytes.items ≡ flat_map ended (join (map (λ word. word.now) words.now) ∷ [])) }
 {
     let mut bytes = Vec::new(alloc);
-    add_line(&mut bytes, words)?;
+    push_line(&mut bytes, words)?;
     Ok(bytes)
-}
-
-/// Adds a line of words, one directly behind the other.
-fn add_line(bytes: &mut Vec<u8>, words: &[&[u8]]) -> Result<(), Memory>
-    ensures { OnOk result (bytes.new.items ≡ bytes.old.items ++ ended (join (map (λ word. word.now) words.now))) }
-{
-    for word in words {
-        bytes.extend_from_slice(word)?;
-    }
-    bytes.push(b'\n')?;
-    Ok(())
-}
-
-/// A place, `FILE#N`.
-fn place_text(alloc: Global, names: &[String], place: Place) -> Result<Vec<u8>, Memory>
-    ensures { IfOk result (λ bytes. bytes.items ≡ place_text_of (map string_bytes names.now) place) }
-{
-    let number = number_text(alloc, u64::from(place.token))?;
-    let mut bytes = Vec::new(alloc);
-    bytes.extend_from_slice(file_name(names, place.file))?;
-    bytes.push(b'#')?;
-    bytes.extend_from_slice(&number)?;
-    Ok(bytes)
-}
-
-/// A number in decimal.
-fn number_text(alloc: Global, number: u64) -> Result<Vec<u8>, Memory>
-    ensures { IfOk result (λ digits. digits.items ≡ decimal number) }
-{
-    Ok(format!(in alloc; "{number}")?.into_bytes())
-}
-
-/// The name of a source by its number; a number past the list has the empty name.
-fn file_name(names: &[String], file: u32) -> &[u8]
-    ensures { result.now ≡ file_of (map string_bytes names.now) file }
-{
-    match names.get(file as usize) {
-        Some(name) => name.as_bytes(),
-        None => b"",
-    }
 }

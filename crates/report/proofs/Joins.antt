@@ -4,6 +4,7 @@ use Rattle.std.specs.List.{concat}
 use Rattle.std.proofs.lemmas.List.{append-nil, map-append, take_all, take_more}
 use Rattle.std.proofs.lemmas.List.Folds.{concat-append}
 use Rattle.report.specs.Pieces.{Word, join}
+use Rattle.report.specs.Text.{ended}
 
 concat-join : (ws : List Word) → concat ws ≡ join ws
 concat-join [] = refl
@@ -28,6 +29,21 @@ join_more words i d old new h n o =
 pub join_all : (words : List (Bor Word)) (i : ℕ) (bytes : List ℕ) → length words ≤ i → bytes ≡ concat (lent (take i words))
     → bytes ≡ join (lent words)
 join_all words i bytes h e = e ∙ ap (λ ws. concat (lent ws)) (take_all i words h) ∙ concat-join (lent words)
+
+-- one more word of a line that is added to a text
+pub words_more : (words : List (Bor Word)) (i : ℕ) (d : Bor Word) (start old new : List ℕ) → i < length words → new ≡ old ++ (get_or words i d).now
+    → old ≡ start ++ concat (lent (take i words)) → new ≡ start ++ concat (lent (take (i + 1) words))
+words_more words i d start old new h n o =
+    let w = (get_or words i d).now in
+    let front = concat (lent (take i words)) in
+    n ∙ ap (λ zs. zs ++ w) o ∙ append_assoc start front w ∙ ap (λ zs. start ++ zs) (join_more words i d front (front ++ w) h refl refl)
+
+-- all words, and the end of the line
+pub words_end : (words : List (Bor Word)) (i : ℕ) (start old new : List ℕ) → length words ≤ i → new ≡ old ++ 10 ∷ []
+    → old ≡ start ++ concat (lent (take i words)) → new ≡ start ++ ended (join (lent words))
+words_end words i start old new h n o =
+    let front = concat (lent (take i words)) in
+    n ∙ ap (λ zs. zs ++ 10 ∷ []) (o ∙ ap (λ zs. start ++ zs) (join_all words i front h refl)) ∙ append_assoc start (join (lent words)) (10 ∷ [])
 
 -- one more line, of the next item
 pub lines_more : {X : Type 0} (f : X → Word) (xs : List X) (i : ℕ) (d : X) (start before after : List Word) (line : Word) → i < length xs

@@ -8,4 +8,5 @@ mod pieces;
 mod plain;
 
 pub use compact::json;
+pub use pieces::{file_name, number_text, place_text, push_line};
 pub use plain::text;

@@ -1,7 +1,8 @@
 //! What the lines of a report are made of.
-ghost use Rattle.std.specs.Prelude.{◌≡◌, IfOk, map, string_bytes};
+ghost use Rattle.std.specs.Prelude.{◌≡◌, ◌++◌, IfOk, OnOk, map, string_bytes};
 ghost use Rattle.std.specs.Fmt.{decimal};
 ghost use Rattle.report.specs.Pieces.{behind_text as behind_text_of, file_of, goal_text as goal_text_of, join, kind_text as kind_text_of, offset_text as offset_text_of, place_text as place_text_of};
+ghost use Rattle.report.specs.Text.{ended};
 
 use rotor_base::{FormKind, Goal, Memory, Place, Row};
 use std::alloc::Global;
@@ -17,8 +18,19 @@ pub(crate) fn joined(alloc: Global, words: &[&[u8]]) -> Result<Row<u8>, Memory>
     Ok(Row::from_vec(bytes))
 }
 
+/// Adds a line to a text: some words, one directly behind the other, and LF. The one error is want of memory.
+pub fn push_line(text: &mut Vec<u8>, words: &[&[u8]]) -> Result<(), Memory>
+    ensures { OnOk result (text.new.items ≡ text.old.items ++ ended (join (map (λ word. word.now) words.now))) }
+{
+    for word in words {
+        text.extend_from_slice(word)?;
+    }
+    text.push(b'\n')?;
+    Ok(())
+}
+
 /// The name of a source by its number; a number past the list has the empty name.
-pub(crate) fn file_name(names: &[String], file: u32) -> &[u8]
+pub fn file_name(names: &[String], file: u32) -> &[u8]
     ensures { result.now ≡ file_of (map string_bytes names.now) file }
 {
     match names.get(file as usize) {
@@ -27,16 +39,16 @@ pub(crate) fn file_name(names: &[String], file: u32) -> &[u8]
     }
 }
 
-/// A number in decimal.
-pub(crate) fn number_text(alloc: Global, number: u64) -> Result<Row<u8>, Memory>
+/// A number in decimal. The one error is want of memory.
+pub fn number_text(alloc: Global, number: u64) -> Result<Row<u8>, Memory>
     ensures { IfOk result (λ text. text ≡ decimal number) }
 {
     let digits = format!(in alloc; "{number}")?;
     joined(alloc, &[digits.as_bytes()])
 }
 
-/// A place, `FILE#N`.
-pub(crate) fn place_text(alloc: Global, names: &[String], place: Place) -> Result<Row<u8>, Memory>
+/// A place, `FILE#N`. The one error is want of memory.
+pub fn place_text(alloc: Global, names: &[String], place: Place) -> Result<Row<u8>, Memory>
     ensures { IfOk result (λ text. text ≡ place_text_of (map string_bytes names.now) place) }
 {
     let number = number_text(alloc, u64::from(place.token))?;

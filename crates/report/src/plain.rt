@@ -3,6 +3,7 @@ ghost use Rattle.std.specs.Prelude.{◌≡◌, IfOk, map, string_bytes};
 ghost use Rattle.report.specs.Text.{text_of};
 
 use crate::lines::lines;
+use crate::pieces::push_line;
 use rotor_base::{Memory, Outcome};
 use std::alloc::Global;
 
@@ -16,8 +17,7 @@ pub fn text(alloc: Global, names: &[String], outcome: &Outcome) -> Result<Vec<u8
     let lines = lines.as_slice();
     let mut text = Vec::new(alloc);
     for line in lines {
-        text.extend_from_slice(line.as_slice())?;
-        text.push(b'\n')?;
+        push_line(&mut text, &[line.as_slice()])?;
     }
     Ok(text)
 }

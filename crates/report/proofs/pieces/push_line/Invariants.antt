@@ -1,6 +1,6 @@
 use Rattle.std.proofs.Common.{◌≡◌, ◌++◌, map, take}
 use Rattle.std.specs.List.{concat}
-use Rattle.rename_batch.proofs.text.push_line.Given as goal
+use Rattle.report.proofs.pieces.push_line.Given as goal
 
 -- the words so far are added
 abbrev pub invariant-loop-word : goal.invariant-loop-word

@@ -1,6 +1,6 @@
 use Rattle.std.proofs.Common.{arith}
-use Rattle.rename_batch.proofs.Texts.{words_end, words_more}
-use Rattle.rename_batch.proofs.text.push_line.Goals as goal
+use Rattle.report.proofs.Joins.{words_end, words_more}
+use Rattle.report.proofs.pieces.push_line.Goals as goal
 
 pub loop-word-preserved : goal.loop-word-preserved
 loop-word-preserved c =
