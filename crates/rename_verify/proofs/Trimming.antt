@@ -1,10 +1,9 @@
 -- A valid map without the entries that give a binder its own name is valid, and respells the project in the same way.
-use Rattle.std.proofs.Common.{◌≡◌, ◌≢◌, ◌||◌, ℕ, zero, suc, List, [], ◌∷◌, Bool, true, false, not, Option, Some, None, Contains, map, refl, ap, sym, subst}
+use Rattle.std.proofs.Common.{◌≡◌, ◌≢◌, ◌||◌, zero, suc, List, [], ◌∷◌, Bool, true, false, Option, Some, None, Contains, map, refl, ap, sym, subst}
 use Rattle.std.proofs.Common.{◌∙◌, arith}
 use Rattle.std.proofs.lemmas.Slice.Eq.{bytes_eq-Decides}
 use Rattle.std.specs.Prelude.{IsTrue}
 use Rattle.std.specs.Str.{bytes_eq}
-use Rattle.rotor_base.specs.Files.{FileSet, IsProject}
 use Rattle.rotor_base.specs.Place.{same_place}
 use Rattle.rotor_base.specs.declared.place.Goal.{Goal}
 use Rattle.rotor_base.specs.declared.place.Goal.TheVariants.{Decl, Outside, Missing, Hidden, Blur}
@@ -12,7 +11,6 @@ use Rattle.rotor_base.specs.declared.place.Link.{Link}
 use Rattle.rotor_base.specs.declared.place.Place.{Place}
 use Rattle.rotor_base.specs.declared.source.SourceFile.{SourceFile}
 use Rattle.ml_syntax.specs.Each.{Each}
-use Rattle.ml_syntax.specs.Places.{Site}
 use Rattle.ml_syntax.specs.Sound.{IsSound}
 use Rattle.ml_syntax.specs.Tree.{UnitTree}
 use Rattle.shape_core.specs.Respell.{Words, spell_shape, spell_entries}
@@ -24,8 +22,8 @@ use Rattle.binding_model.specs.Renaming.{IsValid}
 use Rattle.binding_model.specs.Steps.{Steps, quiet, ◌⨾◌, UseAlone, UseUnder, MatchOf, PinOf, TieOf, GroupOf, WeighedSite, OpenedSite, UnitStart}
 use Rattle.binding_model.specs.Steps.{groups_of, spell_steps}
 use Rattle.binding_model.specs.Walk.{steps}
-use Rattle.binding_model.proofs.Named.{IsNamed, NamedShape, Named, NamedSteps}
-use Rattle.binding_model.proofs.Naming.{PlaceNamed, units_named, each_in}
+use Rattle.binding_model.proofs.Named.{NamedShape, Named, NamedSteps}
+use Rattle.binding_model.proofs.Naming.{units_named, each_in}
 use Rattle.binding_model.proofs.Projects.{steps_stay}
 use Rattle.binding_model.proofs.Sounds.{each_map, found_all, links_join_one_name, same_self}
 use Rattle.binding_model.proofs.Telltale.{apart_of, each_contained, each_two}
@@ -33,7 +31,7 @@ use Rattle.project_reading.proofs.Soundness.{read_is_sound}
 use Rattle.respelled_reading.specs.Renamed.{GivesValueNames}
 use Rattle.respelled_reading.proofs.Renamed.{goal_there}
 use Rattle.rename_respell.specs.Respelled.{AreRespelledBytes, changed}
-use Rattle.rename_verify.specs.Laws.{AreRespelledBy, IsMap, ValidIsYes}
+use Rattle.rename_verify.specs.Laws.{IsMap, ValidIsYes}
 use Rattle.rename_verify.proofs.Complete.{at_contains, changing_is_yes}
 use Rattle.rename_verify.proofs.Given.{changes_are_changed, each_filtered, is_other, keeps_fixed, other_name}
 use Rattle.rename_verify.proofs.Valid.{filtered_again}

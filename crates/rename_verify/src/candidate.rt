@@ -28,9 +28,7 @@ pub fn suggest(alloc: Global, project: &Project, new: &Files) -> Result<Suggeste
 {
     let binders = list_binders(alloc, project)?;
     let lists = lex_all(alloc, new.entries())?;
-    let names = candidate(alloc, &binders, &lists)?;
-    let changes = changes(alloc, &binders, &lists)?;
-    Ok(Suggested { names, changes })
+    name_binders(alloc, &binders, &lists)
 }
 
 /// The lexemes of each source: none for a source that is not cut into lexemes. `Memory` is the only error.
@@ -58,32 +56,23 @@ fn lex_source<'a>(alloc: Global, source: &'a SourceFile) -> Result<Vec<Token<'a>
     }
 }
 
-/// The candidate's name for each binder. `Memory` is the only error.
-fn candidate(
+/// The candidate's name for each binder, and the binders that it changes. `Memory` is the only error.
+fn name_binders(
     alloc: Global,
     binders: &[Binder],
     lists: &[Vec<Token>],
-) -> Result<Vec<(Place, Name)>, Memory>
-    ensures { IfOk result (λ names. names.items ≡ candidate (map (λ list. view_tokens list.items) lists.now) binders.now) }
+) -> Result<Suggested, Memory>
+    ensures names { IfOk result (λ found. found.names.items ≡ candidate (map (λ list. view_tokens list.items) lists.now) binders.now) }
+    ensures changes { IfOk result (λ found. found.changes.items ≡ changes (map (λ list. view_tokens list.items) lists.now) binders.now) }
 {
     let mut names = Vec::new(alloc);
+    let mut changes = Vec::new(alloc);
     for binder in binders {
         let name = given_name(alloc, binder, lists)?;
+        add_change(alloc, &mut changes, binder, &name)?;
         names.push((binder.at, name))?;
     }
-    Ok(names)
-}
-
-/// The binders that the candidate changes, each with its old name and its new one. `Memory` is the only error.
-fn changes(alloc: Global, binders: &[Binder], lists: &[Vec<Token>]) -> Result<Vec<Change>, Memory>
-    ensures { IfOk result (λ list. list.items ≡ changes (map (λ list. view_tokens list.items) lists.now) binders.now) }
-{
-    let mut list = Vec::new(alloc);
-    for binder in binders {
-        let name = given_name(alloc, binder, lists)?;
-        add_change(alloc, &mut list, binder, name)?;
-    }
-    Ok(list)
+    Ok(Suggested { names, changes })
 }
 
 /// Adds a binder with its new name, if it is another one.
@@ -91,15 +80,15 @@ fn add_change(
     alloc: Global,
     list: &mut Vec<Change>,
     binder: &Binder,
-    new: Name,
+    new: &Name,
 ) -> Result<(), Memory>
-    ensures { OnOk result (list.new.items ≡ (if bytes_eq binder.now.name new then list.old.items else list.old.items ++ (binder.now.at, binder.now.name, new) ∷ [])) }
+    ensures { OnOk result (list.new.items ≡ (if bytes_eq binder.now.name new.now then list.old.items else list.old.items ++ (binder.now.at, binder.now.name, new.now) ∷ [])) }
 {
-    let old = binder.name.as_bytes();
-    if old == new.as_bytes() {
+    let (old, new) = (binder.name.as_bytes(), new.as_bytes());
+    if old == new {
         return Ok(());
     }
-    let old = Name::new(alloc, old)?;
+    let (old, new) = (Name::new(alloc, old)?, Name::new(alloc, new)?);
     list.push((binder.at, old, new))?;
     Ok(())
 }
