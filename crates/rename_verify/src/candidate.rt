@@ -1,6 +1,6 @@
 //! The candidate: the renaming that the words of the new sources suggest.
 
-ghost use Rattle.std.specs.Prelude.{◌≡◌, ◌≤◌, All, IfOk, OnOk, length, map, Some, None, unwrap_or, slice_get, [], ◌++◌, ◌∷◌, bytes_eq, if◌then◌else◌};
+ghost use Rattle.std.specs.Prelude.{◌≡◌, ◌≤◌, All, IfOk, OnOk, length, map, [], ◌++◌, ◌∷◌, bytes_eq, if◌then◌else◌};
 ghost use Rattle.std.specs.Option.{option_copied};
 ghost use Rattle.rotor_base.specs.Limits.{max_file_bytes};
 ghost use Rattle.ml_lexer.specs.Lexed.{view_tokens};

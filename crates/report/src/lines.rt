@@ -1,6 +1,6 @@
 //! The lines of a report, without their ends.
 ghost use Rattle.std.specs.Prelude.{◌≡◌, ◌++◌, [], ◌∷◌, IfOk, OnOk, map, string_bytes};
-ghost use Rattle.report.specs.Lines.{checked_lines as checked_lines_of, declaration_line as declaration_line_of, declaration_lines, done_lines as done_lines_of, lines_of, notice_lines as notice_lines_of, number_line as number_line_of, outside_line as outside_line_of, rename_line as rename_line_of, undo_line as undo_line_of, footprint_line as footprint_line_of, sampled_line as sampled_line_of, shown_lines as shown_lines_of, undone_text, usage_line};
+ghost use Rattle.report.specs.Lines.{checked_lines as checked_lines_of, declaration_line as declaration_line_of, declaration_lines, done_lines as done_lines_of, lines_of, notice_lines as notice_lines_of, number_line as number_line_of, outside_line as outside_line_of, rename_line as rename_line_of, undo_line as undo_line_of, footprint_line as footprint_line_of, sampled_line as sampled_line_of, shown_lines as shown_lines_of, undone_text};
 
 use crate::notice::{Notice, load_notice, refusal_notice};
 use crate::pieces::{joined, number_text, place_text};
