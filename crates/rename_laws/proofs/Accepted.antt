@@ -1,5 +1,5 @@
 -- The laws of accepted renamings.
-use Rattle.std.proofs.Common.{◌≡◌, ◌<◌, List, All, length, inl, inr, Contains, IsSome, map, sym, ap, subst, ◌∙◌}
+use Rattle.std.proofs.Common.{◌≡◌, ◌<◌, List, All, length, inl, inr, Contains, map, sym, ap, subst, ◌∙◌}
 use Rattle.std.specs.List.Sorted.{IsStrictlySortedBy}
 use Rattle.std.specs.Ordering.{nat_cmp}
 use Rattle.std.proofs.lemmas.List.{length-map}

@@ -7,3 +7,6 @@ pub mod Placed
 pub mod Undone
 pub mod Ordered
 pub mod GoOn
+pub mod Places
+pub mod Hits
+pub mod Operators

@@ -1,11 +1,11 @@
 -- An accepted renaming is undone by the renaming back.
-use Rattle.std.proofs.Common.{◌<◌, ◌≤◌, ◌≡◌, ◌⊎◌, inl, inr, ◌||◌, ℕ, suc, List, [], ◌∷◌, ◌++◌, Bool, true, false, true≢false, map, length, Option}
-use Rattle.std.proofs.Common.{Some, None, Contains, refl, ap, sym, subst, ◌∙◌, slice_get}
+use Rattle.std.proofs.Common.{◌<◌, ◌≤◌, ◌≡◌, ◌⊎◌, inl, inr, ◌||◌, ℕ, suc, List, [], ◌∷◌, Bool, true, false, true≢false, length, Option}
+use Rattle.std.proofs.Common.{Some, None, refl, ap, sym, subst, ◌∙◌, slice_get}
 use Rattle.std.specs.Prelude.{IsTrue}
 use Rattle.rotor_base.specs.Name.{is_value_name}
 use Rattle.rotor_base.specs.declared.place.Place.{Place}
 use Rattle.rotor_base.specs.declared.place.Goal.{Goal}
-use Rattle.rotor_base.specs.declared.place.Goal.TheVariants.{Decl, Outside, Missing, Hidden, Blur}
+use Rattle.rotor_base.specs.declared.place.Goal.TheVariants.{Decl}
 use Rattle.rotor_base.specs.declared.place.Ref.{Ref}
 use Rattle.rotor_base.specs.declared.place.Link.{Link}
 use Rattle.rotor_base.specs.declared.place.Facts.{Facts}
@@ -28,7 +28,6 @@ use Rattle.binding_model.specs.Back.{CanGoBack, back}
 use Rattle.binding_model.specs.Facts.{facts, unmatched, unmatched_items, least}
 use Rattle.binding_model.specs.Local.{renaming}
 use Rattle.binding_model.specs.Renaming.{places, at_place, site_name, name_of, IsFixedSite, in_file}
-use Rattle.binding_model.proofs.Standing.{member_in}
 use Rattle.capture_check.specs.Fault.{IsMet, IsLeastRepeat, IsFirstDiffering, of_ref, of_link, before}
 use Rattle.project_reading.specs.Reads.{Reads}
 use Rattle.project_reading.specs.Sources.{ReadAll, AreCut}
@@ -37,33 +36,26 @@ use Rattle.renamed_sources.proofs.Limits.{nothing_is_over}
 use Rattle.renamed_sources.proofs.Respelling.{sources_can_be_respelled}
 use Rattle.renamed_sources.proofs.ValueNames.{names_are_value_names}
 use Rattle.rename_model.specs.Bytes.{position_with}
-use Rattle.rename_model.specs.Foot.{IsIn, IsHit, leads_in, refs_to, hits}
+use Rattle.rename_model.specs.Foot.{IsIn, IsHit, refs_to, hits}
 use Rattle.rename_model.specs.Ladder.{no_more}
 use Rattle.rename_model.specs.Project.{IsDuplicate, IsHeavy, IsUnmatched, refusals_of_project}
 use Rattle.rename_model.specs.Renaming.{IsBlurredAt, IsGrown, IsClash, IsCapture, IsMislink, watch_of, renamed, renamed_words, refusals_of_binder}
 use Rattle.rename_model.specs.Report.{hit_files}
 use Rattle.rename_model.specs.Target.{number_of}
 use Rattle.rename_steps.specs.Findings.{IsFree}
-use Rattle.rename_steps.proofs.Having.{has_split, has_contained, contained_has, has_unmapped, has_unfiltered, has_left}
 use Rattle.rename_steps.proofs.Rungs.{Rest}
 use Rattle.rename_steps.proofs.Rungs as rungs
 use Rattle.rename_files.specs.Answer.{Accepted}
 use Rattle.rename_laws.specs.Laws.{RenamingsAreUndone, UndosHavePlaces}
 use Rattle.rename_laws.proofs.Accepted.{renamable}
 use Rattle.rename_laws.proofs.Free.{none_repeats, none_heavy, none_unmatched}
+use Rattle.rename_laws.proofs.Hits.{leads, hit_cases, member_hit}
 use Rattle.rename_laws.proofs.Kept as kept
 use Rattle.rename_laws.proofs.Kept.{IsRenamable}
 use Rattle.rename_laws.proofs.Ladder.{none_met}
 use Rattle.rename_laws.proofs.Placed.{IsPlaced, placed, same_number}
 
 -- ---- parts
-
-leads : (foot : Foot) (g : Goal) → leads_in foot g ≡ true → (m : Place) × (g ≡ Decl m) × IsIn foot m
-leads foot (Decl m) e = (m, refl, member_in m foot.decls e)
-leads foot Outside e = absurd (true≢false (sym e))
-leads foot Missing e = absurd (true≢false (sym e))
-leads foot Hidden e = absurd (true≢false (sym e))
-leads foot (Blur by n o) e = absurd (true≢false (sym e))
 
 either_true : (a b : Bool) → (a ≡ true) ⊎ (b ≡ true) → (a || b) ≡ true
 either_true true b h = refl
@@ -179,37 +171,21 @@ module _ (files : FileSet) (us : List UnitTree) (d : Place) (foot : Foot) (new :
   abbrev R : List Ref
   R = (facts vs).refs
 
-  hit_cases : (p : Place) → IsHit vs foot p → IsIn foot p ⊎ ((r : Ref) × Contains R r × (r.at ≡ p) × (leads_in foot r.goal ≡ true))
-  hit_cases p c = elim (has_split (λ q. q ≡ p) foot.decls (map (λ r. r.at) (refs_to foot R))
-      (has_contained (λ q. q ≡ p) (foot.decls ++ map (λ r. r.at) (refs_to foot R)) p c refl)) [
-        | inl a ↦ (let z = contained_has (λ q. q ≡ p) foot.decls a in inl (subst (IsIn foot) z.2 z.1))
-        | inr b ↦ (let z = contained_has (λ (r : Ref). (r.at ≡ p) × (leads_in foot r.goal ≡ true)) R
-            (has_unfiltered (λ r. leads_in foot r.goal) (λ (r : Ref). r.at ≡ p) R (has_unmapped (λ (r : Ref). r.at) (λ q. q ≡ p) (refs_to foot R) b))
-            in
-            inr (z.0, z.1, z.2.0, z.2.1))
-      ]
-
   not_fixed : (p : Place) → IsHit vs foot p → IsFixedSite (at_place (places vs) p) → ⊥
-  not_fixed p c k = elim (hit_cases p c) [
+  not_fixed p c k = elim (hit_cases vs foot p c) [
     | inl a ↦ (can.watched.free p a).word k
     | inr r ↦ (let l = leads foot r.0.goal r.3 in
         (can.watched.free l.0 l.2).uses r.0 r.1 l.1 (subst (λ q. IsFixedSite (at_place (places vs) q)) (sym r.2) k))
   ]
 
-  own_hit : IsHit us foot d
-  own_hit =
-      let z = contained_has (λ q. q ≡ d) (foot.decls ++ map (λ r. r.at) (refs_to foot (facts us).refs))
-      (has_left (λ q. q ≡ d) foot.decls (map (λ r. r.at) (refs_to foot (facts us).refs)) (has_contained (λ q. q ≡ d) foot.decls d inside refl)) in
-      subst (IsHit us foot) z.2 z.1
-
   free : IsFree us d foot new
   free = kept.free files us d foot new h
 
   operator : h.binder.0.operator ≡ false
-  operator = not_true h.binder.0.operator (λ e. free.words d own_hit (h.binder.0, h.binder.1, e))
+  operator = not_true h.binder.0.operator (λ e. free.words d (member_hit us foot d inside) (h.binder.0, h.binder.1, e))
 
   pun : h.binder.0.pun ≡ false
-  pun = not_true h.binder.0.pun (λ e. free.plain d own_hit (h.binder.0, h.binder.1, e))
+  pun = not_true h.binder.0.pun (λ e. free.plain d (member_hit us foot d inside) (h.binder.0, h.binder.1, e))
 
   pub old_name : IsTrue (is_value_name old)
   old_name = subst (λ n. IsTrue (is_value_name n)) (sym (ap site_name h.binder.1))

@@ -1,9 +1,12 @@
 -- What a renaming that is accepted keeps.
-use Rattle.std.specs.Prelude.{◌≡◌, ◌⊎◌, ℕ, ◌<◌, ◌≤◌, List, map, length, true, Some, None, All, Contains, IsSome, Ok, slice_get}
+use Rattle.std.specs.Prelude.{◌≡◌, ◌⊎◌, ◌↔◌, ◌||◌, ℕ, ◌<◌, ◌≤◌, List, map, length, Bool, true, not, nat_le, Some, None, All, Contains}
+use Rattle.std.specs.Prelude.{IsSome, IsTrue, IsFalse, Ok, slice_get, slice_index}
 use Rattle.std.specs.List.Sorted.{IsStrictlySortedBy}
 use Rattle.std.specs.Ordering.{nat_cmp}
 use Rattle.rotor_base.specs.Limits.{max_file_bytes}
 use Rattle.rotor_base.specs.declared.place.Place.{Place}
+use Rattle.rotor_base.specs.declared.place.Foot.{Foot}
+use Rattle.rotor_base.specs.declared.refusal.Refusal.TheVariants.{Operator}
 use Rattle.rotor_base.specs.declared.report.FootReport.{FootReport}
 use Rattle.rotor_base.specs.declared.report.Renamed.{Renamed}
 use Rattle.rotor_base.specs.declared.target.Target.{Target}
@@ -11,13 +14,19 @@ use Rattle.rotor_base.specs.declared.target.Target.TheVariants.{At}
 use Rattle.rotor_base.specs.Name.{is_value_name}
 use Rattle.rotor_base.specs.Stem.{is_source_name}
 use Rattle.rotor_base.specs.Files.{FileSet, IsProject, load_refusal, names_of}
+use Rattle.ml_lexer.specs.Bytes.{is_word_start}
+use Rattle.ml_syntax.specs.Sound.{IsSound}
 use Rattle.ml_syntax.specs.Tree.{UnitTree}
+use Rattle.ml_syntax.specs.WellFormed.{keyword_level}
 use Rattle.shape_core.specs.Shape.{Name}
 use Rattle.binding_model.specs.Facts.{facts}
-use Rattle.binding_model.specs.Renaming.{Renaming, Changes, IsValid, respell}
+use Rattle.binding_model.specs.Least.{IsBinder}
+use Rattle.binding_model.specs.Renaming.{Renaming, Changes, IsValid, name_of, respell}
 use Rattle.module_meaning.specs.Run.{run}
 use Rattle.project_reading.specs.Reads.{Reads}
-use Rattle.rename_model.specs.Target.{number_of}
+use Rattle.rename_model.specs.Foot.{IsTheFoot}
+use Rattle.rename_model.specs.Renaming.{IsOperator}
+use Rattle.rename_model.specs.Target.{Aims, number_of}
 use Rattle.rename_files.specs.Answer.{Shows, Renames}
 
 -- the new sources have the old names, the manifest is the same, they are taken as a project's files, and each source
@@ -84,6 +93,10 @@ pub record IsUndoPlace (files : FileSet) (done : Renamed) : Type 0 where
   pub below : done.undo_at.token ≤ max_file_bytes
   pub named : is_value_name done.old ≡ true
 
+-- the name of an operator: it begins with no letter and no `_`, or it is one of the keywords that are operators
+abbrev pub is_operator_name : Name → Bool
+is_operator_name name = not (is_word_start (slice_index name 0)) || nat_le 1 (keyword_level name)
+
 -- Law: a renaming that is accepted rewrites sources, and nothing else
 abbrev pub RenamingsRewrite : Type 0
 RenamingsRewrite = (files : FileSet) (target : Target) (new : Name) (done : Renamed) → IsProject files → Renames files target new (Ok done)
@@ -140,3 +153,20 @@ RenamingsAreUndone =
 abbrev pub UndosHavePlaces : Type 0
 UndosHavePlaces = (files : FileSet) (target : Target) (new : Name) (done : Renamed) → IsProject files → Renames files target new (Ok done)
     → IsUndoPlace files done
+
+-- Law: a footprint has an operator among its members and the references to them if and only if the binder's name is the
+-- name of an operator
+abbrev pub OperatorsAreNamed : Type 0
+OperatorsAreNamed =
+    (us : List UnitTree) (d : Place) (foot : Foot) → IsSound us → IsBinder us d → IsTheFoot us d foot
+    → IsOperator us foot Operator ↔ IsTrue (is_operator_name (name_of us d))
+
+-- Law: so it is for the binder that a target names in the files of a project
+abbrev pub OperatorsAreOfTheTarget : Type 0
+OperatorsAreOfTheTarget =
+    (files : FileSet) (us : List UnitTree) (target : Target) (d : Place) (foot : Foot) → IsProject files → Reads files us → Aims files us target d
+    → IsTheFoot us d foot → IsOperator us foot Operator ↔ IsTrue (is_operator_name (name_of us d))
+
+-- Law: the name of an operator is no value name
+abbrev pub OperatorNamesAreNoValueNames : Type 0
+OperatorNamesAreNoValueNames = (name : Name) → IsTrue (is_operator_name name) → IsFalse (is_value_name name)

@@ -1,6 +1,8 @@
 //! The laws of accepted renamings, each as the contract of a function.
 
-ghost use Rattle.rename_laws.specs.Laws.{ChangesAreListed, FootprintsAreLeast, KeptRunsGoOn, RenamingsAreUndone, RenamingsAreValid, RenamingsKeepFacts, RenamingsKeepRuns, RenamingsRewrite, ShownAreLeast, ShownOutsideIsKept, UndosHavePlaces};
+ghost use Rattle.rename_laws.specs.Laws.{ChangesAreListed, FootprintsAreLeast, KeptRunsGoOn, OperatorNamesAreNoValueNames, OperatorsAreNamed};
+ghost use Rattle.rename_laws.specs.Laws.{OperatorsAreOfTheTarget, RenamingsAreUndone, RenamingsAreValid, RenamingsKeepFacts, RenamingsKeepRuns};
+ghost use Rattle.rename_laws.specs.Laws.{RenamingsRewrite, ShownAreLeast, ShownOutsideIsKept, UndosHavePlaces};
 
 /// A renaming that is accepted rewrites sources, and nothing else.
 pub fn renamings_rewrite()
@@ -52,4 +54,12 @@ pub fn renamings_are_undone()
 /// The undo of an accepted renaming has a source's name and a token's number, and the old name is a value name.
 pub fn undos_have_places()
     ensures { UndosHavePlaces }
+{}
+
+/// A footprint has an operator among its members and the references to them if and only if its binder's name is the name
+/// of an operator. The binder that a target names in files is one. Such a name is no value name.
+pub fn operators_are_named()
+    ensures binder { OperatorsAreNamed }
+    ensures target { OperatorsAreOfTheTarget }
+    ensures apart { OperatorNamesAreNoValueNames }
 {}
