@@ -1,6 +1,6 @@
 -- The reply to a batch.
-use Rattle.std.proofs.Common.{◌≡◌, ℕ, ◌<◌, ◌≤◌, ◌||◌, List, [], Bool, true, false, cond, Option, Some, None, option_map, Result, Ok, Err, IfOk, ◌∷◌}
-use Rattle.std.proofs.Common.{◌⊎◌, inl, inr, IfSome, take, length, length-take, codes, bytes_eq, refl, sym, ap, subst, ◌∙◌, arith}
+use Rattle.std.proofs.Common.{◌≡◌, ℕ, ◌<◌, ◌≤◌, List, [], Bool, true, false, cond, Option, Some, None, option_map, Result, Ok, Err, IfOk, ◌∷◌}
+use Rattle.std.proofs.Common.{◌⊎◌, inl, inr, IfSome, take, length, length-take, refl, sym, ap, subst, ◌∙◌, arith}
 use Rattle.std.specs.FinMap.{get}
 use Rattle.std.proofs.lemmas.List.{take_all}
 use Rattle.rotor_base.specs.Files.{FileSet, names_of}
@@ -9,9 +9,9 @@ use Rattle.rotor_base.specs.declared.fault.Memory.{Memory}
 use Rattle.rotor_base.specs.declared.refusal.Refusal.{Refusal}
 use Rattle.rotor_base.specs.declared.refusal.LoadError.TheVariants.{TooLarge}
 use Rattle.rotor_base.specs.declared.report.Outcome.TheVariants as outcome
-use Rattle.rotor_base.specs.Stem.{is_source_name}
 use Rattle.tree_io.specs.Outside.{FileMap, IsFront}
 use Rattle.tree_io.specs.declared.outside.TreeError.{TreeError}
+use Rattle.project_load.specs.Listed.{is_listed_name}
 use Rattle.project_load.specs.Load.{loaded}
 use Rattle.cli_words.specs.declared.command.Command.{Command}
 use Rattle.rename_batch.specs.declared.error.BatchError.{BatchError}
@@ -31,26 +31,22 @@ use Rattle.rotor_app.proofs.Saying.{refusal_kind, no_usage_refusal}
 
 -- ---- the bytes that are read
 
--- the names that hold no batch
-abbrev refuses : List ℕ → Bool
-refuses file = is_source_name file || bytes_eq file (codes "rotor.units")
-
-pub no_batch : (content : Option FileMap) (file : List ℕ) (holds : Bool) (limit : ℕ) → holds ≡ refuses file → holds ≡ true
+pub no_batch : (content : Option FileMap) (file : List ℕ) (holds : Bool) (limit : ℕ) → holds ≡ is_listed_name file → holds ≡ true
     → IfSome content (λ held. ◌≡◌ {A = Option (List ℕ)} None (option_map (take limit) (batch_in held file)))
 no_batch None file holds limit e t = tt
 no_batch (Some held) file holds limit e t = ap (λ (b : Bool). option_map (take limit) (cond b None (get held file))) (sym (sym e ∙ t))
 
-held_batch : (held : FileMap) (file : List ℕ) (holds : Bool) → holds ≡ refuses file → holds ≡ false → get held file ≡ batch_in held file
+held_batch : (held : FileMap) (file : List ℕ) (holds : Bool) → holds ≡ is_listed_name file → holds ≡ false → get held file ≡ batch_in held file
 held_batch held file holds e t = ap (λ (b : Bool). cond b None (get held file)) (sym (sym e ∙ t))
 
-pub batch_read : (content : Option FileMap) (file : List ℕ) (holds : Bool) (limit : ℕ) (found : Option (List ℕ)) → holds ≡ refuses file
+pub batch_read : (content : Option FileMap) (file : List ℕ) (holds : Bool) (limit : ℕ) (found : Option (List ℕ)) → holds ≡ is_listed_name file
     → holds ≡ false
     → IfSome content (λ held. found ≡ option_map (take limit) (get held file))
     → IfSome content (λ held. found ≡ option_map (take limit) (batch_in held file))
 batch_read None file holds limit found e t h = tt
 batch_read (Some held) file holds limit found e t h = h ∙ ap (option_map (take limit)) (held_batch held file holds e t)
 
-pub front_read : (content now : Option FileMap) (file bytes : List ℕ) (holds : Bool) → now ≡ content → holds ≡ refuses file → holds ≡ false
+pub front_read : (content now : Option FileMap) (file bytes : List ℕ) (holds : Bool) → now ≡ content → holds ≡ is_listed_name file → holds ≡ false
     → IfSome now (λ held. IsFront 1048577 (get held file) bytes)
     → IfSome content (λ held. Some bytes ≡ option_map (take 1048577) (batch_in held file))
 front_read content now file bytes holds same e t h =

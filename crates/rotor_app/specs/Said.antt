@@ -3,10 +3,8 @@ use Rattle.std.specs.Prelude.{ℕ, List, [], ◌++◌, ◌≡◌, ◌≢◌, ◌
 use Rattle.std.specs.Prelude.{length, codes}
 use Rattle.std.specs.Fmt.{decimal}
 use Rattle.std.specs.FinMap.{get}
-use Rattle.std.specs.Str.{bytes_eq}
 use Rattle.rotor_base.specs.Limits.{max_file_bytes}
 use Rattle.rotor_base.specs.Lines.{feed_lines}
-use Rattle.rotor_base.specs.Stem.{is_source_name}
 use Rattle.rotor_base.specs.Files.{FileSet, names_of}
 use Rattle.rotor_base.specs.declared.refusal.LoadError.{LoadError}
 use Rattle.rotor_base.specs.declared.refusal.LoadError.TheVariants.{TooLarge}
@@ -21,7 +19,7 @@ use Rattle.rotor_base.specs.declared.report.Outcome.TheVariants as outcome
 use Rattle.rotor_base.specs.declared.source.SourceFile.{SourceFile}
 use Rattle.tree_io.specs.Outside.{FileMap}
 use Rattle.project_load.specs.Load.{loaded}
-use Rattle.project_load.specs.Listed.{Lists}
+use Rattle.project_load.specs.Listed.{Lists, is_listed_name}
 use Rattle.project_load.specs.declared.error.ListError.{ListError}
 use Rattle.project_load.specs.declared.error.ListError.TheVariants as list_error
 use Rattle.project_load.specs.Rewritten.{files_at}
@@ -199,7 +197,7 @@ pub record IsPending (c : Command) (held : FileMap) : Type 0 where
 
 -- the bytes of a batch in a folder: a source and the manifest hold none
 abbrev pub batch_in : FileMap → List ℕ → Option (List ℕ)
-batch_in held file = if is_source_name file || bytes_eq file (codes "rotor.units") then None else get held file
+batch_in held file = if is_listed_name file then None else get held file
 
 -- a reply to a batch of these steps over the files of a project
 pub data SaysSteps (c : Command) (files : FileSet) (steps : List Step) (reply : Reply) : Type 0 where

@@ -1,9 +1,9 @@
 //! The reply to a batch.
-ghost use Rattle.std.specs.Prelude.{◌≡◌, ◌++◌, ◌||◌, ◌<◌, ◌^◌, IfOk, IfSome, IsErrOf, [], Some, None, map, take, length, string_bytes, bytes_eq, codes, true};
+ghost use Rattle.std.specs.Prelude.{◌≡◌, ◌+◌, ◌<◌, ◌^◌, IfOk, IfSome, IsErrOf, Some, map, take, length, string_bytes, bytes_eq};
 ghost use Rattle.std.specs.List.{list_any};
 ghost use Rattle.std.specs.Option.{option_map};
 ghost use Rattle.tree_io.specs.Outside.{HasCause, StaysSteady};
-ghost use Rattle.rotor_base.specs.Stem.{is_source_name};
+ghost use Rattle.rotor_base.specs.Limits.{max_file_bytes};
 ghost use Rattle.rotor_base.specs.Files.{names_of};
 ghost use Rattle.rotor_app.specs.Words.{batch_file};
 ghost use Rattle.rotor_app.specs.Said.{IsReply, SaysBatch, SaysSteps, bad_batch, batch_in, batched_reply, stopped_batch};
@@ -13,18 +13,15 @@ use crate::reply::{Reply, reply_of};
 use crate::status::{Status, status_of};
 use crate::words::is_writing;
 use cli_words::Command;
+use project_load::is_project_file;
 use rename_batch::{BatchError, BatchReadError, Batched, Step, batch, batch_text, read_batch};
 use report::text;
-use rotor_base::{
-    Files, LoadError, MAX_FILE_BYTES, Memory, Name, Outcome, Refusal, Row, is_source,
-};
+use rotor_base::{Files, LoadError, MAX_FILE_BYTES, Memory, Name, Outcome, Refusal, Row};
 use std::alloc::Global;
 use tree_io::{Tree, TreeError};
 
 /// The most bytes of a batch that are read: one more than it may have.
 const READ_LIMIT: u32 = MAX_FILE_BYTES + 1;
-/// The name of the manifest.
-const MANIFEST: &str = "rotor.units";
 
 /// The reply to a batch over the files of a project. The batch is in the file of this name.
 pub fn batch_reply<T: Tree>(
@@ -55,26 +52,19 @@ fn read_batch_file<T: Tree>(
     file: &str,
     tree: &mut T,
 ) -> Result<Option<Vec<u8>>, TreeError>
-    ensures read { IfOk result (λ found. IfSome (T.content tree.old) (λ held. option_map (λ bytes. bytes.items) found ≡ option_map (take 1048577) (batch_in held file.now))) }
+    ensures read { IfOk result (λ found. IfSome (T.content tree.old) (λ held. option_map (λ bytes. bytes.items) found ≡ option_map (take (max_file_bytes + 1)) (batch_in held file.now))) }
     ensures content { T.content tree.new ≡ T.content tree.old }
     ensures cause { HasCause (T.faults tree.old) (T.faults tree.new) result }
     ensures steady { StaysSteady (T.is_steady tree.old) (T.is_steady tree.new) (IsErrOf result TreeError.Failed) }
 {
     let listed = tree.list(alloc)?;
-    if holds_no_batch(file) {
+    if is_project_file(file) {
         return Ok(None);
     }
     if !has_name(&listed, file) {
         return Ok(None);
     }
     Ok(Some(tree.read(alloc, file, READ_LIMIT)?))
-}
-
-/// Whether the file is a source or the manifest, which hold no batch.
-fn holds_no_batch(file: &str) -> bool
-    ensures { result ≡ (is_source_name file.now || bytes_eq file.now (codes "rotor.units")) }
-{
-    is_source(file.as_bytes()) || file == MANIFEST
 }
 
 /// Whether a name is listed.

@@ -7,8 +7,8 @@ use Rattle.rotor_app.proofs.batch.read_batch_file.Goals as goal
 
 pub returns-then-not-has_name-clause-read : goal.returns-then-not-has_name-clause-read
 returns-then-not-has_name-clause-read g c =
-    batch_read (g.T.Tree.content c.args.tree.now) c.args.file.now c.holds_no_batch.result 1048577 None c.holds_no_batch.ensures
-    c.if-holds_no_batch.false
+    batch_read (g.T.Tree.content c.args.tree.now) c.args.file.now c.is_project_file.result 1048577 None c.is_project_file.ensures
+    c.if-is_project_file.false
     (none_read (g.T.Tree.content c.args.tree.now) c.deref.result.now c.args.file.now 1048577 c.has_name.result
     (for_some (g.T.Tree.content c.args.tree.now) (λ held. IsPermutation (keys held) (map string_bytes c.deref.result.now))
     (subst (λ names. IfSome (g.T.Tree.content c.args.tree.now) (λ held. IsPermutation (keys held) (map string_bytes names)))
@@ -28,5 +28,5 @@ read-requires g c =
 pub returns-clause-read : goal.returns-clause-read
 returns-clause-read g c =
     front_read (g.T.Tree.content c.args.tree.now) (g.T.Tree.content c.list.new.self) c.args.file.now c.in_ok-read.field-0.items
-    c.holds_no_batch.result c.list.ensures.content c.holds_no_batch.ensures
-    c.if-holds_no_batch.false c.in_ok-read.ensures.bytes
+    c.is_project_file.result c.list.ensures.content c.is_project_file.ensures
+    c.if-is_project_file.false c.in_ok-read.ensures.bytes
