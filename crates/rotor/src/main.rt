@@ -1,15 +1,13 @@
 //! The program `rotor`, over the current folder and the standard output.
 #![tactic(auto)]
 
-use rotor_app::rotor;
+use rotor_app::{Status, rotor};
 use std::process::ExitCode;
 use std::rt::Env;
 use std::{env, io};
 use tree_io::{HostSink, HostTree};
 
-/// The exit code where there was no memory for the words.
-const NO_MEMORY: u8 = 6;
-/// The exit code where the system refused the words for another reason.
+/// The exit code if the system refused the words for another reason than want of memory.
 const NO_WORDS: u8 = 7;
 
 /// Runs the program on the words behind its name, over the current folder and the standard output.
@@ -17,7 +15,7 @@ fn main(rt: HostRuntime) -> ExitCode {
     let words = match words_of(&rt) {
         Ok(words) => words,
         Err(error) if error.kind() == io::ErrorKind::OutOfMemory => {
-            return ExitCode::from(NO_MEMORY);
+            return ExitCode::from(Status::Memory.code());
         }
         Err(_) => return ExitCode::from(NO_WORDS),
     };
