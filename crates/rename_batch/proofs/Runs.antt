@@ -1,6 +1,6 @@
 -- The run of a batch, step by step.
-use Rattle.std.proofs.Common.{◌≡◌, ◌∙◌, inl, inr, ℕ, suc, ◌+◌, ◌<◌, List, [], ◌∷◌, ◌++◌, length, take, drop, get_or, Result, Ok, Err, IfErr, take-append-drop, refl}
-use Rattle.std.proofs.Common.{sym, ap, subst, arith}
+use Rattle.std.proofs.Common.{◌≡◌, ◌∙◌, inl, inr, ℕ, suc, ◌+◌, ◌<◌, List, [], ◌∷◌, ◌++◌, length, take, drop, get_or, Ok, Err, take-append-drop, refl}
+use Rattle.std.proofs.Common.{Result, IfErr, sym, ap, subst, arith}
 use Rattle.std.specs.Result.{IsErrAnd}
 use Rattle.std.proofs.lemmas.List.{drop_more, length-take-le, take_more}
 use Rattle.rotor_base.specs.declared.refusal.Refusal.{Refusal}
@@ -84,7 +84,8 @@ step_failed files steps at step left now changes error h read same r f =
     run_fails files steps at step left changes error h r here
 
 -- an error that is passed on is the one that was returned
-pub passed_on : {A : Type 0} (r : Result A BatchError) (error : BatchError) (P : BatchError → Type 0) → IsErrAnd r (λ y. y ≡ error) → P error → IfErr r P
+pub passed_on : {A : Type 0} (r : Result A BatchError) (error : BatchError) (P : BatchError → Type 0) → IsErrAnd r (λ y. y ≡ error)
+    → P error → IfErr r P
 passed_on (Ok done) error P same p = tt
 passed_on (Err y) error P same p = subst P (sym same) p
 
