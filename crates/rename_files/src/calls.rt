@@ -1,7 +1,6 @@
 //! The calls of renaming.
 
-ghost use Rattle.std.specs.Prelude.{◌≡◌, ◌⊎◌, Err, IfErr, IfOk, Ok};
-ghost use Rattle.rotor_base.specs.declared.refusal.Refusal.TheVariants as refusal;
+ghost use Rattle.std.specs.Prelude.{◌≡◌, Err, IfErr, IfOk, Ok};
 ghost use Rattle.rename_files.specs.Answer.{Checks, Renames, Shows};
 ghost use Rattle.rename_project.specs.Steps.{IsRefusedFor};
 
@@ -93,7 +92,15 @@ pub fn rename(
         new,
         foot,
     };
-    let judged = judge(alloc, files, &read, &resolved.facts, &watch, aim.place)?;
+    let judged = judge(
+        alloc,
+        files,
+        &read,
+        &resolved.facts,
+        &watch,
+        &members,
+        aim.place,
+    )?;
     let changed = changed_files(alloc, &judged.places, files.entries())?;
     let files = remake(alloc, files, judged.sources)?;
     Ok(Renamed {

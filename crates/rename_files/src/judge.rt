@@ -1,8 +1,8 @@
 //! The refusals of a renaming, in their order.
 
-ghost use Rattle.std.specs.Prelude.{◌≡◌, ◌≤◌, None, Some, IfErr, IfOk, OnOk, Contains, length, map};
+ghost use Rattle.std.specs.Prelude.{◌≡◌, ◌≤◌, None, Some, IfErr, IfOk, OnOk, length, map};
 ghost use Rattle.rotor_base.specs.Limits.{max_name_bytes, max_sources};
-ghost use Rattle.rotor_base.specs.Files.{IsProject, are_over};
+ghost use Rattle.rotor_base.specs.Files.{are_over};
 ghost use Rattle.rotor_base.specs.declared.place.Place.{Place};
 ghost use Rattle.ml_lexer.specs.Lexed.{view_tokens};
 ghost use Rattle.ml_syntax.specs.RespelledSource.{AreRespelled};
@@ -18,6 +18,7 @@ ghost use Rattle.project_reading.specs.Sources.{AreCut};
 ghost use Rattle.rename_model.specs.Bytes.{position_with};
 ghost use Rattle.rename_model.specs.Foot.{hits};
 ghost use Rattle.rename_model.specs.Renaming.{refusals_of_binder, renamed_words};
+ghost use Rattle.rename_parts.specs.Members.{IsSetOf};
 ghost use Rattle.rename_steps.specs.Sources.{AreMade};
 ghost use Rattle.rename_project.specs.Steps.{IsRefusedFor, IsFreeOf};
 ghost use Rattle.rename_files.specs.Steps.{LastRungs};
@@ -38,13 +39,14 @@ pub struct Judged {
     pub sources: Vec<SourceFile>,
 }
 
-/// The new sources of a renaming, if it has no refusal.
+/// The new sources of a renaming, if it has no refusal. The set has the members of the footprint.
 pub fn judge(
     alloc: Global,
     files: &Files,
     read: &Read,
     facts: &Facts,
     watch: &Watch,
+    members: &BTreeSet<Place>,
     binder: Place,
 ) -> Result<Judged, Refusal>
     requires sound { IsSound (view_project read.now.project) }
@@ -54,30 +56,27 @@ pub fn judge(
     requires binds { IsBinder (view_project read.now.project) binder }
     requires foot { IsFoot (facts_of (view_project read.now.project)).links binder watch.now.foot }
     requires old { watch.now.old ≡ name_of (view_project read.now.project) binder }
+    requires members { IsSetOf watch.now.foot members.now }
     ensures places { IfOk result (λ done. done.places.items ≡ hits (facts_of (view_project read.now.project)).refs watch.now.foot) }
     ensures sources { IfOk result (λ done. AreRespelled (in_file (renamed_words (view_project read.now.project) watch.now)) 0 files.now.entries done.sources.items) }
     ensures small { IfOk result (λ done. position_with are_over done.sources.items ≡ None) }
     ensures passed { OnOk result (IsFreeOf (refusals_of_binder files.now.entries (view_project read.now.project) binder watch.now.foot watch.now.new)) }
     ensures refused { IfErr result (IsRefusedFor (refusals_of_binder files.now.entries (view_project read.now.project) binder watch.now.foot watch.now.new)) }
 {
-    let found = match judge_foot(alloc, &read.project, facts, watch) {
-        Ok(found) => found,
-        Err(why) => return Err(why),
-    };
+    let found = judge_foot(alloc, &read.project, facts, watch, members)?;
     let sources = new_sources(alloc, files, read, &found.set, watch.new.as_bytes())?;
     if let Some(file) = first_over(&sources) {
         return Err(Refusal::Grown { file });
     }
-    match judge_faults(alloc, read, facts, watch) {
-        Ok(()) => Ok(Judged {
-            places: found.list,
-            sources,
-        }),
-        Err(why) => Err(why),
-    }
+    judge_faults(alloc, read, facts, watch)?;
+    Ok(Judged {
+        places: found.list,
+        sources,
+    })
 }
 
-/// Whether the renamed project keeps the facts and its groups have no name twice.
+/// Returns the first fault of the renamed project as a refusal, or `Ok` if it keeps the facts and no group has a name
+/// twice.
 fn judge_faults(alloc: Global, read: &Read, facts: &Facts, watch: &Watch) -> Result<(), Refusal>
     requires sound { IsSound (view_project read.now.project) }
     requires facts { facts.now ≡ facts_of (view_project read.now.project) }

@@ -1,5 +1,5 @@
 -- The numbers of changed sources, and what new sources are refused for.
-use Rattle.std.proofs.Common.{◌≡◌, ℕ, suc, ◌+◌, ◌<◌, ◌==◌, ◌||◌, inl, inr, List, [], ◌∷◌, ◌++◌, Bool, true, false, cond, Option, Some, None, map}
+use Rattle.std.proofs.Common.{◌≡◌, ℕ, suc, ◌+◌, ◌<◌, ◌==◌, ◌||◌, List, [], ◌∷◌, ◌++◌, Bool, true, false, cond, Option, Some, None, map}
 use Rattle.std.proofs.Common.{drop, length, get_or, refl, ap, sym, ◌∙◌, append_assoc, arith, nat_lt}
 use Rattle.std.specs.BTreeMap.{is_at}
 use Rattle.std.specs.BTreeSet.{BTreeSet, contains}
@@ -9,11 +9,10 @@ use Rattle.std.specs.Ordering.{nat_cmp}
 use Rattle.std.proofs.lemmas.List.{drop_more}
 use Rattle.rotor_base.specs.declared.place.Place.{Place}
 use Rattle.rotor_base.specs.declared.source.SourceFile.{SourceFile}
-use Rattle.rotor_base.specs.declared.refusal.LoadError.{LoadError}
-use Rattle.rotor_base.specs.declared.refusal.LoadError.TheVariants.{TooMany, Memory}
+use Rattle.rotor_base.specs.declared.refusal.LoadError.TheVariants.{TooMany}
 use Rattle.rotor_base.specs.Stem.{is_body_name}
 use Rattle.rotor_base.specs.Unit.{unit_of}
-use Rattle.rotor_base.specs.Files.{names_of, units_of, too_many, too_large, long_manifest, double_unit, bad_manifest, load_refusal, IsRefusedBy}
+use Rattle.rotor_base.specs.Files.{names_of, units_of, too_many, too_large, long_manifest, double_unit, bad_manifest, load_refusal}
 use Rattle.rename_model.specs.Report.{hit_files}
 
 -- ---- sets of numbers

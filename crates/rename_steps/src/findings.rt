@@ -12,7 +12,7 @@ ghost use Rattle.rename_model.specs.Foot.{hits};
 ghost use Rattle.rename_parts.specs.declared.checks.Hit.{Hit};
 ghost use Rattle.rename_parts.specs.Blurs.{BlursRef, BlursLink};
 ghost use Rattle.rename_parts.specs.Leasts.{IsLeastOrNone};
-ghost use Rattle.rename_parts.specs.Members.{HasPlaces};
+ghost use Rattle.rename_parts.specs.Members.{HasPlaces, IsSetOf};
 ghost use Rattle.rename_steps.specs.Findings.{IsFree, IsRefused, refusal_of};
 
 use ml_syntax::Project;
@@ -41,25 +41,27 @@ pub struct Hits {
     pub set: BTreeSet<Place>,
 }
 
-/// The places that a renaming gives the new word, if none of the refusals `Operator` to `Blurred` holds.
+/// The places that a renaming gives the new word, if none of the refusals `Operator` to `Blurred` holds. The set has the
+/// members of the footprint.
 pub fn judge_foot(
     alloc: Global,
     project: &Project,
     facts: &Facts,
     watch: &Watch,
+    members: &BTreeSet<Place>,
 ) -> Result<Hits, Refusal>
     requires sound { IsSound (view_project project.now) }
     requires facts { facts.now ≡ facts_of (view_project project.now) }
+    requires members { IsSetOf watch.now.foot members.now }
     ensures list { IfOk result (λ found. found.list.items ≡ hits (facts_of (view_project project.now)).refs watch.now.foot) }
     ensures set { IfOk result (λ found. HasPlaces (hits (facts_of (view_project project.now)).refs watch.now.foot) found.set) }
     ensures free { OnOk result ((d : Place) → watch.now.old ≡ name_of (view_project project.now) d → IsFree (view_project project.now) d watch.now.foot watch.now.new) }
     ensures refused { IfErr result (λ why. (d : Place) → watch.now.old ≡ name_of (view_project project.now) d → IsRefused (view_project project.now) d watch.now.foot watch.now.new why) }
 {
-    let members = set_of(alloc, watch.foot.decls.as_slice())?;
-    let list = hit_places(alloc, facts.refs.as_slice(), &watch.foot, &members)?;
+    let list = hit_places(alloc, facts.refs.as_slice(), &watch.foot, members)?;
     let set = set_of(alloc, &list)?;
     let marks = hit_marks(alloc, project, &set)?;
-    let found = find_all(facts, watch, &members, &marks);
+    let found = find_all(facts, watch, members, &marks);
     match first_refusal(found) {
         Some(why) => Err(why),
         None => Ok(Hits { list, set }),

@@ -20,6 +20,7 @@ use ml_lexer::lex;
 use ml_syntax::Project;
 use mod_shape::looks;
 use project_reading::read_project;
+use rename_parts::set_of;
 use rename_project::resolve_facts;
 use rename_steps::{judge_foot, new_source};
 use rotor_base::{
@@ -76,7 +77,8 @@ fn weigh(
     requires foot { IsFoot facts.now.links binder watch.now.foot }
     requires old { watch.now.old ≡ name_of (view_project project.now) binder }
 {
-    let hits = match judge_foot(alloc, project, facts, watch) {
+    let members = set_of(alloc, watch.foot.decls.as_slice())?;
+    let hits = match judge_foot(alloc, project, facts, watch, &members) {
         Ok(hits) => hits,
         Err(why) => return Err(why),
     };
