@@ -1,7 +1,6 @@
 //! The goal of a target.
 
 ghost use Rattle.std.specs.Prelude.{◌≡◌, IfErr, IfNone, IfOk, IfSome, Some, map};
-ghost use Rattle.rotor_base.specs.Files.{IsProject};
 ghost use Rattle.rotor_base.specs.declared.place.Place.{Place};
 ghost use Rattle.ml_lexer.specs.Lexed.{view_tokens};
 ghost use Rattle.ml_syntax.specs.Sound.{IsSound};
@@ -30,7 +29,12 @@ pub struct Aim {
     pub mark: Mark,
 }
 
-/// The binder that a target names.
+/// The binder that a target names. The caller ensures that the project is sound, that the tokens are those of the files,
+/// and that `top` is the scope after the units of the project.
+///
+/// # Errors
+///
+/// `NoTarget`, if the target names no binder. `Memory`.
 pub fn find_aim(
     alloc: Global,
     files: &Files,

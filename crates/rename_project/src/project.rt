@@ -1,6 +1,6 @@
 //! The refusals of a project, in their order.
 
-ghost use Rattle.std.specs.Prelude.{◌≡◌, None, Some, IfErr, IfOk, IsOk, OnOk};
+ghost use Rattle.std.specs.Prelude.{◌≡◌, None, Some, IfErr, IfOk, OnOk};
 ghost use Rattle.ml_syntax.specs.Sound.{IsSound};
 ghost use Rattle.ml_syntax.specs.View.{view_project};
 ghost use Rattle.shape_core.specs.Node.{entries_of};
@@ -10,7 +10,7 @@ ghost use Rattle.rotor_base.specs.declared.place.Place.{Place};
 ghost use Rattle.rotor_base.specs.declared.refusal.Refusal.TheVariants as refusal;
 ghost use Rattle.binding_model.specs.Scopes.{after_units};
 ghost use Rattle.binding_model.specs.Sums.{heavy};
-ghost use Rattle.rename_model.specs.Project.{IsDuplicate, IsHeavy, IsUnmatched, refusals_of_project};
+ghost use Rattle.rename_model.specs.Project.{IsDuplicate, IsHeavy, refusals_of_project};
 ghost use Rattle.rename_project.specs.Steps.{IsRefusedFor, IsFreeOf};
 
 use ml_syntax::Project;
@@ -21,7 +21,14 @@ use shape_core::FactError;
 use std::alloc::Global;
 
 /// The facts of a project and the scope after its units, if it has no refusal: no name occurs twice in a group, no site
-/// is too heavy, and no link lacks its source.
+/// is too heavy, and no link lacks its source. The caller ensures that the project is sound, as what `read_project` reads
+/// is.
+///
+/// # Errors
+///
+/// The first of these that holds: `Duplicate` with the least place that repeats a name of its group, and the least place
+/// of that name there; `Heavy` with the first site to end that is too heavy; `Unmatched` with the least item of a link
+/// that lacks its source. `Memory`.
 pub fn resolve(alloc: Global, project: &Project) -> Result<Resolved, Refusal>
     requires { IsSound (view_project project.now) }
     ensures facts { IfOk result (λ done. done.facts ≡ facts (view_project project.now)) }
@@ -36,7 +43,8 @@ pub fn resolve(alloc: Global, project: &Project) -> Result<Resolved, Refusal>
     Ok(resolved)
 }
 
-/// Whether no name occurs twice in a group.
+/// Returns `Duplicate` with the least place that repeats a name of its group and the least place of that name there, or
+/// `Ok` if no name occurs twice in a group. The only other error is `Memory`.
 fn check_groups(alloc: Global, project: &Project) -> Result<(), Refusal>
     requires { IsSound (view_project project.now) }
     ensures passed { OnOk result (IsFreeOf (IsDuplicate (view_project project.now))) }
@@ -52,8 +60,8 @@ fn check_groups(alloc: Global, project: &Project) -> Result<(), Refusal>
     }
 }
 
-/// The facts of a project and the scope after its units, if no site is too heavy. The errors are `Heavy` with the first
-/// site to end that is too heavy, and `Memory`.
+/// The facts of a project and the scope after its units, if no site is too heavy. The caller ensures that the project is
+/// sound. The errors are `Heavy` with the first site to end that is too heavy, and `Memory`.
 pub fn resolve_facts(alloc: Global, project: &Project) -> Result<Resolved, Refusal>
     requires { IsSound (view_project project.now) }
     ensures facts { IfOk result (λ done. done.facts ≡ facts (view_project project.now)) }
@@ -68,7 +76,7 @@ pub fn resolve_facts(alloc: Global, project: &Project) -> Result<Resolved, Refus
     }
 }
 
-/// Whether no link lacks its source.
+/// Returns `Unmatched` with the least item of a link that lacks its source, or `Ok` if no link lacks it.
 fn check_links(links: &[Link]) -> Result<(), Refusal>
     ensures passed { OnOk result (least (unmatched_items links.now) ≡ None) }
     ensures refused { IfErr result (λ why. (item : Place) × (least (unmatched_items links.now) ≡ Some item) × (why ≡ refusal.Unmatched item)) }

@@ -23,7 +23,8 @@ use rotor_base::{Facts, Files, Memory, Name, Place, Refusal};
 use std::alloc::Global;
 
 /// The bytes of each source, if the binders of a map take the names that it gives them. A binder that the map gives
-/// another name takes it, and so does each reference to it. In a label the word alone changes. All other bytes stay.
+/// another name takes it, and so does each reference to it. In a label the word alone changes. All other bytes stay. The
+/// caller ensures that each place of the map is a binder. If several entries give it another name, the first one counts.
 ///
 /// # Errors
 ///
