@@ -1,9 +1,6 @@
 //! Looks' part on the links of a match and of a pinning.
 
-ghost use Rattle.std.specs.Prelude.{◌≡◌, ◌≤◌, ◌<◌, ◌+◌, ◌^◌, ◌++◌, ◌∷◌, [], List, length, map, is_some, not, IfSome, IfOk};
-ghost use Rattle.shape_core.specs.declared.shared.SharedEntry.{SharedEntry};
-ghost use Rattle.std.specs.List.{list_any};
-ghost use Rattle.rotor_base.specs.Place.{same_place};
+ghost use Rattle.std.specs.Prelude.{◌≡◌, ◌≤◌, ◌∷◌, [], length, map, is_some, not, IfOk};
 ghost use Rattle.shape_core.specs.Shape as shapes;
 ghost use Rattle.shape_core.specs.Node.{entries_of};
 ghost use Rattle.shape_core.specs.Looks as pure;
@@ -37,21 +34,9 @@ fn is_member(watch: &Watch, goal: Goal) -> bool
     ensures { result ≡ pure.is_member watch.now goal }
 {
     match goal {
-        Goal::Decl(place) => is_among(place, watch.foot.decls.as_slice()),
+        Goal::Decl(place) => watch.foot.decls.as_slice().contains(&place),
         _ => false,
     }
-}
-
-fn is_among(place: Place, places: &[Place]) -> bool
-    ensures { result ≡ list_any (same_place place) places.now }
-{
-    places.iter().any(|other| is_same(place, *other))
-}
-
-fn is_same(one: Place, other: Place) -> bool
-    ensures { result ≡ same_place one other }
-{
-    one.file == other.file && one.token == other.token
 }
 
 fn passes(test: Test, watch: &Watch, name: &[u8], goal: Goal) -> bool
@@ -74,45 +59,27 @@ fn place_of(goal: Goal) -> Place
     }
 }
 
-/// The last value of a list that a test accepts. It takes no memory.
+/// The last value of a list that a test accepts. The walk begins at the end of the list and stops at that value. It takes
+/// no memory.
 pub fn last_where(test: Test, watch: &Watch, list: &[SharedEntry]) -> Option<Spot>
     ensures { result ≡ pure.last_where (test_of test watch.now) (entries_of list.now) }
 {
-    let mut last = None;
-    for at in 0..list.len() {
-        last = with_entry(test, watch, at, &list[at], last);
-    }
-    last
-}
-
-// The last value that a test accepts, in a list with one entry more, at position `at`.
-fn with_entry(
-    test: Test,
-    watch: &Watch,
-    at: usize,
-    entry: &SharedEntry,
-    last: Option<Spot>,
-) -> Option<Spot>
-    requires at { at < 2 ^ 63 }
-    requires darks { IfSome last (λ spot. spot.2 ≤ at) }
-    ensures last { (list : List SharedEntry) → length list ≡ at → last ≡ pure.last_where (test_of test watch.now) (entries_of list) → result ≡ pure.last_where (test_of test watch.now) (entries_of (list ++ entry.now ∷ [])) }
-    ensures darks { IfSome result (λ spot. spot.2 ≤ at + 1) }
-{
-    match entry {
-        SharedEntry::Val(x, goal) => {
-            if passes(test, watch, x.as_bytes(), *goal) {
-                Some((at as u64, place_of(*goal), 0))
-            } else {
-                last
+    let mut darks = 0;
+    let mut left = list.len();
+    while left > 0 {
+        left -= 1;
+        match &list[left] {
+            SharedEntry::Val(x, goal) => {
+                if passes(test, watch, x.as_bytes(), *goal) {
+                    return Some((left as u64, place_of(*goal), darks));
+                }
             }
+            SharedEntry::Dark(_) => darks += 1,
+            SharedEntry::Mod(_, _) => {}
+            SharedEntry::Mty(_, _) => {}
         }
-        SharedEntry::Dark(_) => match last {
-            Some((position, decl, darks)) => Some((position, decl, darks + 1)),
-            None => None,
-        },
-        SharedEntry::Mod(_, _) => last,
-        SharedEntry::Mty(_, _) => last,
     }
+    None
 }
 
 /// The number of Dark entries of a list, and the place of the last one. It takes no memory.
@@ -160,19 +127,13 @@ fn source_darks(source: Option<&Shared>) -> (u64, Option<Place>)
 fn is_later(test: Test, watch: &Watch, rest: &[SharedEntry]) -> bool
     ensures { result ≡ is_some (pure.last_where (test_of test watch.now) (entries_of rest.now)) }
 {
-    match last_where(test, watch, rest) {
-        Some(_) => true,
-        None => false,
-    }
+    last_where(test, watch, rest).is_some()
 }
 
 fn is_pinned(source: Option<&Shared>) -> bool
     ensures { result ≡ not (is_some (list_in source.entry)) }
 {
-    match source {
-        Some(_) => false,
-        None => true,
-    }
+    source.is_none()
 }
 
 /// The look of the link of a value, if the value has the old or the new name. `rest` has the entries after the value in

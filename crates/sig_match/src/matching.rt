@@ -9,9 +9,7 @@ ghost use Rattle.sig_match.specs.Parts.{match_part, match_first, has_one_kind};
 
 use crate::found::{Found, Meeting, Stop, meet, spend};
 use crate::pinning::{pin_shape, pin_values};
-use shape_core::{
-    Kind, Shared, SharedEntry, entries, is_shown, kind, mod_of, mty_of, param, result,
-};
+use shape_core::{Shared, SharedEntry, entries, is_shown, kind, mod_of, mty_of, param, result};
 
 /// Match of a source with a target. `empty` is the empty structure.
 #[cycle(matching)]
@@ -38,32 +36,7 @@ pub fn match_both<'a>(
 fn have_one_kind(src: &Shared, tgt: &Shared) -> bool
     ensures { result ≡ has_one_kind src.now tgt.now }
 {
-    match kind(src) {
-        Kind::Struct => match kind(tgt) {
-            Kind::Struct => true,
-            Kind::Functor => false,
-            Kind::Unitary => false,
-            Kind::Opaque => false,
-        },
-        Kind::Functor => match kind(tgt) {
-            Kind::Struct => false,
-            Kind::Functor => true,
-            Kind::Unitary => false,
-            Kind::Opaque => false,
-        },
-        Kind::Unitary => match kind(tgt) {
-            Kind::Struct => false,
-            Kind::Functor => false,
-            Kind::Unitary => true,
-            Kind::Opaque => false,
-        },
-        Kind::Opaque => match kind(tgt) {
-            Kind::Struct => false,
-            Kind::Functor => false,
-            Kind::Unitary => false,
-            Kind::Opaque => true,
-        },
-    }
+    kind(src) == kind(tgt)
 }
 
 #[cycle(matching)]

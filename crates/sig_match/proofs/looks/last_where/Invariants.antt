@@ -1,9 +1,18 @@
-use Rattle.std.proofs.Common.{◌≡◌, ◌≤◌, take}
-use Rattle.std.specs.Prelude.{IfSome}
+use Rattle.std.proofs.Common.{◌≡◌, ◌+◌, ◌≤◌, None, drop, length}
+use Rattle.shape_core.specs.Shape.{darks}
 use Rattle.shape_core.specs.Looks as pure
 use Rattle.shape_core.specs.Node.{entries_of}
 use Rattle.sig_match.specs.Tests.{test_of}
 use Rattle.sig_match.proofs.looks.last_where.Given as goal
 
-abbrev pub invariant-loop-at : goal.invariant-loop-at
-invariant-loop-at l = (l.last ≡ pure.last_where (test_of l.test l.watch) (entries_of (take l.at l.list))) × IfSome l.last (λ spot. spot.2 ≤ l.at)
+-- from here on no value passes, and so many entries are Dark
+abbrev pub invariant-loop-left : goal.invariant-loop-left
+invariant-loop-left l = record {
+  within : l.left ≤ length l.list;
+  none : pure.last_where (test_of l.test l.watch) (entries_of (drop l.left l.list)) ≡ None;
+  count : l.darks ≡ length (darks (entries_of (drop l.left l.list)));
+  small : l.darks + l.left ≤ length l.list;
+}
+
+abbrev pub decreases-loop-left : goal.decreases-loop-left
+decreases-loop-left l = l.left
