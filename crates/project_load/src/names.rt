@@ -11,7 +11,7 @@ ghost use Rattle.project_load.specs.Listed.{is_listed_name};
 use rotor_base::is_source;
 
 /// The name of the manifest.
-pub const MANIFEST: &str = "rotor.units";
+pub(crate) const MANIFEST: &str = "rotor.units";
 
 /// Whether a file of this name is a source or the manifest. No other file of a folder is part of its project.
 pub fn is_project_file(name: &str) -> bool

@@ -127,8 +127,8 @@ source_plain : (file : Word) → is_source_name file ≡ true → IsPlain file
 source_plain file h = by_body (is_body_name file) refl where
   by_body : (t : Bool) → is_body_name file ≡ t → IsPlain file
   by_body true g = ending_plain (codes ".ml") file ((omega arith, refl, refl), ((omega arith, refl, refl), ((omega arith, refl, refl), tt))) g
-  by_body false g = ending_plain (codes ".mli") file ((omega arith, refl, refl), ((omega arith, refl, refl), ((omega arith, refl, refl), ((omega arith, refl, refl), tt))))
-      (rw g at h)
+  by_body false g = ending_plain (codes ".mli") file
+      ((omega arith, refl, refl), ((omega arith, refl, refl), ((omega arith, refl, refl), ((omega arith, refl, refl), tt)))) (rw g at h)
 
 -- ---- numbers
 
@@ -229,6 +229,11 @@ undos_counted : (names : List Word) (changes : List Change) → length (map (und
 undos_counted names changes =
     length-map (undos_of changes) (undo_words names) ∙ length-reverse (map undo_of changes) ∙ length-map changes undo_of
 
+-- what is printed of these steps back
+abbrev AsPrinted : List Step → List Word → List Undo → Type 0
+AsPrinted steps names undos = AreSteps (feed_lines (undo_text names undos)) (undo_steps names undos)
+    × ((lines : List (List ℕ)) → IsBatch lines steps → IsBatch (feed_lines (undo_text names undos)) (undo_steps names undos))
+
 module _ (rewrite : RenamingsRewrite) (places : UndosHavePlaces) where
   printable : (files : FileSet) (steps : List Step) (last : FileSet) (changes : List Change) → IsProject files → Runs files steps last changes
       → AllByRecursion (λ change. IsPrintable (names_of files.entries) (undo_of change)) changes
@@ -252,17 +257,22 @@ module _ (rewrite : RenamingsRewrite) (places : UndosHavePlaces) where
       )
 
   pub undos_are_read : UndosAreRead
-  undos_are_read files lines steps done p is h =
+  undos_are_read files steps done p h =
       let names = names_of files.entries in
       let undos = undos_of done.done in
       let same = (kept rewrite files steps done.files done.done p h.run).names in
       let all = printable files steps done.files done.done p h.run in
-      let counted : length (map (undo_words names) undos) ≡ length lines =
-      undos_counted names done.done ∙ changes_counted files steps done.files done.done h.run ∙ sym (lines_counted lines steps is.each) in
-      let batch : IsBatch (map (undo_words names) undos) (undo_steps names undos) =
-      record { each = lines_read names done.done all; few = subst (λ (k : ℕ). k ≤ max_batch_lines) (sym counted) is.few } in
-      let read : IsBatch (feed_lines (undo_text names undos)) (undo_steps names undos) =
-      subst (λ (ls : List Word). IsBatch ls (undo_steps names undos)) (sym (cut_lines (map (undo_words names) undos) (lines_whole names done.done all)))
-      batch in
-      subst (λ (ns : List Word). IsBatch (feed_lines (undo_text ns done.undo)) (undo_steps ns done.undo)) (sym same)
-      (subst (λ (us : List Undo). IsBatch (feed_lines (undo_text names us)) (undo_steps names us)) (sym h.undo) read)
+      let cut : feed_lines (undo_text names undos) ≡ map (undo_words names) undos =
+      cut_lines (map (undo_words names) undos) (lines_whole names done.done all) in
+      let each : AreSteps (feed_lines (undo_text names undos)) (undo_steps names undos) =
+      subst (λ (ls : List Word). AreSteps ls (undo_steps names undos)) (sym cut) (lines_read names done.done all) in
+      let counted : length (feed_lines (undo_text names undos)) ≡ length steps =
+      ap (λ (ls : List Word). length ls) cut ∙ undos_counted names done.done ∙ changes_counted files steps done.files done.done h.run in
+      let back : AsPrinted steps names undos = (
+        each,
+        λ lines is. record {
+          each = each;
+          few = subst (λ (k : ℕ). k ≤ max_batch_lines) (sym (counted ∙ sym (lines_counted lines steps is.each))) is.few;
+        },
+      ) in
+      subst (λ (ns : List Word). AsPrinted steps ns done.undo) (sym same) (subst (AsPrinted steps names) (sym h.undo) back)

@@ -9,7 +9,7 @@ use Rattle.rename_batch.specs.declared.error.BatchError.{BatchError}
 use Rattle.rename_batch.specs.declared.step.Step.{Step}
 use Rattle.rename_batch.specs.declared.step.Batched.{Batched}
 use Rattle.rename_batch.specs.Batch.{Batches, undo_steps}
-use Rattle.rename_batch.specs.Reading.{IsBatch, IsBadLine}
+use Rattle.rename_batch.specs.Reading.{AreSteps, IsBatch, IsBadLine}
 use Rattle.rename_batch.specs.Text.{undo_text}
 
 -- Law: lines are a batch of one list of steps at most
@@ -49,12 +49,14 @@ BatchesAreUndone =
     (files : FileSet) (steps : List Step) (done : Batched) → IsProject files → Batches files steps (Ok done)
     → (back : Batched) × Batches done.files (undo_steps (names_of done.files.entries) done.undo) (Ok back) × (back.files ≡ files)
 
--- Law: what the report of a batch prints behind `undo ` is a batch of the steps back
+-- Law: what the report of a batch that is accepted prints behind `undo ` are lines that request the steps back; and if
+-- lines are a batch of the steps, these lines are a batch of the steps back
 abbrev pub UndosAreRead : Type 0
 UndosAreRead =
-    (files : FileSet) (lines : List (List ℕ)) (steps : List Step) (done : Batched) → IsProject files → IsBatch lines steps
-    → Batches files steps (Ok done)
-    → IsBatch (feed_lines (undo_text (names_of done.files.entries) done.undo)) (undo_steps (names_of done.files.entries) done.undo)
+    (files : FileSet) (steps : List Step) (done : Batched) → IsProject files → Batches files steps (Ok done)
+    → AreSteps (feed_lines (undo_text (names_of done.files.entries) done.undo)) (undo_steps (names_of done.files.entries) done.undo)
+    × ((lines : List (List ℕ)) → IsBatch lines steps
+    → IsBatch (feed_lines (undo_text (names_of done.files.entries) done.undo)) (undo_steps (names_of done.files.entries) done.undo))
 
 -- Law: if a batch that is accepted has a step, it keeps the bounded runs
 abbrev pub BatchesKeepRuns : Type 0

@@ -28,7 +28,8 @@ pub fn batches_rewrite()
     renamings_rewrite();
 }
 
-/// What the report of an accepted batch prints behind `undo ` is a batch of the steps back.
+/// What the report of an accepted batch prints behind `undo ` are lines that request the steps back. If the steps are
+/// those of a batch's lines, these lines are a batch too.
 pub fn undos_are_read()
     ensures { UndosAreRead }
 {

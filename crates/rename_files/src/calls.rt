@@ -83,24 +83,17 @@ pub fn rename(
     let read = read_project(alloc, files)?;
     let resolved = resolve(alloc, &read.project)?;
     let aim = find_aim(alloc, files, &read, &resolved.top, target)?;
-    let foot = footprint(alloc, &resolved.facts, aim.place)?;
+    let facts = &resolved.facts;
+    let foot = footprint(alloc, facts, aim.place)?;
     let members = set_of(alloc, foot.decls.as_slice())?;
-    let refs = count_refs(resolved.facts.refs.as_slice(), &members);
+    let refs = count_refs(facts.refs.as_slice(), &members);
     let new = Name::new(alloc, name)?;
     let watch = Watch {
         old: aim.mark.name,
         new,
         foot,
     };
-    let judged = judge(
-        alloc,
-        files,
-        &read,
-        &resolved.facts,
-        &watch,
-        &members,
-        aim.place,
-    )?;
+    let judged = judge(alloc, files, &read, facts, &watch, &members, aim.place)?;
     let changed = changed_files(alloc, &judged.places, files.entries())?;
     let files = remake(alloc, files, judged.sources)?;
     Ok(Renamed {

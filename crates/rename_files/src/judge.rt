@@ -39,7 +39,8 @@ pub struct Judged {
     pub sources: Vec<SourceFile>,
 }
 
-/// The new sources of a renaming, if it has no refusal. The set has the members of the footprint.
+/// The new sources of a renaming, if it has no refusal. The caller ensures that `members` is the set of the footprint's
+/// members.
 pub fn judge(
     alloc: Global,
     files: &Files,

@@ -19,7 +19,7 @@ use Rattle.ml_lexer.proofs.Local.{and_left, and_right}
 use Rattle.lexeme_laws.specs.Begins as begins
 use Rattle.lexeme_laws.specs.Begins.{IsReservedLabel}
 use Rattle.lexeme_laws.specs.Table as table
-use Rattle.lexeme_laws.specs.Table.{IsLabel, IsOfClass, is_word, is_marked_word, is_prefix, is_infix}
+use Rattle.lexeme_laws.specs.Table.{IsLabel, IsOfClass, is_word, is_prefix, is_infix}
 use Rattle.lexeme_laws.proofs.NotBad.{lexemes_are_not_bad}
 use Rattle.lexeme_laws.proofs.Taken.{lexemes_begin}
 use Rattle.lexeme_laws.proofs.Tests.{among_fails, not_true, or_cases}

@@ -141,8 +141,8 @@ abbrev pub ShownOutsideIsKept : Type 0
 ShownOutsideIsKept = (files : FileSet) (target : Target) (shown : FootReport) → IsProject files → Shows files target (Ok shown)
     → IsSome shown.foot.outside → AreKept files shown.foot.decls
 
--- Law: a renaming that is accepted is undone. If a source's name gives the target's file, the renaming back of the target's place is
--- accepted, and gives the old files
+-- Law: a renaming that is accepted is undone. If a source's name gives the target's file, the renaming back of the
+-- target's place is accepted, and gives the old files
 abbrev pub RenamingsAreUndone : Type 0
 RenamingsAreUndone =
     (files : FileSet) (target : Target) (new : Name) (done : Renamed) → IsProject files → Renames files target new (Ok done)
@@ -154,8 +154,8 @@ abbrev pub UndosHavePlaces : Type 0
 UndosHavePlaces = (files : FileSet) (target : Target) (new : Name) (done : Renamed) → IsProject files → Renames files target new (Ok done)
     → IsUndoPlace files done
 
--- Law: a footprint has an operator among its members and the references to them if and only if the binder's name is the
--- name of an operator
+-- Law: a footprint has an operator among its members and the references to them exactly if the binder's name is that of
+-- an operator
 abbrev pub OperatorsAreNamed : Type 0
 OperatorsAreNamed =
     (us : List UnitTree) (d : Place) (foot : Foot) → IsSound us → IsBinder us d → IsTheFoot us d foot

@@ -56,8 +56,9 @@ pub fn undos_have_places()
     ensures { UndosHavePlaces }
 {}
 
-/// A footprint has an operator among its members and the references to them if and only if its binder's name is the name
-/// of an operator. The binder that a target names in files is one. Such a name is no value name.
+/// A footprint has an operator among its members and the references to them exactly if its binder's name is that of an
+/// operator. So it is for the binder that a target names in the files of a project. The name of an operator is no value
+/// name.
 pub fn operators_are_named()
     ensures binder { OperatorsAreNamed }
     ensures target { OperatorsAreOfTheTarget }

@@ -29,8 +29,8 @@ pub struct Aim {
     pub mark: Mark,
 }
 
-/// The binder that a target names. The caller ensures that the project is sound, that the tokens are those of the files,
-/// and that `top` is the scope after the units of the project.
+/// The binder that a target names. The caller ensures that the project is sound and that the tokens are those of the
+/// files. `top` is the scope after the units of the project.
 ///
 /// # Errors
 ///

@@ -26,9 +26,13 @@ use std::alloc::Global;
 ///
 /// # Errors
 ///
-/// The first of these that holds: `Duplicate` with the least place that repeats a name of its group, and the least place
-/// of that name there; `Heavy` with the first site to end that is too heavy; `Unmatched` with the least item of a link
-/// that lacks its source. `Memory`.
+/// The first of these that holds:
+///
+/// - `Duplicate` with the least place that repeats a name of its group, and the least place of that name there.
+/// - `Heavy` with the first site to end that is too heavy.
+/// - `Unmatched` with the least item of a link that lacks its source.
+///
+/// And `Memory`.
 pub fn resolve(alloc: Global, project: &Project) -> Result<Resolved, Refusal>
     requires { IsSound (view_project project.now) }
     ensures facts { IfOk result (λ done. done.facts ≡ facts (view_project project.now)) }
@@ -43,8 +47,8 @@ pub fn resolve(alloc: Global, project: &Project) -> Result<Resolved, Refusal>
     Ok(resolved)
 }
 
-/// Returns `Duplicate` with the least place that repeats a name of its group and the least place of that name there, or
-/// `Ok` if no name occurs twice in a group. The only other error is `Memory`.
+/// Returns `Ok` if no name occurs twice in a group, and else `Duplicate`. It has the least place that repeats a name of its
+/// group, and the least place of that name there. The only other error is `Memory`.
 fn check_groups(alloc: Global, project: &Project) -> Result<(), Refusal>
     requires { IsSound (view_project project.now) }
     ensures passed { OnOk result (IsFreeOf (IsDuplicate (view_project project.now))) }

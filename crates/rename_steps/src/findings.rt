@@ -41,8 +41,8 @@ pub struct Hits {
     pub set: BTreeSet<Place>,
 }
 
-/// The places that a renaming gives the new word, if none of the refusals `Operator` to `Blurred` holds. The set has the
-/// members of the footprint.
+/// The places that a renaming gives the new word, if none of the refusals `Operator` to `Blurred` holds. The caller
+/// ensures that `members` is the set of the footprint's members.
 pub fn judge_foot(
     alloc: Global,
     project: &Project,

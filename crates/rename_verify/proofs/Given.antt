@@ -61,7 +61,8 @@ at_filtered test (x ∷ L) d y e = by (same_place x.0 d) refl (test x) refl (at_
   by true s t u rest = (x.1, ap (λ v. or_else (some_if v x.1) (at_place L d)) s)
   by false s t u rest = let k = rest (there (test x) e s) in (k.0, ap (λ v. or_else (some_if v x.1) (at_place L d)) s ∙ k.1)
 
-pub each_filtered : (P : Place × Name → Type 0) (test : Place × Name → Bool) (L : Renaming) → Each P L → Each (λ e. P e × (test e ≡ true)) (filter test L)
+pub each_filtered : (P : Place × Name → Type 0) (test : Place × Name → Bool) (L : Renaming) → Each P L
+    → Each (λ e. P e × (test e ≡ true)) (filter test L)
 each_filtered P test [] h = tt
 each_filtered P test (x ∷ L) h = by (test x) refl (each_filtered P test L h.1) where
   by : (b : Bool) → test x ≡ b → Each (λ e. P e × (test e ≡ true)) (filter test L)

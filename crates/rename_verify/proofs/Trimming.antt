@@ -14,7 +14,8 @@ use Rattle.ml_syntax.specs.Each.{Each}
 use Rattle.ml_syntax.specs.Sound.{IsSound}
 use Rattle.ml_syntax.specs.Tree.{UnitTree}
 use Rattle.shape_core.specs.Respell.{Words, spell_shape, spell_entries}
-use Rattle.shape_core.specs.Shape.{Name, Shape, Struct, Functor, Unitary, Opaque, Entries, none, a_val, a_mod, a_mty, a_dark, or_else, some_if, or_value, vals}
+use Rattle.shape_core.specs.Shape.{Name, Shape, Struct, Functor, Unitary, Opaque, Entries, none, a_val, a_mod, a_mty, a_dark, or_else}
+use Rattle.shape_core.specs.Shape.{some_if, or_value, vals}
 use Rattle.binding_model.specs.Facts.{facts, facts_of, AreNamedApart, IsGood}
 use Rattle.binding_model.specs.Laws.{KeepsFixed}
 use Rattle.binding_model.specs.Renaming.{Renaming, places, at_place, name_of, site_name, goal_at, new_word, words_of, respell, spell_units, Changes}
@@ -187,5 +188,6 @@ valid_is_yes old new us r p q accepts single valid by =
     (record {
       names = by.names;
       manifest = by.manifest;
-      bytes = subst (λ (m : Renaming). AreRespelledBytes (words_of m (facts us).refs) 0 old.entries news) (sym (filtered_again (is_other us) r)) by.bytes;
+      bytes = subst (λ (m : Renaming). AreRespelledBytes (words_of m (facts us).refs) 0 old.entries news)
+          (sym (filtered_again (is_other us) r)) by.bytes;
     })

@@ -1,5 +1,5 @@
--- If the answer of a command is an Ok, the reply is Done.
-use Rattle.std.proofs.Common.{◌≡◌, ◌≤◌, ℕ, List, [], Bool, true, false, Option, Some, None, Result, Ok, Err, length, refl, sym, ap, subst, ◌∙◌}
+-- If the answer of a command is an Ok, or `verify` is asked of a valid respelling, the reply is Done.
+use Rattle.std.proofs.Common.{◌≡◌, ◌≤◌, ℕ, List, [], Bool, true, false, Option, Some, None, Result, Ok, Err, length, refl, ap, subst, ◌∙◌}
 use Rattle.rotor_base.specs.Files.{FileSet, names_of}
 use Rattle.rotor_base.specs.Limits.{max_file_bytes}
 use Rattle.rotor_base.specs.Lines.{feed_lines}
@@ -31,7 +31,7 @@ use Rattle.rotor_app.specs.Said.{judged_reply, SaysSample, Says, SomeReply}
 use Rattle.rotor_app.specs.Table.{IsAsSaid, Seen}
 use Rattle.rotor_app.specs.Laws.{HasLaws}
 use Rattle.rotor_app.specs.Done.{IsDoneIfAccepted}
-use Rattle.rotor_app.proofs.OneReply.{one_recovery, one_sampled, one_to}
+use Rattle.rotor_app.proofs.OneReply.{one_sampled, one_to}
 use Rattle.rotor_app.proofs.Undoing.{list_project}
 
 -- a command whose answer is an Ok is done

@@ -1,16 +1,14 @@
 -- A command over a folder has at most one reply.
-use Rattle.std.proofs.Common.{◌≡◌, ◌<◌, ◌≤◌, ℕ, List, [], ◌∷◌, Option, Some, None, Result, Ok, Err, length, map, flat_map, refl, sym, ap, subst, ◌∙◌, arith}
+use Rattle.std.proofs.Common.{◌≡◌, ◌<◌, ◌≤◌, ℕ, List, [], ◌∷◌, Option, Some, None, Result, Ok, Err, length, map, flat_map, codes, refl}
+use Rattle.std.proofs.Common.{sym, ap, subst, ◌∙◌, arith}
 use Rattle.std.specs.FinMap.{get}
-use Rattle.std.specs.Global.{Vec}
 use Rattle.rotor_base.specs.Files.{FileSet, names_of}
 use Rattle.rotor_base.specs.Limits.{max_file_bytes}
 use Rattle.rotor_base.specs.Lines.{feed_lines}
 use Rattle.rotor_base.specs.declared.refusal.LoadError.{LoadError}
-use Rattle.rotor_base.specs.declared.refusal.LoadError.TheVariants.{TooLarge}
 use Rattle.rotor_base.specs.declared.refusal.Refusal.{Refusal}
 use Rattle.rotor_base.specs.declared.report.Outcome.{Outcome}
 use Rattle.rotor_base.specs.declared.report.Outcome.TheVariants as outcome
-use Rattle.rotor_base.specs.declared.report.Renamed.{Renamed}
 use Rattle.rotor_base.specs.declared.report.SampleReport.{SampleReport}
 use Rattle.rotor_base.specs.declared.source.SourceFile.{SourceFile}
 use Rattle.report.specs.Lines.{number_line}
@@ -22,7 +20,7 @@ use Rattle.project_load.specs.declared.error.ListError.{ListError}
 use Rattle.project_load.specs.declared.error.ListError.TheVariants as list_error
 use Rattle.project_load.proofs.OneList.{lists_are_one}
 use Rattle.apply_journal.specs.Plan.{IsPlan}
-use Rattle.apply_journal.specs.Recovered.{plan_name, plan_writes, HoldsPlan}
+use Rattle.apply_journal.specs.Recovered.{plan_name, plan_writes}
 use Rattle.apply_journal.proofs.Plans.{plans_one}
 use Rattle.cli_words.specs.declared.command.Command.{Command}
 use Rattle.cli_words.specs.declared.command.Command.TheVariants as command
@@ -42,15 +40,14 @@ use Rattle.rename_verify.specs.Text.{change_line}
 use Rattle.rename_verify.proofs.One.{verdicts_are_one}
 use Rattle.sample_project.specs.Sample.{Samples, report_of, sample_target}
 use Rattle.sample_project.specs.Sources.{sample_files}
-use Rattle.std.specs.Prelude.{codes}
 use Rattle.rotor_app.specs.Words.{batch_file}
 use Rattle.rotor_app.specs.declared.status.Status.TheVariants.{Done}
 use Rattle.rotor_app.specs.declared.reply.Reply.{Reply}
 use Rattle.rotor_app.specs.Laws.{RepliesAreOne}
 use Rattle.rotor_app.specs.Said.{reply_by, reply_of, as_outcome, Answers, IsAnswer, not_loaded, answered, IsPending, batch_in, bad_batch}
 use Rattle.rotor_app.specs.Said.{stopped_batch, batched_reply, SaysSteps, stopped, batched, SaysBatch, lacks, large, unread, runs}
-use Rattle.rotor_app.specs.Said.{SaysTo, answers, pends, batches, SaysRecovery, idle, finished, lost, recovered_text, RefusesList, bad_list}
-use Rattle.rotor_app.specs.Said.{unloaded_list, judged_reply, IsJudged, SaysAgainst, unlisted, judged, SaysVerify, no_list, listed, SaysSample, Says}
+use Rattle.rotor_app.specs.Said.{SaysTo, answers, pends, batches, SaysRecovery, idle, finished, lost, recovered_text, RefusesList}
+use Rattle.rotor_app.specs.Said.{judged_reply, IsJudged, SaysAgainst, unlisted, judged, SaysVerify, no_list, listed, SaysSample, Says}
 
 -- ---- answers of two kinds
 
@@ -201,7 +198,8 @@ one_recovery held one other (lost l e) (lost m f) = e ∙ sym f
 
 -- ---- two versions
 
-one_refused_list : (name : List ℕ) (error other : ListError) (a b : Reply) → error ≡ other → RefusesList name error a → RefusesList name other b → a ≡ b
+one_refused_list : (name : List ℕ) (error other : ListError) (a b : Reply) → error ≡ other → RefusesList name error a
+    → RefusesList name other b → a ≡ b
 one_refused_list name error other a b e h k = by other (subst (λ (x : ListError). RefusesList name x a) e h) k where
   by : (x : ListError) → RefusesList name x a → RefusesList name x b → a ≡ b
   by list_error.Read h k = absurd h

@@ -47,7 +47,7 @@ use Rattle.rotor_app.specs.declared.status.Status.TheVariants.{Done, Refused, Pr
 use Rattle.rotor_app.specs.declared.reply.Reply.{Reply}
 use Rattle.rotor_app.specs.Said.{status_of, reply_by, outcome_text, MayWrite, IsAnswer, not_loaded, answered, SaysTo, answers, pends, batches}
 use Rattle.rotor_app.specs.Said.{batch_in, batched_reply, SaysSteps, stopped, batched, SaysBatch, lacks, large, unread, runs, SaysRecovery, idle}
-use Rattle.rotor_app.specs.Said.{finished, lost, SaysVerify, no_list, listed, SaysAgainst, unlisted, judged, IsJudged, RefusesList}
+use Rattle.rotor_app.specs.Said.{finished, lost, SaysVerify, no_list, listed, SaysAgainst, unlisted, judged, RefusesList}
 use Rattle.rotor_app.specs.Said.{judged_reply, Says}
 use Rattle.rotor_app.specs.Said.{SomeReply}
 use Rattle.rotor_app.specs.Table.{TreeStopped}
@@ -333,7 +333,7 @@ module _ (laws : HasLaws) where
       written = λ w. subst (λ (ws : List SourceFile). loaded (after ws held) ≡ Ok done.files) (sym (ap (λ (r : Reply). r.writes) e))
           (batch_loads write w);
       undone = laws.batch_undone old steps done project_of accepted;
-      asked = laws.batch_asked old (feed_lines bytes) steps done project_of reads accepted;
+      asked = (laws.batch_asked old steps done project_of accepted).1 (feed_lines bytes) reads;
       runs = λ some. laws.batch_runs old steps done project_of some accepted;
     }
 

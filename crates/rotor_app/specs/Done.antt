@@ -1,5 +1,6 @@
--- What holds of a command that is done: what a renaming keeps, that the words of its undo give the old files back, what
--- a recovery leaves, and what a yes of `verify` says.
+-- What holds of a command that is done: what a renaming keeps, that the words of its undo give the old files back, what a
+-- footprint and a batch are, what a recovery leaves, and what a yes of `verify` says. What is recovered after a stop, and
+-- when a command has to be done.
 use Rattle.std.specs.Prelude.{◌≡◌, ℕ, ◌≤◌, List, [], ◌∷◌, ◌++◌, ◌≢◌, ◌⊎◌, ◌||◌, Bool, true, false, Option, Some, None, IsSome, Ok}
 use Rattle.std.specs.Prelude.{codes, length}
 use Rattle.std.specs.Global.{Vec}
@@ -150,8 +151,8 @@ IsRecoverable (Some (command.Verify old new)) held now = Unit {0}
 IsRecoverable (Some (command.Batch file write)) held now = Unit {0}
 IsRecoverable (Some command.Recover) held now = (found : FileSet) → Recovers held found → Recovers now found
 
--- If the answer of a command is an Ok, and the gate does not forbid its writes, the status is Done (Completeness). The
--- answer of `verify` is one if `check` accepts the first project and the second is a valid respelling of it.
+-- If the answer of another command than `verify` is an Ok and the gate does not forbid its writes, the status is Done
+-- (Completeness). If `check` accepts the first project and the second is a valid respelling of it, `verify` is done.
 abbrev pub IsDoneIfAccepted : Option Command → FileMap → Status → Type 0
 IsDoneIfAccepted None held status = Unit {0}
 IsDoneIfAccepted (Some command.Check) held status = (files : FileSet) (counts : Counts) → loaded held ≡ Ok files → Checks files (Ok counts)

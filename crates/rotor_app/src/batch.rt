@@ -4,7 +4,6 @@ ghost use Rattle.std.specs.List.{list_any};
 ghost use Rattle.std.specs.Option.{option_map};
 ghost use Rattle.tree_io.specs.Outside.{HasCause, StaysSteady};
 ghost use Rattle.rotor_base.specs.Limits.{max_file_bytes};
-ghost use Rattle.rotor_base.specs.Files.{names_of};
 ghost use Rattle.rotor_app.specs.Words.{batch_file};
 ghost use Rattle.rotor_app.specs.Said.{IsReply, SaysBatch, SaysSteps, bad_batch, batch_in, batched_reply, stopped_batch};
 

@@ -1,5 +1,5 @@
 //! The answer of the program, before anything is written.
-ghost use Rattle.std.specs.Prelude.{◌≡◌, ◌<◌, ◌≤◌, ◌^◌, ◌↔◌, ◌-◌, IfOk, IfSome, IsErrOf, OnOk, Ok, [], Some, None, true, length, map, string_bytes};
+ghost use Rattle.std.specs.Prelude.{◌≡◌, ◌<◌, ◌↔◌, ◌-◌, IfOk, IfSome, IsErrOf, OnOk, Ok, [], Some, None, true, length, map, string_bytes};
 ghost use Rattle.tree_io.specs.Outside.{HasCause, StaysSteady};
 ghost use Rattle.rotor_base.specs.Files.{names_of};
 ghost use Rattle.project_load.specs.Load.{IsOutside, loaded};

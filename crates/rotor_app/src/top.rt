@@ -1,7 +1,7 @@
 //! The program: the words, the folder, the writes and the report.
-ghost use Rattle.std.specs.Prelude.{◌≡◌, ◌⊎◌, [], None, IsErr, OnOk, OnErr, map, string_bytes, length};
+ghost use Rattle.std.specs.Prelude.{◌≡◌, ◌⊎◌, [], None, map, string_bytes, length};
 ghost use Rattle.std.specs.Option.{ForSome};
-ghost use Rattle.tree_io.specs.Outside.{HasFault, StaysSteady, Rose};
+ghost use Rattle.tree_io.specs.Outside.{Rose};
 ghost use Rattle.cli_words.specs.Words.{command_of};
 ghost use Rattle.rotor_app.specs.Said.{AsksNothing, SomeReply};
 ghost use Rattle.rotor_app.specs.Done.{IsDoneIfAccepted, IsDoneSo, IsRecoverable};
@@ -76,17 +76,17 @@ pub fn rotor<T: Tree, S: Sink>(alloc: Global, words: &[String], tree: &mut T, ou
     ensures quiet { (result ≡ Status.TreeFault) ⊎ (result ≡ Status.Memory) → out.new ≡ out.old }
 
     // A renaming that is done is valid, keeps facts and runs, and changes a least footprint. The files and the text are
-    // those of its reply, and the words of its undo give the old files back. A footprint that is shown is a least one. A
-    // recovery that is done leaves what is recovered. A `verify` that is done says yes: the second project is a valid
-    // respelling of the first, which keeps the runs.
+    // those of its reply, and the words of its undo give the old files back. A footprint that is shown is a least one. The
+    // steps back of a batch that is done give the old files. A recovery that is done leaves what is recovered. A `verify`
+    // that is done says yes: the second project is a valid respelling of the first, which keeps the runs.
     ensures renamed { (result ≡ Status.Done) → ForSome (T.content tree.old) (λ files. SomeReply (command_of (map string_bytes words.now)) files (λ reply.
         IsAsSaid reply files
         (seen (T.faults tree.old) (S.faults out.old) (T.content tree.old) (S.taken out.old))
         (seen (T.faults tree.new) (S.faults out.new) (T.content tree.new) (S.taken out.new)) result
         × IsDoneSo (command_of (map string_bytes words.now)) files reply)) }
 
-    // If a command's answer is an Ok and the gate does not forbid its writes, the status is Done. The answer of `verify` is
-    // one if `check` accepts the first version and the second is a valid respelling of it.
+    // If the answer of another command than `verify` is an Ok and the gate does not forbid its writes, the status is Done.
+    // If `check` accepts the first version and the second is a valid respelling of it, `verify` is done.
     ensures accepted { ForSome (T.content tree.old) (λ files.
         IsQuiet (seen (T.faults tree.old) (S.faults out.old) (T.content tree.old) (S.taken out.old))
         (seen (T.faults tree.new) (S.faults out.new) (T.content tree.new) (S.taken out.new))
