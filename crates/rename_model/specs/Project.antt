@@ -11,17 +11,17 @@ use Rattle.binding_model.specs.Renaming.{places, name_of}
 use Rattle.capture_check.specs.Fault.{before, IsLeastRepeat}
 use Rattle.rename_model.specs.Ladder.{no_more}
 
--- 7: a group has a name twice; the least place that repeats one, and the least place of that name there
+-- Duplicate: a group has a name twice; the least place that repeats one, and the least place of that name there
 abbrev pub IsDuplicate : List UnitTree → Refusal → Type 0
 IsDuplicate us (refusal.Duplicate first again) = IsLeastRepeat (name_of us) (facts us).groups first again
 IsDuplicate us _ = ⊥
 
--- 9: a site is too heavy, or the sums are too large there; the first site to end
+-- Heavy: a site is too heavy, or the sums are too large there; the first site to end
 abbrev pub IsHeavy : List UnitTree → Refusal → Type 0
 IsHeavy us (refusal.Heavy at) = heavy us ≡ Some at
 IsHeavy us _ = ⊥
 
--- 10: a link has the source Missing; the least such item
+-- Unmatched: a link has the source Missing; the least such item
 abbrev pub IsUnmatched : List UnitTree → Refusal → Type 0
 IsUnmatched us (refusal.Unmatched item) = unmatched us ≡ Some item
 IsUnmatched us _ = ⊥

@@ -48,22 +48,22 @@ renamed_words us w = words_of (renaming w) (facts us).refs
 abbrev pub IsOperatorAt : List UnitTree → Place → Type 0
 IsOperatorAt us p = (x : Site) × (at_place (places us) p ≡ Some x) × IsTrue x.operator
 
--- 12: the target's name, which all members and all references to them have, is an operator
+-- Operator: the target's name, which all members and all references to them have, is an operator
 abbrev pub IsOperator : List UnitTree → Foot → Refusal → Type 0
 IsOperator us foot refusal.Operator = (p : Place) × IsHit us foot p × IsOperatorAt us p
 IsOperator us foot _ = ⊥
 
--- 13: the new name is no value name
+-- BadName: the new name is no value name
 abbrev pub IsBadName : Name → Refusal → Type 0
 IsBadName new refusal.BadName = IsFalse (is_value_name new)
 IsBadName new _ = ⊥
 
--- 14: the new name is the old one
+-- SameName: the new name is the old one
 abbrev pub IsSameName : List UnitTree → Place → Name → Refusal → Type 0
 IsSameName us d new refusal.SameName = new ≡ name_of us d
 IsSameName us d new _ = ⊥
 
--- 15: a member of the footprint is linked with the outside; the least one
+-- Outside: a member of the footprint is linked with the outside; the least one
 abbrev pub IsOutside : Foot → Refusal → Type 0
 IsOutside foot (refusal.Outside at) = foot.outside ≡ Some at
 IsOutside foot _ = ⊥
@@ -72,7 +72,7 @@ IsOutside foot _ = ⊥
 abbrev pub IsPunAt : List UnitTree → Place → Type 0
 IsPunAt us p = (x : Site) × (at_place (places us) p ≡ Some x) × IsTrue x.pun
 
--- 16: a member, or a reference to one, is a pun; the least one
+-- Pun: a member, or a reference to one, is a pun; the least one
 abbrev pub IsPun : List UnitTree → Foot → Refusal → Type 0
 IsPun us foot (refusal.Pun at) = IsLeast (λ p. IsHit us foot p × IsPunAt us p) at
 IsPun us foot _ = ⊥
@@ -84,36 +84,36 @@ pub data IsBlurredAt (fs : Facts) (foot : Foot) (p : Place) : Type 0 where
   at_item : (l : Link) → Contains fs.links l → IsIn foot p → l.item ≡ Decl p → IsBlur l.source → IsBlurredAt fs foot p
   at_source : (l : Link) → Contains fs.links l → IsIn foot p → HasBehind p l.source → IsBlurredAt fs foot p
 
--- 21: there is one; the least one
+-- Blurred: there is one; the least one
 abbrev pub IsBlurred : List UnitTree → Foot → Refusal → Type 0
 IsBlurred us foot (refusal.Blurred at) = IsLeast (IsBlurredAt (facts us) foot) at
 IsBlurred us foot _ = ⊥
 
--- 17: a new source is over the limit on bytes, or all new sources up to it are; the first one
+-- Grown: a new source is over the limit on bytes, or all new sources up to it are; the first one
 abbrev pub IsGrown : List SourceFile → List UnitTree → Watch → Refusal → Type 0
 IsGrown sources us w (refusal.Grown file) = (news : List SourceFile) × AreRespelled (in_file (renamed_words us w)) 0 sources news
     × (position_with are_over news ≡ Some file)
 IsGrown sources us w _ = ⊥
 
--- 18: a group of the new project has a name twice; the least place that repeats one, and the least place of that name
+-- Clash: a group of the new project has a name twice; the least place that repeats one, and the least place of that name
 -- there
 abbrev pub IsClash : List UnitTree → List UnitTree → Refusal → Type 0
 IsClash us vs (refusal.Clash first again) = IsLeastRepeat (name_of vs) (facts vs).groups first again
 IsClash us vs _ = ⊥
 
--- 19: a reference has another goal in the new project; the least one
+-- Capture: a reference has another goal in the new project; the least one
 abbrev pub IsCapture : List UnitTree → List UnitTree → Refusal → Type 0
 IsCapture us vs (refusal.Capture at was would) = IsFirstDiffering of_ref (facts us).refs (facts vs).refs at was would
 IsCapture us vs _ = ⊥
 
--- 20: a link has another source in the new project; the least item that has such a link, and the first of its links
+-- Mislink: a link has another source in the new project; the least item that has such a link, and the first of its links
 abbrev pub IsMislink : List UnitTree → List UnitTree → Refusal → Type 0
 IsMislink us vs (refusal.Mislink (Decl item) was would) = IsFirstDiffering of_link (facts us).links (facts vs).links item was would
 IsMislink us vs _ = ⊥
 
 -- ---- the ladder
 
--- 11: the target is no binder
+-- NoTarget: the target is no binder
 abbrev pub HasNoTarget : FileSet → List UnitTree → Target → Refusal → Type 0
 HasNoTarget files us target refusal.NoTarget = (d : Place) → Aims files us target d → ⊥
 HasNoTarget files us target _ = ⊥

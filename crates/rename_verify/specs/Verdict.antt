@@ -22,12 +22,12 @@ use Rattle.rename_verify.specs.Candidate.{AreLexemesOf, candidate, changes}
 use Rattle.rename_verify.specs.Changed.{Changed}
 use Rattle.rename_verify.specs.Differ.{HasOtherSources, FilesPartAt}
 
--- 23: the names of the sources or the manifests differ
+-- Sources: the names of the sources or the manifests differ
 abbrev pub IsSources : FileSet → FileSet → Why → Type 0
 IsSources old new (why.Sources name) = HasOtherSources old new name
 IsSources old new _ = ⊥
 
--- 24: the bytes of the respelled old sources and of the new ones differ: in the first file, and there at the least
+-- Bytes: the bytes of the respelled old sources and of the new ones differ: in the first file, and there at the least
 -- offset
 abbrev pub IsBytes : List UnitTree → Renaming → FileSet → FileSet → Why → Type 0
 IsBytes us r old new (why.Bytes file offset) =
@@ -41,12 +41,12 @@ pub record IsFixed (us : List UnitTree) (r : Renaming) (d : Place) : Type 0 wher
   pub changes : Changes us r d name
   pub fixed : IsFree us d → ⊥
 
--- 25: there is one; the least one
+-- Fixed: there is one; the least one
 abbrev pub IsFixedAt : List UnitTree → Renaming → Why → Type 0
 IsFixedAt us r (why.Fixed at) = IsLeast (IsFixed us r) at
 IsFixedAt us r _ = ⊥
 
--- 18 to 20: the first of Clash, Capture and Mislink between the old project and the one that the new files are read as
+-- Broken: the first of Clash, Capture and Mislink between the old project and the one that the new files are read as
 abbrev pub IsBroken : List UnitTree → FileSet → Why → Type 0
 IsBroken us new (why.Broken fault) = (vs : List UnitTree) × Reads new vs × faults (name_of vs) (facts us) (facts vs) fault
 IsBroken us new _ = ⊥

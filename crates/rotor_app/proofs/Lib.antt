@@ -1,6 +1,7 @@
 pub mod Concluded
 pub mod Endings
 pub mod Saying
+pub mod Beside
 pub mod Undoing
 pub mod Batching
 pub mod Verifying

@@ -6,6 +6,7 @@ use Rattle.std.specs.FinMap.{get}
 use Rattle.std.specs.Str.{bytes_eq}
 use Rattle.std.specs.Cmp.Lexicographic.{bytes_decides}
 use Rattle.rotor_base.specs.Files.{FileSet, IsProject, names_of, load_refusal}
+use Rattle.rotor_base.specs.Limits.{max_file_bytes}
 use Rattle.rotor_base.specs.Lines.{feed_lines}
 use Rattle.rotor_base.specs.declared.source.SourceFile.{SourceFile}
 use Rattle.rotor_base.specs.declared.place.Place.{Place}
@@ -17,13 +18,13 @@ use Rattle.rotor_base.specs.declared.target.Target.TheVariants.{At}
 use Rattle.tree_io.specs.Outside.{FileMap}
 use Rattle.project_load.specs.Load.{loaded, unless_refused}
 use Rattle.project_load.specs.Rewritten.{after, files_at, AreOthers}
-use Rattle.project_load.specs.Listed.{Lists, lacks as lacks_list, large as large_list, unread as unread_list, refused, taken}
+use Rattle.project_load.specs.Listed.{Lists, is_listed_name, lacks as lacks_list, large as large_list, unread as unread_list, refused, taken}
 use Rattle.project_load.specs.declared.error.ListError.{ListError}
 use Rattle.project_load.specs.declared.error.ListError.TheVariants as list_error
 use Rattle.tree_writes.specs.Writes.{StoppedWriting}
 use Rattle.apply_journal.specs.Plan.{plan_text, IsPlan}
 use Rattle.apply_journal.specs.Recovered.{plan_name, gate_name, IsOpen, safe_writes, project_in, Recovers, closed}
-use Rattle.apply_journal.proofs.Maps.{get_after_other, get_after_same}
+use Rattle.apply_journal.proofs.Maps.{get_here, get_other, get_after_other, get_after_same}
 use Rattle.apply_journal.proofs.Picked.{plan_of_files}
 use Rattle.apply_journal.proofs.Stops.{gate_no_source, not_named, safe_others, stopped_safe, whole_safe, stopped_again, whole_again}
 use Rattle.report.specs.Pieces.{place_text}
@@ -37,7 +38,8 @@ use Rattle.rename_files.specs.Answer.{Renames}
 use Rattle.rename_laws.specs.Laws.{Rewrites, IsUndoPlace}
 use Rattle.rename_batch.specs.declared.step.Step.{Step}
 use Rattle.rename_batch.specs.declared.step.Batched.{Batched}
-use Rattle.rename_batch.specs.Batch.{Batches}
+use Rattle.rename_batch.specs.Batch.{Batches, undo_steps}
+use Rattle.rename_batch.specs.Text.{undo_text}
 use Rattle.rename_batch.specs.Reading.{IsBatch}
 use Rattle.rename_verify.specs.declared.verdict.Verdict.{Verdict}
 use Rattle.rename_verify.specs.declared.verdict.Verdict.TheVariants.{Yes, No}
@@ -53,7 +55,9 @@ use Rattle.rotor_app.specs.Said.{SomeReply}
 use Rattle.rotor_app.specs.Table.{TreeStopped}
 use Rattle.rotor_app.proofs.Saying.{no_done_refusal}
 use Rattle.rotor_app.specs.Laws.{HasLaws}
-use Rattle.rotor_app.specs.Done.{rename_words, undo_of, AreSameButForPlan, GivesBack, GivesFilesBack, IsDone, IsShown, IsBatchDone, IsVerified}
+use Rattle.rotor_app.specs.Done.{rename_words, undo_of, AreSameButForPlan, GivesBack, GivesFilesBack, with_file, GivesBatchBack, IsDone, IsShown}
+use Rattle.rotor_app.specs.Done.{IsBatchDone, IsVerified}
+use Rattle.rotor_app.proofs.Beside.{beside, same_beside, no_source}
 use Rattle.rotor_app.specs.Done.{IsDoneSo, IsRecoverable}
 
 -- ---- the last line of the report
@@ -305,7 +309,7 @@ module _ (laws : HasLaws) where
 
   -- a batch that is done
   module _ (held : FileMap) (file : List ℕ) (write : Bool) (old : FileSet) (bytes : List ℕ) (steps : List Step) (done : Batched)
-      (loads : loaded held ≡ Ok old) (found : batch_in held file ≡ Some bytes)
+      (loads : loaded held ≡ Ok old) (may : MayWrite (command.Batch file write) held) (found : batch_in held file ≡ Some bytes)
       (reads : IsBatch (feed_lines bytes) steps) (accepted : Batches old steps (Ok done)) where
     project_of : IsProject old
     project_of = laws.project held old loads
@@ -318,6 +322,82 @@ module _ (laws : HasLaws) where
         let keeps = laws.batch_sources old steps done project_of accepted in
         laws.loaded_new held old done.files done.changed loads (record { names = keeps.names; manifest = keeps.manifest }) keeps.taken keeps.covers
     batch_loads false t = cc
+
+    abbrev batch_writes : Bool → List SourceFile
+    batch_writes w = if w then batch_files else []
+
+    batch_undone : (back : Batched) × Batches done.files (undo_steps (names_of done.files.entries) done.undo) (Ok back) × (back.files ≡ old)
+    batch_undone = laws.batch_undone old steps done project_of accepted
+
+    batch_asked : IsBatch (feed_lines (undo_text (names_of done.files.entries) done.undo)) (undo_steps (names_of done.files.entries) done.undo)
+    batch_asked = (laws.batch_asked old steps done project_of accepted).1 (feed_lines bytes) reads
+
+    -- the undo lines beside the new files
+    module _ (wanted : write ≡ true) (undo : List ℕ) (unlisted_name : is_listed_name undo ≡ false) (no_gate : undo ≢ gate_name)
+        (short : length (undo_text (names_of done.files.entries) done.undo) ≤ max_file_bytes) where
+      abbrev undo_lines : List ℕ
+      undo_lines = undo_text (names_of done.files.entries) done.undo
+
+      abbrev new_folder : FileMap
+      new_folder = with_file undo undo_lines (after batch_files held)
+
+      batch_load : loaded (after batch_files held) ≡ Ok done.files
+      batch_load = batch_loads true refl
+
+      batch_plan : IsPlan (plan_text batch_files) batch_files
+      batch_plan =
+          let keeps = laws.batch_sources old steps done project_of accepted in
+          plan_of_files done.files done.changed (laws.project (after batch_files held) done.files batch_load) keeps.ordered keeps.known
+
+      loads_beside : loaded new_folder ≡ Ok done.files
+      loads_beside =
+          load_by new_folder (after batch_files held) (same_beside (after batch_files held) undo undo_lines unlisted_name) ∙ batch_load
+
+      shut_beside : IsOpen new_folder → ⊥
+      shut_beside o = by write wanted may
+          (sym (get_after_other batch_files held gate_name (not_named gate_name batch_files gate_no_source batch_plan.sources.named))
+          ∙ sym (get_other (after batch_files held) undo undo_lines gate_name (differs gate_name undo (λ e. no_gate (sym e)))) ∙ o) where
+            by : (w : Bool) → w ≡ true → MayWrite (command.Batch file w) held → IsOpen held → ⊥
+            by true t m = m refl
+            by false t m = cc
+
+      lines_beside : batch_in new_folder undo ≡ Some undo_lines
+      lines_beside =
+          ap (λ (b : Bool). if b then None else get new_folder undo) unlisted_name ∙ get_here (after batch_files held) undo undo_lines
+
+      abbrev back_reply : Reply
+      back_reply = batched_reply (command.Batch undo true) (names_of done.files.entries) batch_undone.0
+
+      back_said : Says (Some (command.Batch undo true)) new_folder back_reply
+      unfolding Says
+      back_said =
+          batches undo done.files refl loads_beside (λ t. shut_beside)
+          (runs undo_lines (undo_steps (names_of done.files.entries) done.undo) lines_beside short batch_asked
+          (batched batch_undone.0 batch_undone.1 refl))
+
+      batch_home : after back_reply.writes new_folder ≡ with_file undo undo_lines held
+      batch_home =
+          let back = batch_undone.0 in
+          let keeps = laws.batch_sources old steps done project_of accepted in
+          let there = laws.project (after batch_files held) done.files batch_load in
+          let again = laws.batch_sources done.files (undo_steps (names_of done.files.entries) done.undo) back there batch_undone.1 in
+          let covers = subst (λ (f : FileSet). (k : ℕ) → (slice_get done.files.entries k ≡ slice_get f.entries k) ⊎ Contains back.changed k)
+          batch_undone.2 again.covers in
+          let written : files_at back.files.entries back.changed ≡ files_at old.entries back.changed =
+          ap (λ (f : FileSet). files_at f.entries back.changed) batch_undone.2 in
+          let held_loads : loaded (with_file undo undo_lines held) ≡ Ok old =
+          load_by (with_file undo undo_lines held) held (same_beside held undo undo_lines unlisted_name) ∙ loads in
+          let none = not_named undo batch_files (no_source undo unlisted_name) batch_plan.sources.named in
+          ap (λ (ws : List SourceFile). after ws new_folder) written
+          ∙ ap (λ (m : FileMap). after (files_at old.entries back.changed) m) (sym (beside batch_files held undo undo_lines none))
+          ∙ laws.old_back (with_file undo undo_lines held) old done.files done.changed back.changed held_loads
+          (record { names = keeps.names; manifest = keeps.manifest }) keeps.covers covers
+
+      gives_batch_back : (reply : Reply) → reply.writes ≡ batch_writes write → GivesBatchBack undo undo_lines held reply
+      gives_batch_back reply e =
+          let G : List SourceFile → Type 0 = λ ws. SomeReply (Some (command.Batch undo true)) (with_file undo undo_lines (after ws held))
+          (λ back. (back.status ≡ Done) × (after back.writes (with_file undo undo_lines (after ws held)) ≡ with_file undo undo_lines held)) in
+          subst G (sym (e ∙ ap batch_writes wanted)) (back_reply, back_said, (refl, batch_home))
 
     batch_is_done : (reply : Reply) → reply ≡ batched_reply (command.Batch file write) (names_of old.entries) done → IsBatchDone held file write reply
     batch_is_done reply e = record {
@@ -332,8 +412,9 @@ module _ (laws : HasLaws) where
       replied = e;
       written = λ w. subst (λ (ws : List SourceFile). loaded (after ws held) ≡ Ok done.files) (sym (ap (λ (r : Reply). r.writes) e))
           (batch_loads write w);
-      undone = laws.batch_undone old steps done project_of accepted;
-      asked = (laws.batch_asked old steps done project_of accepted).1 (feed_lines bytes) reads;
+      undone = batch_undone;
+      asked = batch_asked;
+      back = λ w undo listed gate short. gives_batch_back w undo listed gate short reply (ap (λ (r : Reply). r.writes) e);
       runs = λ some. laws.batch_runs old steps done project_of some accepted;
     }
 
@@ -350,7 +431,7 @@ module _ (laws : HasLaws) where
     in_steps : (bytes : List ℕ) (steps : List Step) → batch_in held file ≡ Some bytes → IsBatch (feed_lines bytes) steps
         → SaysSteps (command.Batch file write) files steps reply → IsBatchDone held file write reply
     in_steps bytes steps f is (stopped k why a e) = absurd (no_done_refusal why (sym (ap (λ (r : Reply). r.status) e) ∙ d))
-    in_steps bytes steps f is (batched done a e) = batch_is_done held file write files bytes steps done l f is a reply e
+    in_steps bytes steps f is (batched done a e) = batch_is_done held file write files bytes steps done l may f is a reply e
 
     by : other ≡ file → SaysBatch (command.Batch file write) other (batch_in held other) files reply → IsBatchDone held file write reply
     by same (lacks f e) = absurd (let no : Project ≡ Done = sym (ap (λ (r : Reply). r.status) e) ∙ d in cc)

@@ -4,7 +4,7 @@
 use Rattle.std.specs.Prelude.{◌≡◌, ℕ, ◌≤◌, List, [], ◌∷◌, ◌++◌, ◌≢◌, ◌⊎◌, ◌||◌, Bool, true, false, Option, Some, None, IsSome, Ok}
 use Rattle.std.specs.Prelude.{codes, length}
 use Rattle.std.specs.Global.{Vec}
-use Rattle.std.specs.FinMap.{get}
+use Rattle.std.specs.FinMap.{get, insert}
 use Rattle.rotor_base.specs.Files.{FileSet, names_of}
 use Rattle.rotor_base.specs.Limits.{max_file_bytes}
 use Rattle.rotor_base.specs.Lines.{feed_lines}
@@ -16,7 +16,7 @@ use Rattle.rotor_base.specs.declared.report.SampleReport.{SampleReport}
 use Rattle.rotor_base.specs.declared.target.Target.{Target}
 use Rattle.tree_io.specs.Outside.{FileMap}
 use Rattle.project_load.specs.Load.{loaded}
-use Rattle.project_load.specs.Listed.{Lists}
+use Rattle.project_load.specs.Listed.{Lists, is_listed_name}
 use Rattle.project_load.specs.Rewritten.{after}
 use Rattle.apply_journal.specs.Recovered.{plan_name, gate_name, IsLost, IsOpen, project_in, Recovers}
 use Rattle.report.specs.Pieces.{place_text}
@@ -69,6 +69,16 @@ GivesFilesBack words held reply =
     SomeReply (command_of words) (after reply.writes held)
     (λ back. (back.status ≡ Done) × AreSameButForPlan held (after back.writes (after reply.writes held)))
 
+-- the folder with these bytes in a file of this name
+abbrev pub with_file : List ℕ → List ℕ → FileMap → FileMap
+with_file name bytes held = insert held name bytes
+
+-- the batch of these lines, in a file of this name beside the new files, is done, and gives the old files back
+abbrev pub GivesBatchBack : List ℕ → List ℕ → FileMap → Reply → Type 0
+GivesBatchBack undo lines held reply =
+    SomeReply (Some (command.Batch undo true)) (with_file undo lines (after reply.writes held))
+    (λ back. (back.status ≡ Done) × (after back.writes (with_file undo lines (after reply.writes held)) ≡ with_file undo lines held))
+
 -- a renaming of the files that a folder loads as is done, and the reply is that of its outcome
 pub record IsDone (held : FileMap) (target : Target) (new : List ℕ) (write safe json : Bool) (reply : Reply) : Type 0 where
   pub old : FileSet
@@ -97,7 +107,8 @@ pub record IsShown (held : FileMap) (target : Target) (reply : Reply) : Type 0 w
   pub outside : IsSome shown.foot.outside → AreKept old shown.foot.decls
 
 -- A batch over the files that a folder loads as is done, and the reply is its. What the report prints behind `undo ` is a
--- batch of the steps back.
+-- batch of the steps back; in a file of the new folder, which is no source, no manifest and not the gate, and holds no more
+-- bytes than a batch may have, it gives the old folder back.
 pub record IsBatchDone (held : FileMap) (file : List ℕ) (write : Bool) (reply : Reply) : Type 0 where
   pub old : FileSet
   pub bytes : List ℕ
@@ -111,6 +122,9 @@ pub record IsBatchDone (held : FileMap) (file : List ℕ) (write : Bool) (reply 
   pub written : write ≡ true → loaded (after reply.writes held) ≡ Ok done.files
   pub undone : (back : Batched) × Batches done.files (undo_steps (names_of done.files.entries) done.undo) (Ok back) × (back.files ≡ old)
   pub asked : IsBatch (feed_lines (undo_text (names_of done.files.entries) done.undo)) (undo_steps (names_of done.files.entries) done.undo)
+  pub back : write ≡ true → (undo : List ℕ) → is_listed_name undo ≡ false → undo ≢ gate_name
+      → length (undo_text (names_of done.files.entries) done.undo) ≤ max_file_bytes
+      → GivesBatchBack undo (undo_text (names_of done.files.entries) done.undo) held reply
   pub runs : steps ≢ [] → KeepsRuns old done.files
 
 -- `verify` is done: its lists give two projects, and the second is a valid respelling of the first, which keeps the runs

@@ -1,3 +1,3 @@
 pub mod Slots
 pub mod FileNames
-pub mod Copied
+pub mod Overwritten

@@ -1,4 +1,5 @@
 pub mod Counts
+pub mod Disk
 pub mod Host
 pub mod MemSink
 pub mod MemTree

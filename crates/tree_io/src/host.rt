@@ -1,43 +1,65 @@
 // The current folder and the standard output of the system. No clause says what they hold.
-ghost use Rattle.std.specs.Prelude.{◌≡◌, ◌≤◌, ◌<◌, ◌-◌, ◌^◌, ◌↔◌, ℕ, None, length, vec_len, drop, IfOk, IsTrue, OnOk};
-ghost use Rattle.std.specs.Result.{IsOkAnd};
-ghost use Rattle.std.specs.Fs.{file_type, IsFile};
-ghost use Rattle.std.specs.Io.KnownBytes.{Consumes, Appends, IsAtEnd};
+ghost use Rattle.std.specs.Prelude.{◌≡◌, ◌≤◌, ◌-◌, ◌^◌, ℕ, None, false, length, vec_len, IfOk, IsTrue, IsErr, OnOk};
 ghost use Rattle.tree_io.specs.Outside.{HasCause, HasFault};
-ghost use Rattle.tree_io.specs.Host.{tree_faults, sink_faults};
+ghost use Rattle.tree_io.specs.Host.{tree_faults, tree_disk, is_blocked, sink_faults};
 
+use crate::disk::Disk;
+use crate::host_disk::HostDisk;
+use crate::host_reads::{Stamp, are_unchanged, list_names, read_file};
+use crate::host_writes::{is_owned, is_writable, write_file};
 use crate::{Sink, Tree, TreeError};
 use rotor_base::{Failed, Memory};
 use std::alloc::Global;
-use std::fs::{File, Metadata};
-use std::io;
-use std::io::{Read, Write};
+use std::fs::File;
 use std::rt::Files;
 
-/// The most entries of a folder that is listed. One more is a fault.
-const MAX_ENTRIES: usize = 1_048_576;
-/// The most bytes that one read requests.
-const CHUNK_BYTES: usize = 65_536;
-
-/// The current folder of the system. Its content is not modelled, and its `room` does nothing. Each Err of the system
-/// is a counted fault, and so is each read or write of a name that is no regular file. A fault ends the call with
-/// `Failed`. Want of memory is not counted.
+/// The current folder of the system. Its content is not modelled, and its `room` takes no memory. Each Err of the system
+/// is a counted fault, and so is each read or write of a name that is no regular file, and each write that could change
+/// a file under another name. A fault ends the call with `Failed`. Want of memory is not counted. A write that was
+/// answered is on the disk. Once `room` or `read` finds that a write would not be sound, each later write is a fault
+/// and asks nothing of the system. `room` finds so if a file that was read has been changed since then.
 #[derive(Drop)]
-pub struct HostTree<'a, R> {
-    rt: &'a R,
+pub struct HostTree<D> {
+    disk: D,
     faults: u64,
+    is_blocked: bool,
+    /// The files that were read since `room` last looked at them.
+    stamps: Vec<Stamp>,
 }
 
-impl<'a, R: Files> HostTree<'a, R> {
+impl<'a, R: Files<File = File> + AllocGlobal> HostTree<HostDisk<'a, R>> {
     /// The current folder, with no fault counted. It takes no memory.
     pub fn new(rt: &'a R) -> Self
         ensures { tree_faults result ≡ 0 }
     {
-        HostTree { rt, faults: 0 }
+        HostTree::over(rt.alloc(), HostDisk::new(rt))
     }
 }
 
-impl<'a, R: Files> Tree for HostTree<'a, R> {
+impl<D: Disk> HostTree<D> {
+    /// The folder of a disk, with no fault counted. It takes no memory.
+    pub fn over(alloc: Global, disk: D) -> Self
+        ensures faults { tree_faults result ≡ 0 }
+        ensures disk { tree_disk result ≡ disk }
+        ensures open { is_blocked result ≡ false }
+    {
+        HostTree {
+            disk,
+            faults: 0,
+            is_blocked: false,
+            stamps: Vec::new(alloc),
+        }
+    }
+
+    /// The disk below.
+    pub fn into_disk(self) -> D
+        ensures { result ≡ tree_disk self }
+    {
+        self.disk
+    }
+}
+
+impl<D: Disk> Tree for HostTree<D> {
     ghost faults = { tree_faults };
 
     ghost content = { λ _. None };
@@ -55,21 +77,50 @@ impl<'a, R: Files> Tree for HostTree<'a, R> {
         ensures few { IfOk result (λ names. vec_len names ≤ 1048576) }
         ensures cause { HasCause (tree_faults self.old) (tree_faults self.new) result }
     {
-        let answer = list_folder(self.rt, alloc);
+        let answer = list_names(&mut self.disk, alloc);
         count_fault(&mut self.faults, answer)
     }
 
-    fn read(&mut self, alloc: Global, name: &str, limit: u32) -> Result<Vec<u8>, TreeError> {
-        let answer = read_file(self.rt, alloc, name, limit);
+    fn read(&mut self, alloc: Global, name: &str, limit: u32) -> Result<Vec<u8>, TreeError>
+        ensures few { IfOk result (λ bytes. length bytes.items ≤ limit) }
+        ensures cause { HasCause (tree_faults self.old) (tree_faults self.new) result }
+        ensures blocked { IsTrue (is_blocked self.old) → IsTrue (is_blocked self.new) }
+    {
+        let answer = read_file(
+            &mut self.disk,
+            alloc,
+            name,
+            limit,
+            &mut self.is_blocked,
+            &mut self.stamps,
+        );
         count_fault(&mut self.faults, answer)
     }
 
-    fn room(&mut self, _alloc: Global, _name: &str, _len: u32) -> Result<(), Memory> {
+    fn room(&mut self, _alloc: Global, name: &str, len: u32) -> Result<(), Memory>
+        ensures made { OnOk result (len ≤ 2 ^ 32 - 1) }
+        ensures count { tree_faults self.new ≡ tree_faults self.old }
+        ensures blocked { IsTrue (is_blocked self.old) → self.new ≡ self.old }
+    {
+        if !self.is_blocked {
+            self.is_blocked = !(is_owned(&mut self.disk)
+                && are_unchanged(&mut self.disk, &self.stamps)
+                && is_writable(&mut self.disk, name));
+            self.stamps.clear();
+        }
         Ok(())
     }
 
-    fn write(&mut self, name: &str, bytes: &[u8]) -> Result<(), Failed> {
-        let answer = write_file(self.rt, name, bytes);
+    fn write(&mut self, name: &str, bytes: &[u8]) -> Result<(), Failed>
+        ensures cause { HasFault (tree_faults self.old) (tree_faults self.new) result }
+        ensures blocked { IsTrue (is_blocked self.old) → IsErr result × (tree_disk self.new ≡ tree_disk self.old) }
+        ensures stays { is_blocked self.new ≡ is_blocked self.old }
+    {
+        let answer = if self.is_blocked {
+            Err(Failed)
+        } else {
+            write_file(&mut self.disk, name, bytes)
+        };
         count_failed(&mut self.faults, answer)
     }
 }
@@ -124,131 +175,6 @@ fn count_failed(faults: &mut u64, answer: Result<(), Failed>) -> Result<(), Fail
         *faults = faults.saturating_add(1);
     }
     answer
-}
-
-/// The names in the current folder.
-fn list_folder<R: Files>(rt: &R, alloc: Global) -> Result<Vec<String>, TreeError>
-    ensures { IfOk result (λ names. vec_len names ≤ 1048576) }
-{
-    let Ok(mut folder) = rt.open_dir("./") else {
-        return Err(TreeError::Failed);
-    };
-    let mut names = Vec::new(alloc);
-    let mut chunk = [0; CHUNK_BYTES];
-    for _ in 0..u64::MAX {
-        let Ok(count) = folder.read(&mut chunk) else {
-            return Err(TreeError::Failed);
-        };
-        if count == 0 {
-            return Ok(names);
-        }
-        add_names(alloc, &chunk[..count], &mut names)?;
-    }
-    Err(TreeError::Failed)
-}
-
-/// Adds the names of a piece of a listing, in which a NUL ends each of them, all but those of the folder itself and of
-/// the one above it.
-fn add_names(alloc: Global, piece: &[u8], names: &mut Vec<String>) -> Result<(), TreeError>
-    requires { vec_len names.old ≤ 1048576 }
-    ensures within { vec_len names.new ≤ 1048576 }
-    ensures kept { vec_len names.old ≤ vec_len names.new }
-{
-    for name in piece.split(|byte| *byte == 0) {
-        if name.is_empty() || name == b".".as_slice() || name == b"..".as_slice() {
-            continue;
-        }
-        let Ok(text) = std::str::from_utf8(name) else {
-            return Err(TreeError::Failed);
-        };
-        if names.len() >= MAX_ENTRIES {
-            return Err(TreeError::Failed);
-        }
-        names.push(String::from_str(alloc, text)?)?;
-    }
-    Ok(())
-}
-
-/// The first `limit` bytes of a file. Any other kind of thing, a folder or a FIFO say, is a fault and is not opened.
-fn read_file<R: Files>(rt: &R, alloc: Global, name: &str, limit: u32) -> Result<Vec<u8>, TreeError>
-    ensures { IfOk result (λ bytes. length bytes.items ≤ limit) }
-{
-    if is_no_file(&rt.metadata(name)) {
-        return Err(TreeError::Failed);
-    }
-    let Ok(mut file) = File::open(rt, name) else {
-        return Err(TreeError::Failed);
-    };
-    read_front(alloc, &mut file, limit)
-}
-
-/// The first `limit` bytes that a reader gives. A read of nothing is the end of them, and an Err is a fault.
-fn read_front<F: Read>(alloc: Global, file: &mut F, limit: u32) -> Result<Vec<u8>, TreeError>
-    ensures few { IfOk result (λ bytes. length bytes.items ≤ limit) }
-    ensures given { IfOk result (λ bytes. Consumes (F.remaining file.old) (F.remaining file.new) bytes.items) }
-    ensures whole { IfOk result (λ bytes. length bytes.items < limit → IsAtEnd (F.remaining file.new)) }
-{
-    let mut bytes = Vec::new(alloc);
-    let mut chunk = [0; CHUNK_BYTES];
-    let most = limit as usize;
-    while bytes.len() < most {
-        let wanted = (most - bytes.len()).min(CHUNK_BYTES);
-        let Ok(count) = file.read(&mut chunk[..wanted]) else {
-            return Err(TreeError::Failed);
-        };
-        if count == 0 {
-            break;
-        }
-        bytes.extend_from_slice(&chunk[..count])?;
-    }
-    Ok(bytes)
-}
-
-/// Whether the system answers that a name is there and is no regular file. A symbolic link counts as what it leads to.
-fn is_no_file(answer: &io::Result<Metadata>) -> bool
-    ensures { IsTrue result ↔ IsOkAnd answer.now (λ found. ¬ IsFile (file_type found)) }
-{
-    match answer {
-        Ok(found) => !found.is_file(),
-        Err(_) => false,
-    }
-}
-
-/// Makes a file hold just these bytes. A write that takes nothing is a fault. Any other kind of thing is a fault too,
-/// and is not opened.
-fn write_file<R: Files>(rt: &R, name: &str, bytes: &[u8]) -> Result<(), Failed> {
-    if is_no_file(&rt.metadata(name)) {
-        return Err(Failed);
-    }
-    let Ok(mut file) = File::create(rt, name) else {
-        return Err(Failed);
-    };
-    write_whole(&mut file, bytes)
-}
-
-/// Gives a writer all the bytes. A write that takes nothing is a fault.
-fn write_whole<W: Write>(file: &mut W, bytes: &[u8]) -> Result<(), Failed>
-    ensures { OnOk result (Appends (W.contents file.old) (W.contents file.new) bytes.now) }
-{
-    let mut rest = bytes;
-    while !rest.is_empty() {
-        let Ok(count) = file.write(rest) else {
-            return Err(Failed);
-        };
-        if count == 0 {
-            return Err(Failed);
-        }
-        rest = behind(rest, count);
-    }
-    file.flush().map_err(|_| Failed)
-}
-
-/// The bytes behind the first `count`.
-fn behind(bytes: &[u8], count: usize) -> &[u8]
-    requires { count ≤ length bytes.now }
-    ensures { result.now ≡ drop count bytes.now }
-{
-    &bytes[count..]
 }
 
 /// Writes all the bytes to the standard output. A write that takes nothing is a fault.

@@ -3,8 +3,12 @@
 #![tactic(auto)]
 
 mod counts;
+mod disk;
 mod distinct;
 mod host;
+mod host_disk;
+mod host_reads;
+mod host_writes;
 mod mem_sink;
 mod mem_tree;
 mod outside;
@@ -12,8 +16,10 @@ mod slot;
 mod sound_tree;
 mod store;
 
+pub use disk::{Disk, Found, Node};
 pub use distinct::have_distinct_names;
 pub use host::{HostSink, HostTree};
+pub use host_disk::HostDisk;
 pub use mem_sink::MemSink;
 pub use mem_tree::MemTree;
 pub use outside::{Sink, Tree, TreeError};

@@ -5,8 +5,12 @@
 //! empty again. The kinds are in [`readings::answer`].
 #![tactic(auto)]
 
+mod expression_outline;
 mod expressions;
 mod files;
+mod module_outline;
+mod outline;
+mod pattern_outline;
 mod patterns;
 mod readings;
 mod refusals;

@@ -3,8 +3,12 @@
 ghost use Rattle.std.specs.Prelude.{◌≤◌, length};
 ghost use Rattle.rotor_base.specs.Limits.{max_file_bytes};
 
+use crate::expression_outline::expression;
 use crate::expressions::expression_text;
 use crate::files::tree_text;
+use crate::module_outline::file;
+use crate::outline::Outline;
+use crate::pattern_outline::pattern;
 use crate::patterns::production;
 use crate::refusals::{deep_text, fault_text, form_text, refusal_text, unread_text};
 use ml_lexer::{LexError, lex};
@@ -17,7 +21,8 @@ use std::fmt::Write;
 
 /// What a text is read as: its lexemes (`tokens`), its first refused form (`forms`), its first token that is nested too
 /// deep (`depth`), the pattern, Simple pattern, declaration or expression that it begins with (`pat`, `simple`, `decl`,
-/// `seq`), or its tree as a file (`body`, `face`).
+/// `seq`), or its tree as a file (`body`, `face`); the whole tree of these (`tree-pat`, `tree-seq`, `tree-body`,
+/// `tree-face`).
 pub fn answer(alloc: Global, kind: &str, source: &[u8]) -> Result<String, AllocError> {
     if source.len() > MAX_FILE_BYTES as usize {
         return String::from_str(alloc, "too long");
@@ -52,6 +57,10 @@ fn reading(alloc: Global, kind: &str, tokens: &[Token]) -> Result<String, AllocE
         "seq" => expression_at(alloc, tokens),
         "body" => file_of(alloc, tokens, FileKind::Body),
         "face" => file_of(alloc, tokens, FileKind::Face),
+        "tree-pat" => pattern_tree(alloc, tokens),
+        "tree-seq" => expression_tree(alloc, tokens),
+        "tree-body" => file_tree(alloc, tokens, FileKind::Body),
+        "tree-face" => file_tree(alloc, tokens, FileKind::Face),
         _ => String::from_str(alloc, "no request"),
     }
 }
@@ -101,6 +110,48 @@ fn file_of(alloc: Global, tokens: &[Token], kind: FileKind) -> Result<String, Al
 {
     match parse_file(alloc, tokens, 0, kind) {
         Ok(tree) => tree_text(alloc, &tree),
+        Err(error) => refusal_text(alloc, error),
+    }
+}
+
+/// The first pattern as a whole.
+fn pattern_tree(alloc: Global, tokens: &[Token]) -> Result<String, AllocError>
+    requires { length tokens.now ≤ max_file_bytes }
+{
+    match parse_pat(alloc, tokens, 0) {
+        Ok((pat, _)) => {
+            let mut out = Outline::new(alloc);
+            pattern(&mut out, &pat);
+            out.finish()
+        }
+        Err(error) => refusal_text(alloc, error),
+    }
+}
+
+/// The first expression as a whole.
+fn expression_tree(alloc: Global, tokens: &[Token]) -> Result<String, AllocError>
+    requires { length tokens.now ≤ max_file_bytes }
+{
+    match parse_seq(alloc, tokens, 0) {
+        Ok((expr, _)) => {
+            let mut out = Outline::new(alloc);
+            expression(&mut out, &expr);
+            out.finish()
+        }
+        Err(error) => refusal_text(alloc, error),
+    }
+}
+
+/// The file as a whole.
+fn file_tree(alloc: Global, tokens: &[Token], kind: FileKind) -> Result<String, AllocError>
+    requires { length tokens.now ≤ max_file_bytes }
+{
+    match parse_file(alloc, tokens, 0, kind) {
+        Ok(tree) => {
+            let mut out = Outline::new(alloc);
+            file(&mut out, &tree);
+            out.finish()
+        }
         Err(error) => refusal_text(alloc, error),
     }
 }

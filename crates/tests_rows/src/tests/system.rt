@@ -2,11 +2,11 @@
 use project_load::load;
 use rotor_base::{LoadError, SourceFile};
 use std::alloc::{Allocator, Global};
-use std::fs::{Files, Metadata, OpenOptions};
+use std::fs::{File, Files, Metadata, OpenOptions};
 use std::process::Abort;
 use std::test::Fail;
 use std::{fs, io};
-use tree_io::HostTree;
+use tree_io::{HostDisk, HostTree};
 
 /// The answer of a load.
 #[derive(Clone, Copy)]
@@ -126,7 +126,7 @@ fn loaded_folder(rt: HostRuntime) -> Result<(), Fail> {
 }
 
 /// Loads with listings that a folder in memory cannot have.
-fn odd_names<R: Abort + Files>(rt: &R, alloc: Global) -> Result<(), Fail> {
+fn odd_names<R: Abort + Files<File = File>>(rt: &R, alloc: Global) -> Result<(), Fail> {
     fs::write(rt, "a.ml", "let x = 1")?;
     // A name that is listed twice is loaded once; one that is no UTF-8 is a fault, a source or not.
     let cases: [(&[u8], Wanted); 4] = [
@@ -140,7 +140,7 @@ fn odd_names<R: Abort + Files>(rt: &R, alloc: Global) -> Result<(), Fail> {
     ];
     for (names, wanted) in cases {
         let listed = Listed { rt, names };
-        let mut tree = HostTree::new(&listed);
+        let mut tree = HostTree::over(alloc, HostDisk::new(&listed));
         assert!(rt; is_wanted(&load(alloc, &mut tree), &wanted), "{names:?}");
     }
     fs::remove_file(rt, "a.ml")?;

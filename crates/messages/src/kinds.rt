@@ -1,0 +1,88 @@
+//! The kinds of messages.
+ghost use Rattle.std.specs.Prelude.{◌≡◌};
+ghost use Rattle.messages.specs.Kind.{kind_text as kind_text_of};
+
+/// The kind of a message, which stands in brackets behind its sentence.
+#[derive(Clone, Copy)]
+pub enum Kind {
+    TooMany,
+    TooLarge,
+    DoubleUnit,
+    BadManifest,
+    Lex,
+    LongName,
+    Form,
+    Deep,
+    Syntax,
+    Cycle,
+    Duplicate,
+    Heavy,
+    Unmatched,
+    NoTarget,
+    Operator,
+    BadName,
+    SameName,
+    Outside,
+    Pun,
+    Blurred,
+    Grown,
+    Clash,
+    Capture,
+    Mislink,
+    BadPlan,
+    BadList,
+    BadBatch,
+    Sources,
+    Bytes,
+    Fixed,
+    Place,
+    Indexing,
+    Types,
+    Opened,
+    Order,
+    Comment,
+}
+
+/// The word of a kind.
+pub fn kind_text(kind: Kind) -> &'static str
+    ensures { result.now ≡ kind_text_of kind }
+{
+    match kind {
+        Kind::TooMany => "toomany",
+        Kind::TooLarge => "toolarge",
+        Kind::DoubleUnit => "doubleunit",
+        Kind::BadManifest => "badmanifest",
+        Kind::Lex => "lex",
+        Kind::LongName => "longname",
+        Kind::Form => "form",
+        Kind::Deep => "deep",
+        Kind::Syntax => "syntax",
+        Kind::Cycle => "cycle",
+        Kind::Duplicate => "duplicate",
+        Kind::Heavy => "heavy",
+        Kind::Unmatched => "unmatched",
+        Kind::NoTarget => "notarget",
+        Kind::Operator => "operator",
+        Kind::BadName => "badname",
+        Kind::SameName => "samename",
+        Kind::Outside => "outside",
+        Kind::Pun => "pun",
+        Kind::Blurred => "blurred",
+        Kind::Grown => "grown",
+        Kind::Clash => "clash",
+        Kind::Capture => "capture",
+        Kind::Mislink => "mislink",
+        Kind::BadPlan => "badplan",
+        Kind::BadList => "badlist",
+        Kind::BadBatch => "badbatch",
+        Kind::Sources => "sources",
+        Kind::Bytes => "bytes",
+        Kind::Fixed => "fixed",
+        Kind::Place => "place",
+        Kind::Indexing => "indexing",
+        Kind::Types => "types",
+        Kind::Opened => "opened",
+        Kind::Order => "order",
+        Kind::Comment => "comment",
+    }
+}

@@ -1,0 +1,5 @@
+pub mod Cuts
+pub mod Sides
+pub mod Given
+pub mod Single
+pub mod Texts

@@ -1,0 +1,5 @@
+pub mod Pairs
+pub mod Runs
+pub mod Hunks
+pub mod Patched
+pub mod Laws

@@ -1,0 +1,4 @@
+mod disk;
+mod known;
+mod looks;
+mod writes;

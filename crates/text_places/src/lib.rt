@@ -1,0 +1,11 @@
+//! Lines and columns of a text, both ways: the byte that a line and a column name, and the line and column of a byte.
+#![tactic(auto)]
+
+mod counting;
+mod front;
+mod laws;
+mod walk;
+
+pub use counting::{Counting, Position};
+pub use laws::offsets_come_back;
+pub use walk::{offset_of, position_of, positions_of};
