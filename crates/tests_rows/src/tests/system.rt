@@ -42,6 +42,12 @@ fn are_sources(files: &[SourceFile], sources: &[(&str, &str)]) -> bool {
     true
 }
 
+/// Whether the folder of a system loads so.
+fn loads_as<R: Files<File = File>>(alloc: Global, system: &R, wanted: &Wanted) -> bool {
+    let mut tree = HostTree::over(alloc, HostDisk::new(system));
+    is_wanted(&load(alloc, &mut tree), wanted)
+}
+
 /// The system's files, with a listing of its own.
 #[derive(Clone, Copy)]
 struct Listed<'a, R> {
@@ -139,9 +145,10 @@ fn odd_names<R: Abort + Files<File = File>>(rt: &R, alloc: Global) -> Result<(),
         (b"a.ml\0b.ml\0", Wanted::Read),
     ];
     for (names, wanted) in cases {
-        let listed = Listed { rt, names };
-        let mut tree = HostTree::over(alloc, HostDisk::new(&listed));
-        assert!(rt; is_wanted(&load(alloc, &mut tree), &wanted), "{names:?}");
+        assert!(rt;
+            loads_as(alloc, &Listed { rt, names }, &wanted),
+            "{names:?}"
+        );
     }
     fs::remove_file(rt, "a.ml")?;
     Ok(())
