@@ -1,4 +1,4 @@
-ghost use Rattle.std.specs.Prelude.{◌≡◌};
+ghost use Rattle.std.specs.Prelude.{◌≡◌, ◌∷◌, ℕ, List};
 ghost use Rattle.ml_syntax.specs.Tok.{fixed_of, fixed_among};
 
 use rotor_base::{Class, Token};
@@ -82,82 +82,102 @@ pub enum Fixed {
     Question,
 }
 
-/// How each of them is spelled.
-const SPELLINGS: [(&str, Fixed); 66] = [
-    ("and", Fixed::And),
-    ("as", Fixed::As),
-    ("assert", Fixed::Assert),
-    ("begin", Fixed::Begin),
-    ("constraint", Fixed::Constraint),
-    ("do", Fixed::Do),
-    ("done", Fixed::Done),
-    ("downto", Fixed::Downto),
-    ("else", Fixed::Else),
-    ("end", Fixed::End),
-    ("exception", Fixed::Exception),
-    ("external", Fixed::External),
-    ("false", Fixed::False),
-    ("for", Fixed::For),
-    ("fun", Fixed::Fun),
-    ("function", Fixed::Function),
-    ("functor", Fixed::Functor),
-    ("if", Fixed::If),
-    ("in", Fixed::In),
-    ("include", Fixed::Include),
-    ("lazy", Fixed::Lazy),
-    ("let", Fixed::Let),
-    ("match", Fixed::Match),
-    ("module", Fixed::Module),
-    ("mutable", Fixed::Mutable),
-    ("nonrec", Fixed::Nonrec),
-    ("of", Fixed::Of),
-    ("open", Fixed::Open),
-    ("private", Fixed::Private),
-    ("rec", Fixed::Rec),
-    ("sig", Fixed::Sig),
-    ("struct", Fixed::Struct),
-    ("then", Fixed::Then),
-    ("to", Fixed::To),
-    ("true", Fixed::True),
-    ("try", Fixed::Try),
-    ("type", Fixed::Type),
-    ("val", Fixed::Val),
-    ("when", Fixed::When),
-    ("while", Fixed::While),
-    ("with", Fixed::With),
-    ("_", Fixed::Underscore),
-    ("(", Fixed::LeftParen),
-    (")", Fixed::RightParen),
-    ("[", Fixed::LeftBracket),
-    ("]", Fixed::RightBracket),
-    ("{", Fixed::LeftBrace),
-    ("}", Fixed::RightBrace),
-    ("[|", Fixed::LeftArray),
-    ("|]", Fixed::RightArray),
-    ("[<", Fixed::LeftLess),
-    ("[>", Fixed::LeftGreater),
-    (";", Fixed::Semicolon),
-    (";;", Fixed::DoubleSemicolon),
-    (",", Fixed::Comma),
-    (".", Fixed::Dot),
-    ("..", Fixed::DotDot),
-    (":", Fixed::Colon),
-    ("::", Fixed::ColonColon),
-    (":>", Fixed::ColonGreater),
-    ("->", Fixed::Arrow),
-    ("<-", Fixed::LeftArrow),
-    ("|", Fixed::Bar),
-    ("=", Fixed::Equals),
-    ("~", Fixed::Tilde),
-    ("?", Fixed::Question),
-];
+/// How each of them that begins with this byte is spelled.
+#[tactic(auto, unfolding(crate::specs::Tok::fixed_of))]
+fn spellings(first: u8) -> &'static [(&'static str, Fixed)]
+    ensures { (rest : List ℕ) → fixed_among (λ s. s.0.now) (λ s. s.1) (first ∷ rest) result.now ≡ fixed_of (first ∷ rest) }
+{
+    match first {
+        b'a' => &[
+            ("and", Fixed::And),
+            ("as", Fixed::As),
+            ("assert", Fixed::Assert),
+        ],
+        b'b' => &[("begin", Fixed::Begin)],
+        b'c' => &[("constraint", Fixed::Constraint)],
+        b'd' => &[
+            ("do", Fixed::Do),
+            ("done", Fixed::Done),
+            ("downto", Fixed::Downto),
+        ],
+        b'e' => &[
+            ("else", Fixed::Else),
+            ("end", Fixed::End),
+            ("exception", Fixed::Exception),
+            ("external", Fixed::External),
+        ],
+        b'f' => &[
+            ("false", Fixed::False),
+            ("for", Fixed::For),
+            ("fun", Fixed::Fun),
+            ("function", Fixed::Function),
+            ("functor", Fixed::Functor),
+        ],
+        b'i' => &[
+            ("if", Fixed::If),
+            ("in", Fixed::In),
+            ("include", Fixed::Include),
+        ],
+        b'l' => &[("lazy", Fixed::Lazy), ("let", Fixed::Let)],
+        b'm' => &[
+            ("match", Fixed::Match),
+            ("module", Fixed::Module),
+            ("mutable", Fixed::Mutable),
+        ],
+        b'n' => &[("nonrec", Fixed::Nonrec)],
+        b'o' => &[("of", Fixed::Of), ("open", Fixed::Open)],
+        b'p' => &[("private", Fixed::Private)],
+        b'r' => &[("rec", Fixed::Rec)],
+        b's' => &[("sig", Fixed::Sig), ("struct", Fixed::Struct)],
+        b't' => &[
+            ("then", Fixed::Then),
+            ("to", Fixed::To),
+            ("true", Fixed::True),
+            ("try", Fixed::Try),
+            ("type", Fixed::Type),
+        ],
+        b'v' => &[("val", Fixed::Val)],
+        b'w' => &[
+            ("when", Fixed::When),
+            ("while", Fixed::While),
+            ("with", Fixed::With),
+        ],
+        b'_' => &[("_", Fixed::Underscore)],
+        b'(' => &[("(", Fixed::LeftParen)],
+        b')' => &[(")", Fixed::RightParen)],
+        b'[' => &[
+            ("[", Fixed::LeftBracket),
+            ("[|", Fixed::LeftArray),
+            ("[<", Fixed::LeftLess),
+            ("[>", Fixed::LeftGreater),
+        ],
+        b']' => &[("]", Fixed::RightBracket)],
+        b'{' => &[("{", Fixed::LeftBrace)],
+        b'}' => &[("}", Fixed::RightBrace)],
+        b'|' => &[("|]", Fixed::RightArray), ("|", Fixed::Bar)],
+        b';' => &[(";", Fixed::Semicolon), (";;", Fixed::DoubleSemicolon)],
+        b',' => &[(",", Fixed::Comma)],
+        b'.' => &[(".", Fixed::Dot), ("..", Fixed::DotDot)],
+        b':' => &[
+            (":", Fixed::Colon),
+            ("::", Fixed::ColonColon),
+            (":>", Fixed::ColonGreater),
+        ],
+        b'-' => &[("->", Fixed::Arrow)],
+        b'<' => &[("<-", Fixed::LeftArrow)],
+        b'=' => &[("=", Fixed::Equals)],
+        b'~' => &[("~", Fixed::Tilde)],
+        b'?' => &[("?", Fixed::Question)],
+        _ => &[],
+    }
+}
 
 /// The fixed word that a keyword or mark is, or none, as for an operator.
-#[tactic(auto, unfolding(crate::specs::Tok::fixed_of))]
 pub fn fixed_word(bytes: &[u8]) -> Option<Fixed>
     ensures { result ≡ fixed_of bytes.now }
 {
-    among(bytes, &SPELLINGS)
+    let first = bytes.first()?;
+    among(bytes, spellings(*first))
 }
 
 /// The first that is spelled so.
