@@ -1,4 +1,5 @@
--- The comparison of facts: the first clash, capture or mislink between a project and the one that it was.
+-- The comparison of facts: the first clash, capture or mislink between a project and the one that
+-- it was (own).
 use Rattle.std.specs.Prelude.{ℕ, List, Option, Some, None, Contains, slice_get, ◌≡◌, ◌≢◌, ◌≤◌, ◌⊎◌}
 use Rattle.rotor_base.specs.declared.place.Place.{Place}
 use Rattle.rotor_base.specs.declared.place.Goal.{Goal}

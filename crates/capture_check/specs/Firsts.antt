@@ -1,4 +1,4 @@
--- The first change and the first repeat, as answers.
+-- The first change and the first repeat, as answers (own).
 use Rattle.std.specs.Prelude.{ℕ, Bool, List, ◌||◌, ◌&&◌, Option, Some, None, ◌≡◌, ◌≢◌, if◌then◌else◌}
 use Rattle.rotor_base.specs.declared.place.Place.{Place}
 use Rattle.rotor_base.specs.declared.place.Goal.{Goal}

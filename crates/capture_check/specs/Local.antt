@@ -1,4 +1,5 @@
--- The local criterion: the first fault, as the facts and the looks of the old project give it.
+-- The local criterion: the first fault, as the facts and the looks of the old project give it
+-- (own).
 use Rattle.std.specs.Prelude.{◌≡◌, List, Option, None, if◌then◌else◌}
 use Rattle.rotor_base.specs.declared.place.Goal.TheVariants.{Decl}
 use Rattle.rotor_base.specs.declared.looks.Watch.{Watch}

@@ -1,4 +1,4 @@
--- Tables of names.
+-- Tables of names (own).
 use Rattle.std.specs.Prelude.{ℕ, List, [], ◌∷◌, Option, Some, None, unwrap_or, ◌≡◌, ◌&&◌, if◌then◌else◌}
 use Rattle.std.specs.BTreeMap.{BTreeMap, get}
 use Rattle.rotor_base.specs.declared.place.Place.{Place}

@@ -1,4 +1,4 @@
--- Would, by the tables that `local_fault` makes of a footprint and of looks.
+-- Would, by the tables that `local_fault` makes of a footprint and of looks (own).
 use Rattle.std.specs.Prelude.{ℕ, suc, Bool, false, List, [], ◌∷◌, Option, Some, None, map, ◌≡◌, ◌||◌, if◌then◌else◌}
 use Rattle.std.specs.BTreeMap.{BTreeMap, get}
 use Rattle.std.specs.BTreeSet.{BTreeSet, contains}

@@ -35,6 +35,9 @@ pub fn first_repeat(
 fn repeat_in(alloc: Global, names: &NameTable, group: &[Place]) -> Result<Option<Repeat>, Memory>
     ensures { IfOk result (IsFirstRepeat (named names.now) (group.now ∷ [])) }
 {
+    if group.len() < 2 {
+        return Ok(None);
+    }
     let mut seen = Names::new(alloc);
     let mut least = None;
     for place in group {

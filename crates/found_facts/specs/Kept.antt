@@ -1,4 +1,5 @@
--- The state of a resolver at its start, and what a recorder has at the end, in the order of places.
+-- The state of a resolver at its start, and what a recorder has at the end, in the order of places
+-- (own).
 use Rattle.std.specs.Prelude.{[], Option, Some, None}
 use Rattle.rotor_base.specs.declared.looks.Looks.{Looks}
 use Rattle.binding_model.specs.declared.found.Sums.{Sums}

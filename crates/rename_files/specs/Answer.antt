@@ -1,4 +1,4 @@
--- Answer: what `check`, `footprint` and `rename` answer over the files of a folder.
+-- Answer: what `check`, `footprint` and `rename` answer over the files of a folder (own).
 use Rattle.std.specs.Prelude.{◌≡◌, ◌⊎◌, List, Result, Ok, Err}
 use Rattle.rotor_base.specs.declared.place.Place.{Place}
 use Rattle.rotor_base.specs.declared.place.Foot.{Foot}

@@ -1,4 +1,4 @@
--- Law: each answer is one.
+-- Law: each answer is one (own).
 use Rattle.std.specs.Prelude.{◌≡◌, Result}
 use Rattle.rotor_base.specs.declared.refusal.Refusal.{Refusal}
 use Rattle.rotor_base.specs.declared.report.Counts.{Counts}

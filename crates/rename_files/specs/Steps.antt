@@ -1,4 +1,4 @@
--- The last refusals of a renaming.
+-- The last refusals of a renaming (own).
 use Rattle.std.specs.Prelude.{List}
 use Rattle.rotor_base.specs.declared.refusal.Refusal.{Refusal}
 use Rattle.rotor_base.specs.declared.looks.Watch.{Watch}

@@ -7,11 +7,12 @@ ghost use Rattle.rename_project.specs.Steps.{IsRefusedFor};
 use crate::judge::judge;
 use dependency_kernel::footprint;
 use project_reading::read_project;
-use rename_parts::{binder_places, count_refs, set_of};
+use rename_parts::{binder_places, count_refs};
 use rename_project::{find_aim, resolve};
 use rename_steps::{changed_files, remake};
 use rotor_base::{Counts, Files, FootReport, Name, Refusal, Renamed, Row, Target, Watch};
 use std::alloc::Global;
+use watched::set_of;
 
 /// What a project has: its files, units, declarations, references and links.
 ///

@@ -3,7 +3,6 @@ pub mod Spots
 pub mod Walks
 pub mod Earliest
 pub mod Marks
-pub mod Sets
 pub mod Hitting
 pub mod Words
 pub mod Blurring

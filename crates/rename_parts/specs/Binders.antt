@@ -1,4 +1,4 @@
--- The binders of a project, as a search finds them.
+-- The binders of a project, as a search finds them (own).
 use Rattle.std.specs.Prelude.{◌≡◌, List, Option, Some, None, true, filter}
 use Rattle.rotor_base.specs.declared.place.Place.{Place}
 use Rattle.ml_syntax.specs.declared.place.Mark.{Mark}

@@ -1,4 +1,4 @@
--- Where outside modules hide a member of a footprint, as a scan finds it.
+-- Where outside modules hide a member of a footprint, as a scan finds it (own).
 use Rattle.std.specs.Prelude.{◌≡◌, ◌⊎◌, List, Contains, Option, Some, None, if◌then◌else◌}
 use Rattle.std.specs.BTreeSet.{BTreeSet, contains}
 use Rattle.rotor_base.specs.declared.place.Place.{Place}

@@ -1,4 +1,4 @@
--- The places of a project that take a new word, with what is there.
+-- The places of a project that take a new word, with what is there (own).
 use Rattle.std.specs.Prelude.{ℕ, suc, List, [], ◌∷◌, ◌++◌, Bool, true, false, not, map, filter, if◌then◌else◌, ◌&&◌}
 use Rattle.std.specs.BTreeSet.{BTreeSet, contains}
 use Rattle.rotor_base.specs.declared.place.Place.{Place}

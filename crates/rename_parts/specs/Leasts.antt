@@ -1,4 +1,4 @@
--- The least place with a property, if there is one.
+-- The least place with a property, if there is one (own).
 use Rattle.std.specs.Prelude.{Option, Some, None}
 use Rattle.rotor_base.specs.declared.place.Place.{Place}
 use Rattle.rename_model.specs.Ladder.{IsLeast}

@@ -1,16 +1,12 @@
--- Sets of places.
-use Rattle.std.specs.Prelude.{◌≡◌, List, Bool, false}
-use Rattle.std.specs.List.{list_any}
-use Rattle.rotor_base.specs.Place.{same_place, place_cmp}
+-- Sets of places (own).
+use Rattle.std.specs.Prelude.{Bool, false}
+use Rattle.rotor_base.specs.Place.{place_cmp}
 use Rattle.std.specs.BTreeSet.{BTreeSet, contains}
 use Rattle.rotor_base.specs.declared.place.Foot.{Foot}
+use Rattle.watched.specs.Members.{HasPlaces}
 use Rattle.rotor_base.specs.declared.place.Place.{Place}
 use Rattle.rotor_base.specs.declared.place.Goal.{Goal}
 use Rattle.rotor_base.specs.declared.place.Goal.TheVariants.{Decl}
-
--- the set has these places, and no more
-abbrev pub HasPlaces : List Place → BTreeSet Place → Type 0
-HasPlaces ps set = (p : Place) → contains place_cmp set p ≡ list_any (same_place p) ps
 
 -- the set has the members of a footprint, and no more
 abbrev pub IsSetOf : Foot → BTreeSet Place → Type 0

@@ -3,22 +3,11 @@
 ghost use Rattle.std.specs.Prelude.{◌≡◌, IfOk, length};
 ghost use Rattle.rotor_base.specs.declared.place.Foot.{Foot};
 ghost use Rattle.rename_model.specs.Foot.{hits, refs_to};
-ghost use Rattle.rename_parts.specs.Members.{HasPlaces, IsSetOf, leads_into};
+ghost use Rattle.rename_parts.specs.Members.{IsSetOf, leads_into};
 
 use rotor_base::{Foot, Goal, Memory, Place, Ref};
 use std::alloc::Global;
 use std::collections::BTreeSet;
-
-/// Some places, as a set.
-pub fn set_of(alloc: Global, places: &[Place]) -> Result<BTreeSet<Place>, Memory>
-    ensures { IfOk result (HasPlaces places.now) }
-{
-    let mut set = BTreeSet::new(alloc);
-    for place in places {
-        set.insert(*place)?;
-    }
-    Ok(set)
-}
 
 /// The places that take the new word: the members of a footprint, and the references to them.
 pub fn hit_places(

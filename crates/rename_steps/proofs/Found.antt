@@ -27,7 +27,8 @@ use Rattle.rename_parts.specs.declared.checks.Hit.{Hit}
 use Rattle.rename_parts.specs.Blurs.{in_set, behind_in, item_in, blurred_item, place_if, BlursRef, BlursLink}
 use Rattle.rename_parts.specs.Hits.{hit_of, hits_in, all_hits}
 use Rattle.rename_parts.specs.Leasts.{IsLeastOrNone}
-use Rattle.rename_parts.specs.Members.{HasPlaces, IsSetOf}
+use Rattle.watched.specs.Members.{HasPlaces}
+use Rattle.rename_parts.specs.Members.{IsSetOf}
 use Rattle.rename_parts.proofs.Earliest.{least_same}
 use Rattle.rename_steps.proofs.Having.{Has, has_as, has_left, has_right, has_split, has_mapped, has_unmapped, has_filtered, has_unfiltered, has_any}
 use Rattle.rename_steps.proofs.Having.{any_has, has_contained, contained_has, has_each}

@@ -18,7 +18,8 @@ use Rattle.rename_parts.specs.declared.checks.Hit.{Hit}
 use Rattle.rename_parts.specs.Blurs.{BlursRef, BlursLink}
 use Rattle.rename_parts.specs.Hits.{all_hits}
 use Rattle.rename_parts.specs.Leasts.{IsLeastOrNone}
-use Rattle.rename_parts.specs.Members.{HasPlaces, IsSetOf}
+use Rattle.watched.specs.Members.{HasPlaces}
+use Rattle.rename_parts.specs.Members.{IsSetOf}
 use Rattle.rename_steps.specs.declared.findings.Findings.{Findings}
 use Rattle.rename_steps.specs.Findings.{refusal_of}
 use Rattle.rename_steps.proofs.Found.{operator_met, operator_none, pun_least, blurred_least}

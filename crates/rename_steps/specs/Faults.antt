@@ -1,4 +1,4 @@
--- A fault of a renaming, as a refusal.
+-- A fault of a renaming, as a refusal (own).
 use Rattle.rotor_base.specs.declared.refusal.Refusal.{Refusal}
 use Rattle.rotor_base.specs.declared.refusal.Refusal.TheVariants as refusal
 use Rattle.capture_check.specs.declared.fault.Fault.{Fault}

@@ -1,4 +1,4 @@
--- What is found of a footprint before the new sources are made.
+-- What is found of a footprint before the new sources are made (own).
 use Rattle.std.specs.Prelude.{◌≡◌, ◌≢◌, ◌⊎◌, List, Option, Some, None, IsTrue, if◌then◌else◌}
 use Rattle.rotor_base.specs.declared.place.Place.{Place}
 use Rattle.rotor_base.specs.declared.place.Foot.{Foot}

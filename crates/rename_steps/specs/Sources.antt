@@ -1,4 +1,5 @@
--- The new sources, as they are made: the lower-case words at the places of a set take the new word.
+-- The new sources, as they are made: the lower-case words at the places of a set take the new word
+-- (own).
 use Rattle.std.specs.Prelude.{◌≡◌, ℕ, suc, List, [], ◌∷◌}
 use Rattle.std.specs.BTreeSet.{BTreeSet}
 use Rattle.rotor_base.specs.declared.place.Place.{Place}

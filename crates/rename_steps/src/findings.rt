@@ -12,14 +12,16 @@ ghost use Rattle.rename_model.specs.Foot.{hits};
 ghost use Rattle.rename_parts.specs.declared.checks.Hit.{Hit};
 ghost use Rattle.rename_parts.specs.Blurs.{BlursRef, BlursLink};
 ghost use Rattle.rename_parts.specs.Leasts.{IsLeastOrNone};
-ghost use Rattle.rename_parts.specs.Members.{HasPlaces, IsSetOf};
+ghost use Rattle.watched.specs.Members.{HasPlaces};
+ghost use Rattle.rename_parts.specs.Members.{IsSetOf};
 ghost use Rattle.rename_steps.specs.Findings.{IsFree, IsRefused, refusal_of};
 
 use ml_syntax::Project;
-use rename_parts::{Hit, has_operator, hit_marks, hit_places, least_blurred, least_pun, set_of};
+use rename_parts::{Hit, has_operator, hit_marks, hit_places, least_blurred, least_pun};
 use rotor_base::{Facts, Place, Refusal, Watch, is_name};
 use std::alloc::Global;
 use std::collections::BTreeSet;
+use watched::set_of;
 
 /// What is found of a footprint: whether its name is an operator, whether the new name is a value name and whether it
 /// is the old one, the least member that is linked with the outside, the least pun, and the least place at which an

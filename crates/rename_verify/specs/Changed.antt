@@ -1,4 +1,4 @@
--- A binder that takes another name.
+-- A binder that takes another name (own).
 use Rattle.rotor_base.specs.declared.place.Place.{Place}
 use Rattle.shape_core.specs.Shape.{Name}
 

@@ -1,4 +1,5 @@
--- Where two lists of files differ: in the names of the sources, in the manifest, or in the bytes of a source.
+-- Where two lists of files differ: in the names of the sources, in the manifest, or in the bytes
+-- of a source (own).
 use Rattle.std.specs.Prelude.{◌≡◌, ◌≢◌, ◌⊎◌, ℕ, List, Some, Contains, codes, slice_get, take}
 use Rattle.std.specs.Cmp.Lexicographic.{slice_cmp}
 use Rattle.std.specs.Ordering.{nat_cmp}

@@ -1,4 +1,4 @@
--- The binders that uses, links and Dark entries fix, as a scan of the facts finds them.
+-- The binders that uses, links and Dark entries fix, as a scan of the facts finds them (own).
 use Rattle.std.specs.Prelude.{◌≡◌, List, [], ◌∷◌, ◌++◌, Bool, true, Option, Some, None, Contains, flat_map, if◌then◌else◌}
 use Rattle.std.specs.BTreeSet.{BTreeSet, contains}
 use Rattle.rotor_base.specs.declared.place.Facts.{Facts}

@@ -1,4 +1,4 @@
--- The laws of verdicts.
+-- The laws of verdicts (own).
 use Rattle.std.specs.Prelude.{◌≡◌, ◌≢◌, ◌↔◌, List, Result, Ok, Err, Contains, map}
 use Rattle.std.specs.Global.{Vec}
 use Rattle.rotor_base.specs.declared.place.Place.{Place}

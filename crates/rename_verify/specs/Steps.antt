@@ -1,4 +1,4 @@
--- What the steps of `verify` give.
+-- What the steps of `verify` give (own).
 use Rattle.std.specs.Prelude.{◌≡◌, ℕ, List, Option, None, map}
 use Rattle.rotor_base.specs.Files.{FileSet}
 use Rattle.rotor_base.specs.declared.place.Facts.{Facts}

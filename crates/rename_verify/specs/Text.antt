@@ -1,4 +1,4 @@
--- The text of a verdict: its lines, each ended by LF.
+-- The text of a verdict: its lines, each ended by LF (own).
 use Rattle.std.specs.Prelude.{ℕ, List, [], ◌∷◌, map, length, codes, flat_map}
 use Rattle.rotor_base.specs.declared.report.Outcome.TheVariants.{Refused}
 use Rattle.rename_steps.specs.Faults.{refusal_of_fault}

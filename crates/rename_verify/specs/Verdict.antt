@@ -1,4 +1,5 @@
--- Verdict(old, new): whether one project is a valid respelling of another, and why it is not.
+-- Verdict(old, new): whether one project is a valid respelling of another, and why it is not
+-- (own).
 use Rattle.std.specs.Prelude.{◌≡◌, ℕ, List, Result, Ok, Err, map}
 use Rattle.rotor_base.specs.declared.place.Place.{Place}
 use Rattle.rotor_base.specs.declared.refusal.Refusal.{Refusal}

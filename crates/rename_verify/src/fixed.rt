@@ -8,17 +8,18 @@ ghost use Rattle.ml_syntax.specs.View.{view_project};
 ghost use Rattle.binding_model.specs.Facts.{earlier, facts as facts_of};
 ghost use Rattle.binding_model.specs.Renaming.{places, at_place, IsFixedSite};
 ghost use Rattle.rename_parts.specs.Leasts.{IsLeastOrNone};
-ghost use Rattle.rename_parts.specs.Members.{HasPlaces};
+ghost use Rattle.watched.specs.Members.{HasPlaces};
 ghost use Rattle.rename_verify.specs.Changed.{Changed};
 ghost use Rattle.rename_verify.specs.Fixed.{behind, fixed_by, fixed_by_link, fixed_by_ref, joined, HasFixedUses, IsLeastHeld};
 
 use crate::verdict::Change;
 use capture_check::is_before;
 use ml_syntax::Project;
-use rename_parts::{Hit, hit_marks, set_of};
+use rename_parts::{Hit, hit_marks};
 use rotor_base::{Facts, Goal, Link, Memory, Place, Ref};
 use std::alloc::Global;
 use std::collections::BTreeSet;
+use watched::set_of;
 
 /// The least of some changed binders that may not take another name: a use of it is an operator, or its word is a label
 /// or a field too; a link joins it with the outside; or an outside module may hide it. `Memory` is the only error.

@@ -13,14 +13,13 @@ ghost use Rattle.dependency_kernel.specs.Foot.{IsFoot};
 
 use crate::folder::load_sources;
 use crate::pieces::{Object, goal, place};
-use crate::watched::watch_target;
+use crate::watch::watch_target;
 use binding_model::same_groups;
 use capture_check::{Fault, first_fault, local_fault};
 use ml_lexer::lex;
 use ml_syntax::Project;
 use mod_shape::looks;
 use project_reading::read_project;
-use rename_parts::set_of;
 use rename_project::resolve_facts;
 use rename_steps::{judge_foot, new_source};
 use rotor_base::{
@@ -29,6 +28,7 @@ use rotor_base::{
 };
 use std::alloc::{AllocError, Global};
 use std::collections::BTreeSet;
+use watched::set_of;
 
 /// A renaming that is weighed: the places that take the new word, and the first fault by the looks.
 #[derive(Drop)]

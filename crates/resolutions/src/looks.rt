@@ -1,7 +1,7 @@
 //! The looks of a folder under a watch.
 
 use crate::pieces::{Object, goal, list, place, place_or_null};
-use crate::watched::watch_target;
+use crate::watch::watch_target;
 use mod_shape::looks;
 use rotor_base::{Files, LinkLook, Looks, Place, RefLook, Refusal, SourceFile, Target};
 use std::alloc::{AllocError, Global};

@@ -10,7 +10,7 @@ mod looks;
 mod pieces;
 mod request;
 mod respelled;
-mod watched;
+mod watch;
 
 use folder::Folder;
 use request::{Request, answer};

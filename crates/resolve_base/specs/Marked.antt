@@ -1,4 +1,4 @@
--- The values that are declared at places of a file, as entries of a scope.
+-- The values that are declared at places of a file, as entries of a scope (own).
 use Rattle.std.specs.Prelude.{ℕ, List, [], ◌∷◌}
 use Rattle.rotor_base.specs.declared.place.Goal.TheVariants.{Decl}
 use Rattle.ml_syntax.specs.declared.place.Mark.{Mark}

@@ -1,4 +1,4 @@
--- What single look-ups add to a recorder.
+-- What single look-ups add to a recorder (own).
 use Rattle.std.specs.Prelude.{ℕ, [], ◌∷◌, Option, Some, None, map, ◌++◌, ◌+◌}
 use Rattle.rotor_base.specs.declared.place.Place.{Place}
 use Rattle.rotor_base.specs.declared.place.Goal.{Goal}

@@ -10,10 +10,11 @@ ghost use Rattle.sig_match.specs.Matched.{listed};
 ghost use Rattle.resolve_base.specs.Recorded.{use_recorded, tie_recorded, joined_looks};
 
 use binding_model::Recorder;
-use rotor_base::{Goal, Looks, Memory, Place, RefLook, Watch};
+use rotor_base::{Goal, Looks, Memory, Place, RefLook};
 use shape_core::{Kind, Shared, SharedEntry, entries, kind};
-use sig_match::{Test, darks_of, last_where, look_of_value, match_looks, pin_looks};
+use sig_match::{Test, darks_of, last_where, look_of_value, watch_match, watch_pin};
 use std::alloc::Global;
+use watched::Watched;
 
 /// Records the look of a value that is looked up in a list. `Memory` is the only error.
 pub fn record_use(
@@ -36,7 +37,7 @@ pub fn record_use(
 
 /// The look of a reference, if it has the old or the new name.
 fn look_of_use(
-    watch: &Watch,
+    watch: &Watched,
     list: &[SharedEntry],
     at: Place,
     name: &[u8],
@@ -44,8 +45,8 @@ fn look_of_use(
 ) -> Option<RefLook>
     ensures { listed result ≡ ref_look watch.now at name.now goal (entries_of list.now) }
 {
-    let is_old = name == watch.old.as_bytes();
-    let is_new = name == watch.new.as_bytes();
+    let is_old = name == watch.as_watch().old.as_bytes();
+    let is_new = name == watch.as_watch().new.as_bytes();
     if !(is_old || is_new) {
         return None;
     }
@@ -94,7 +95,7 @@ pub fn record_match(
     let Some(recorder) = recorder else {
         return Ok(());
     };
-    let looks = match_looks(alloc, source, target, &recorder.watch)?;
+    let looks = watch_match(alloc, source, target, &recorder.watch)?;
     add_looks(&mut recorder.looks, &looks)
 }
 
@@ -110,7 +111,7 @@ pub fn record_pin(
     let Some(recorder) = recorder else {
         return Ok(());
     };
-    let looks = pin_looks(alloc, shape, &recorder.watch)?;
+    let looks = watch_pin(alloc, shape, &recorder.watch)?;
     add_looks(&mut recorder.looks, &looks)
 }
 

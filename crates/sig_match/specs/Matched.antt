@@ -1,4 +1,4 @@
--- The answers of a match and of a pinning.
+-- The answers of a match and of a pinning (own).
 use Rattle.std.specs.Prelude.{◌≡◌, ℕ, ◌<◌, ◌≤◌, List, [], ◌∷◌, map, Option, Some, None, Result, Ok, Err}
 use Rattle.rotor_base.specs.declared.place.Link.{Link}
 use Rattle.shape_core.specs.Links.{Trace, link}

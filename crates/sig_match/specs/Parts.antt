@@ -1,4 +1,4 @@
--- The parts of Match and Pin that walks go through one by one.
+-- The parts of Match and Pin that walks go through one by one (the OCaml manual, "Module types").
 use Rattle.std.specs.Prelude.{ℕ, Bool, true, false, List, [], ◌∷◌, Option, Some, None}
 use Rattle.shape_core.specs.Shape.{Shape, Struct, Functor, Unitary, Opaque, Entries, none, a_val, a_mod, a_mty, a_dark, unless_some, entries_from}
 use Rattle.shape_core.specs.Shape.{find_mod, find_mty}

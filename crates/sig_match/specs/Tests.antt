@@ -1,4 +1,4 @@
--- The tests of a value in Looks, and the look of a meeting.
+-- The tests of a value in Looks, and the look of a meeting (own).
 use Rattle.std.specs.Prelude.{◌≡◌, Option, Result, Ok, Err, map}
 use Rattle.rotor_base.specs.declared.looks.Looks.{Looks}
 use Rattle.sig_match.specs.declared.found.Found.{Found}

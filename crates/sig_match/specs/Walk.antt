@@ -1,4 +1,4 @@
--- What a walk over shapes finds: the traces of Match and Pin, kept as meetings.
+-- What a walk over shapes finds: the traces of Match and Pin, kept as meetings (own).
 use Rattle.std.specs.Prelude.{◌≡◌, ℕ, ◌<◌, ◌≤◌, List, [], ◌∷◌, ◌++◌, Option, Some, None, Result, Ok, Err}
 use Rattle.std.specs.Borrow.{Bor}
 use Rattle.rotor_base.specs.declared.place.Goal.{Goal}

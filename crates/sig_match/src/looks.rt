@@ -14,6 +14,7 @@ use crate::pinning::pin_shape;
 use rotor_base::{Goal, LinkLook, Looks, Memory, Place, Row, Watch};
 use shape_core::{Shared, SharedEntry, entries, make_struct};
 use std::alloc::Global;
+use watched::Watched;
 
 /// A test of a value by its name and its goal.
 #[derive(Clone, Copy)]
@@ -29,23 +30,13 @@ pub enum Test {
 /// A position in a list, the declaration there, and the number of Dark entries after it.
 pub type Spot = (u64, Place, u64);
 
-// Whether a goal is in the footprint.
-fn is_member(watch: &Watch, goal: Goal) -> bool
-    ensures { result ≡ pure.is_member watch.now goal }
-{
-    match goal {
-        Goal::Decl(place) => watch.foot.decls.as_slice().contains(&place),
-        _ => false,
-    }
-}
-
-fn passes(test: Test, watch: &Watch, name: &[u8], goal: Goal) -> bool
+fn passes(test: Test, watch: &Watched, name: &[u8], goal: Goal) -> bool
     ensures { result ≡ test_of test watch.now name.now goal }
 {
     match test {
-        Test::InFoot => is_member(watch, goal),
-        Test::OtherOld => name == watch.old.as_bytes() && !is_member(watch, goal),
-        Test::NamedNew => name == watch.new.as_bytes(),
+        Test::InFoot => watch.is_member(goal),
+        Test::OtherOld => name == watch.as_watch().old.as_bytes() && !watch.is_member(goal),
+        Test::NamedNew => name == watch.as_watch().new.as_bytes(),
     }
 }
 
@@ -61,7 +52,7 @@ fn place_of(goal: Goal) -> Place
 
 /// The last value of a list that a test accepts. The walk begins at the end of the list and stops at that value. It takes
 /// no memory.
-pub fn last_where(test: Test, watch: &Watch, list: &[SharedEntry]) -> Option<Spot>
+pub fn last_where(test: Test, watch: &Watched, list: &[SharedEntry]) -> Option<Spot>
     ensures { result ≡ pure.last_where (test_of test watch.now) (entries_of list.now) }
 {
     let mut darks = 0;
@@ -104,7 +95,7 @@ pub fn darks_of(list: &[SharedEntry]) -> (u64, Option<Place>)
 }
 
 // The last value of a source list that a test accepts; nothing if the link is pinned.
-fn source_where(test: Test, watch: &Watch, source: Option<&Shared>) -> Option<Spot>
+fn source_where(test: Test, watch: &Watched, source: Option<&Shared>) -> Option<Spot>
     ensures { result ≡ pure.source_where (test_of test watch.now) (list_in source.entry) }
 {
     match source {
@@ -124,7 +115,7 @@ fn source_darks(source: Option<&Shared>) -> (u64, Option<Place>)
     }
 }
 
-fn is_later(test: Test, watch: &Watch, rest: &[SharedEntry]) -> bool
+fn is_later(test: Test, watch: &Watched, rest: &[SharedEntry]) -> bool
     ensures { result ≡ is_some (pure.last_where (test_of test watch.now) (entries_of rest.now)) }
 {
     last_where(test, watch, rest).is_some()
@@ -144,12 +135,12 @@ pub fn look_of_value(
     rest: &[SharedEntry],
     source: Option<&Shared>,
     number: u64,
-    watch: &Watch,
+    watch: &Watched,
 ) -> Option<LinkLook>
     ensures { listed result ≡ pure.numbered number (pure.look watch.now name.now goal (entries_of rest.now) (list_in source.entry) ∷ []) }
 {
-    let is_old = name == watch.old.as_bytes();
-    let is_new = name == watch.new.as_bytes();
+    let is_old = name == watch.as_watch().old.as_bytes();
+    let is_new = name == watch.as_watch().new.as_bytes();
     if !(is_old || is_new) {
         return None;
     }
@@ -171,7 +162,7 @@ pub fn look_of_value(
 }
 
 // The look of a meeting.
-fn look_at(meeting: &Meeting, number: u64, watch: &Watch) -> Option<LinkLook>
+fn look_at(meeting: &Meeting, number: u64, watch: &Watched) -> Option<LinkLook>
     ensures { listed result ≡ pure.numbered number (map (look_of watch.now) (met_at meeting.now)) }
 {
     let list = entries(meeting.list);
@@ -206,7 +197,7 @@ fn count_at(meeting: &Meeting) -> u64
     }
 }
 
-fn looks_of(alloc: Global, meetings: &[Meeting], watch: &Watch) -> Result<Looks, Memory>
+fn looks_of(alloc: Global, meetings: &[Meeting], watch: &Watched) -> Result<Looks, Memory>
     ensures { IfOk result (λ looks. looks ≡ pure.looks_of (map (look_of watch.now) (mets meetings.now))) }
 {
     let mut links = Row::new(alloc);
@@ -230,7 +221,7 @@ fn looks_after(
     alloc: Global,
     walked: Result<(), Stop>,
     found: &Found,
-    watch: &Watch,
+    watch: &Watched,
 ) -> Result<Looks, Memory>
     ensures { IfOk result (HasLooks walked found.now watch.now) }
 {
@@ -241,13 +232,35 @@ fn looks_after(
 }
 
 /// Looks' part on the links of a source with a target: what each look-up of the old or of the new name would find. The
-/// links are numbered from 0. `Memory` is the only error: there is no memory, or the work of the match is more than
-/// 4,294,967,295.
+/// links are numbered from 0.
+///
+/// # Errors
+///
+/// `Memory` alone: there is no memory, or the work of the match is more than 4,294,967,295.
 pub fn match_looks(
     alloc: Global,
     src: &Shared,
     tgt: &Shared,
     watch: &Watch,
+) -> Result<Looks, Memory>
+    ensures { IfOk result (λ looks. looks ≡ pure.match_looks watch.now src.now tgt.now) }
+{
+    watch_match(alloc, src, tgt, &Watched::new(alloc, watch)?)
+}
+
+/// Looks' part on the links of a shape that is pinned; numbers and errors as for [`match_looks`].
+pub fn pin_looks(alloc: Global, shape: &Shared, watch: &Watch) -> Result<Looks, Memory>
+    ensures { IfOk result (λ looks. looks ≡ pure.pin_looks watch.now shape.now) }
+{
+    watch_pin(alloc, shape, &Watched::new(alloc, watch)?)
+}
+
+/// The looks of [`match_looks`], for a renaming that is watched already.
+pub fn watch_match(
+    alloc: Global,
+    src: &Shared,
+    tgt: &Shared,
+    watch: &Watched,
 ) -> Result<Looks, Memory>
     ensures { IfOk result (λ looks. looks ≡ pure.match_looks watch.now src.now tgt.now) }
 {
@@ -260,8 +273,8 @@ pub fn match_looks(
     looks_after(alloc, walked, &found, watch)
 }
 
-/// Looks' part on the links of a shape that is pinned; numbers and errors as for [`match_looks`].
-pub fn pin_looks(alloc: Global, shape: &Shared, watch: &Watch) -> Result<Looks, Memory>
+/// The looks of [`pin_looks`], for a renaming that is watched already.
+pub fn watch_pin(alloc: Global, shape: &Shared, watch: &Watched) -> Result<Looks, Memory>
     ensures { IfOk result (λ looks. looks ≡ pure.pin_looks watch.now shape.now) }
 {
     let mut found = Found {

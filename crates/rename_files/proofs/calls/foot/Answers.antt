@@ -9,7 +9,8 @@ use Rattle.ml_syntax.specs.View.{view_project}
 use Rattle.dependency_kernel.specs.Foot.{IsFoot}
 use Rattle.binding_model.specs.Facts.{facts}
 use Rattle.rename_model.specs.Foot.{refs_to}
-use Rattle.rename_parts.specs.Members.{HasPlaces, IsSetOf}
+use Rattle.watched.specs.Members.{HasPlaces}
+use Rattle.rename_parts.specs.Members.{IsSetOf}
 use Rattle.rename_files.specs.Answer.{Shows}
 use Rattle.rename_project.specs.Steps.{IsRefusedFor}
 use Rattle.rename_project.proofs.Refusals.{stopped}

@@ -15,7 +15,8 @@ use Rattle.binding_model.specs.Renaming.{in_file}
 use Rattle.rename_model.specs.Foot.{refs_to, hits}
 use Rattle.rename_model.specs.Report.{hit_files}
 use Rattle.rename_model.specs.Renaming.{watch_of, renamed_words, refusals_of_binder}
-use Rattle.rename_parts.specs.Members.{HasPlaces, IsSetOf}
+use Rattle.watched.specs.Members.{HasPlaces}
+use Rattle.rename_parts.specs.Members.{IsSetOf}
 use Rattle.rename_files.specs.Answer.{Renames}
 use Rattle.rename_project.specs.Steps.{IsRefusedFor, IsFreeOf}
 use Rattle.rename_project.proofs.Aimed.{mark_name}

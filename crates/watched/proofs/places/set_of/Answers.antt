@@ -1,5 +1,5 @@
-use Rattle.rename_parts.proofs.Sets.{gathers_more}
-use Rattle.rename_parts.proofs.members.set_of.Goals as goal
+use Rattle.watched.proofs.Sets.{gathers_more}
+use Rattle.watched.proofs.places.set_of.Goals as goal
 
 pub loop-place-preserved : goal.loop-place-preserved
 loop-place-preserved c =

@@ -5,7 +5,7 @@ use Rattle.sig_match.specs.Walk.{met, trace_of}
 use Rattle.sig_match.specs.Tests.{HasLooks}
 use Rattle.sig_match.proofs.LinkAnswers.{if_ok, from_start}
 use Rattle.sig_match.proofs.LookAnswers.{looked, pinned_looks}
-use Rattle.sig_match.proofs.looks.pin_looks.Goals as goal
+use Rattle.sig_match.proofs.looks.watch_pin.Goals as goal
 
 pub returns : goal.returns
 returns c =

@@ -1,5 +1,5 @@
 use Rattle.std.proofs.Common.{◌≡◌, take}
-use Rattle.found_facts.proofs.recorders.copy_places.Given as goal
+use Rattle.watched.proofs.watched.copy_places.Given as goal
 
 abbrev pub invariant-loop-place : goal.invariant-loop-place
 invariant-loop-place l = l.copy ≡ take l.place-index l.places

@@ -1,5 +1,5 @@
-use Rattle.rename_parts.proofs.Sets.{Gathers}
-use Rattle.rename_parts.proofs.members.set_of.Given as goal
+use Rattle.watched.proofs.Sets.{Gathers}
+use Rattle.watched.proofs.places.set_of.Given as goal
 
 -- with the members that are left, the set has them all
 abbrev pub invariant-loop-place : goal.invariant-loop-place
