@@ -1,7 +1,7 @@
 use rotor_app::rotor;
 use rotor_base::{Memory, Row as Bytes, SourceFile, Text};
 use std::alloc::{AllocError, Global};
-use tree_io::{MemSink, MemTree, have_distinct_names};
+use tree_io::{MemSink, MemTree, SoundTree, Tree, have_distinct_names};
 
 /// A file of a row.
 #[derive(Clone, Drop)]
@@ -10,11 +10,32 @@ struct File {
     text: String,
 }
 
-/// A row: a folder, the words, the calls of the folder and of the output that fail, and the output's room.
+/// A folder in memory that can be looked at between two commands.
+trait Folder: Tree {
+    /// The bytes of the file of this name, if there is one.
+    fn bytes_of(&self, name: &str) -> Option<&[u8]>;
+}
+
+impl Folder for MemTree {
+    fn bytes_of(&self, name: &str) -> Option<&[u8]> {
+        self.get(name)
+    }
+}
+
+impl Folder for SoundTree {
+    fn bytes_of(&self, name: &str) -> Option<&[u8]> {
+        self.get(name)
+    }
+}
+
+/// A row: a folder, the words, how often they are run, the calls of the folder and of the output that fail, and the
+/// output's room.
 #[derive(Drop)]
 pub struct Row {
     files: Vec<File>,
     words: Vec<String>,
+    runs: u32,
+    is_sound: bool,
     calls: Vec<u32>,
     puts: Vec<u32>,
     room: u32,
@@ -25,14 +46,17 @@ impl Row {
         Row {
             files: Vec::new(alloc),
             words: Vec::new(alloc),
+            runs: 1,
+            is_sound: false,
             calls: Vec::new(alloc),
             puts: Vec::new(alloc),
             room: 1_000,
         }
     }
 
-    /// Takes a line of the row: `file NAME`; of the last file `>TEXT`, `|LINE` with a line feed, and `spaces N`; `word
-    /// WORD`, `call N`, `put N`, `room N`. Every other line is passed over.
+    /// Reads a line of the row: `file NAME`; of the last file `>TEXT`, `|LINE` with a line feed, and `spaces N`; `word
+    /// WORD`, `call N`, `put N`, `room N`; `again`, which runs the words once more in the same folder; `sound`, which
+    /// runs them in a folder of which no call fails. It ignores every other line.
     pub fn read(&mut self, alloc: Global, line: &str) -> Result<(), AllocError> {
         if let Some(text) = line.strip_prefix('>') {
             return self.add(text);
@@ -41,9 +65,7 @@ impl Row {
             self.add(text)?;
             return self.add("\n");
         }
-        let Some((kind, value)) = line.split_once(' ') else {
-            return Ok(());
-        };
+        let (kind, value) = line.split_once(' ').unwrap_or((line, ""));
         match kind {
             "file" => {
                 let file = File {
@@ -61,6 +83,8 @@ impl Row {
             "call" => self.calls.push(number(value))?,
             "put" => self.puts.push(number(value))?,
             "room" => self.room = number(value),
+            "again" => self.runs = self.runs.saturating_add(1),
+            "sound" => self.is_sound = true,
             _ => {}
         }
         Ok(())
@@ -94,37 +118,53 @@ impl Row {
         Ok(Row {
             files,
             words: self.words.clone()?,
+            runs: self.runs,
+            is_sound: self.is_sound,
             calls: self.calls.clone()?,
             puts: self.puts.clone()?,
             room: self.room,
         })
     }
 
-    /// Runs the row, and returns the status, what was put, each file that changed, and the plan and the gate if the row
-    /// makes them.
+    /// Runs the row, and returns of each run the status, what was put, each file that differs from the row's, and the
+    /// plan and the gate if the folder has them and the row does not.
     pub fn run(&self, alloc: Global) -> Result<String, Memory> {
         let files = sources(alloc, &self.files)?;
         if !have_distinct_names(&files) {
             return Ok(String::from_str(alloc, "a name stands twice\n")?);
         }
-        let mut tree = MemTree::new(alloc, files, self.calls.clone()?)?;
-        let mut sink = MemSink::new(alloc, self.room, self.puts.clone()?)?;
-        let status = rotor(alloc, &self.words, &mut tree, &mut sink);
-        let mut ended = format!(in alloc; "{status:?}\n")?;
-        ended.push_str(text_of(sink.bytes()))?;
+        if self.is_sound {
+            self.run_in(alloc, &mut SoundTree::new(alloc, files)?)
+        } else {
+            self.run_in(alloc, &mut MemTree::new(alloc, files, self.calls.clone()?)?)
+        }
+    }
+
+    fn run_in<T: Folder>(&self, alloc: Global, tree: &mut T) -> Result<String, Memory> {
+        let mut ended = String::new(alloc);
+        for _ in 0..self.runs {
+            let mut sink = MemSink::new(alloc, self.room, self.puts.clone()?)?;
+            let status = rotor(alloc, &self.words, tree, &mut sink);
+            write!(ended, "{status:?}\n{}", text_of(sink.bytes()))?;
+            self.push_changes(&mut ended, tree)?;
+        }
+        Ok(ended)
+    }
+
+    fn push_changes<T: Folder>(&self, ended: &mut String, tree: &T) -> Result<(), AllocError> {
         for file in &self.files {
-            let bytes = tree.get(file.name.as_str()).unwrap_or_default();
+            let bytes = tree.bytes_of(file.name.as_str()).unwrap_or_default();
             if bytes != file.text.as_bytes() {
-                push_file(&mut ended, file.name.as_str(), bytes)?;
+                push_file(ended, file.name.as_str(), bytes)?;
             }
         }
         for name in ["rotor.plan", "rotor.gate"] {
-            let bytes = tree.get(name).unwrap_or_default();
+            let bytes = tree.bytes_of(name).unwrap_or_default();
             if !bytes.is_empty() && !self.has_file(name) {
-                push_file(&mut ended, name, bytes)?;
+                push_file(ended, name, bytes)?;
             }
         }
-        Ok(ended)
+        Ok(())
     }
 
     fn has_file(&self, name: &str) -> bool {
