@@ -6,7 +6,8 @@ ghost use Rattle.std.specs.Process.{exit_status};
 ghost use Rattle.rotor_app.specs.declared.status.Status.{Status};
 ghost use Rattle.rotor_app.specs.Status.{code_of};
 
-use rotor_app::{Status, rotor};
+use rotor_app::Status;
+use rotor_run::run_command;
 use std::fs::File;
 use std::process::ExitCode;
 use std::rt::{Env, Files};
@@ -16,8 +17,8 @@ use tree_io::{HostSink, HostTree};
 /// The exit code if the system refused the words for another reason than want of memory.
 const NO_WORDS: u8 = 7;
 
-/// Runs `rotor` on the words behind the program's name, over the current folder and the standard output, and returns the
-/// code of its status. If there is no memory for the words, the code is that of `Memory`; if the system refuses them for
+/// Runs the command of the words behind the program's name, over the current folder and the standard output, and returns
+/// the code of its status. If there is no memory for the words, the code is that of `Memory`; if the system refuses them for
 /// another reason, it is 7. Then the folder and the output are not called.
 pub fn run<R: Env + Files<File = File> + Print + AllocGlobal>(rt: &R) -> ExitCode
     ensures { (exit_status result ≡ 7) ⊎ ((status : Status) × (exit_status result ≡ code_of status)) }
@@ -29,9 +30,8 @@ pub fn run<R: Env + Files<File = File> + Print + AllocGlobal>(rt: &R) -> ExitCod
         }
         Err(_) => return ExitCode::from(NO_WORDS),
     };
-    let mut tree = HostTree::new(rt);
     let mut out = HostSink::new(rt);
-    exit_code(rotor(rt.alloc(), &words, &mut tree, &mut out))
+    exit_code(run_command(rt.alloc(), &words, HostTree::new(rt), &mut out))
 }
 
 /// The exit code of a status.

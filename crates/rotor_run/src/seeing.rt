@@ -1,0 +1,116 @@
+// Reading what a command may ask. The calls that read it are those of the command, in its order, so that the bounds of
+// loading are kept, and the first fault is the command's.
+ghost use Rattle.std.specs.Prelude.{◌≡◌, IfOk};
+ghost use Rattle.known.specs.Known.{known_faults};
+
+use apply_journal::{RecoverError, gate_open, read_recovery};
+use cli_words::Command;
+use known::{Known, Outer, Seeing};
+use project_load::{ListError, is_project_file, load, load_list};
+use rotor_base::{LoadError, MAX_FILE_BYTES};
+use std::alloc::Global;
+use tree_io::{Tree, TreeError};
+
+/// The most bytes of a batch that are read: one more than it may have.
+const BATCH_LIMIT: u32 = MAX_FILE_BYTES + 1;
+
+/// The folder with what a command may ask of it.
+pub(crate) fn see<T: Outer + Drop>(
+    alloc: Global,
+    command: &Command,
+    tree: T,
+) -> Result<Known<T>, TreeError>
+    ensures { IfOk result (λ known. known_faults known ≡ 0) }
+{
+    let mut seeing = Seeing::new(alloc, tree)?;
+    see_asked(alloc, command, &mut seeing)?;
+    Ok(seeing.into_known(alloc)?)
+}
+
+/// Reads what a command may ask. The error is `Failed`.
+fn see_asked<T: Outer + Drop>(
+    alloc: Global,
+    command: &Command,
+    seeing: &mut Seeing<T>,
+) -> Result<(), TreeError> {
+    match command {
+        Command::Sample(_) => Ok(()),
+        Command::Check | Command::Shape(_) => see_project(alloc, false, seeing).map(|_| ()),
+        Command::Rename { write, safe, .. } => {
+            see_project(alloc, *write || *safe, seeing).map(|_| ())
+        }
+        Command::Batch { file, write } => {
+            if see_project(alloc, *write, seeing)? {
+                see_batch(alloc, file.as_str(), seeing)?;
+            }
+            Ok(())
+        }
+        Command::Verify { old, new } => {
+            if see_list(alloc, old.as_str(), seeing)? {
+                see_list(alloc, new.as_str(), seeing)?;
+            }
+            Ok(())
+        }
+        Command::Recover => see_recovery(alloc, seeing),
+    }
+}
+
+/// Reads the files that the folder loads as, and the gate if it is asked. Returns whether the command goes on: the folder
+/// loads, and an open gate does not stop it.
+fn see_project<T: Outer + Drop>(
+    alloc: Global,
+    asks_gate: bool,
+    seeing: &mut Seeing<T>,
+) -> Result<bool, TreeError> {
+    match load(alloc, seeing) {
+        Ok(_) if asks_gate => see_gate(alloc, seeing),
+        Ok(_) => Ok(true),
+        Err(LoadError::Read) => Err(TreeError::Failed),
+        Err(_) => Ok(false),
+    }
+}
+
+/// Reads the gate, and returns whether it is closed.
+fn see_gate<T: Outer + Drop>(alloc: Global, seeing: &mut Seeing<T>) -> Result<bool, TreeError> {
+    match gate_open(alloc, seeing) {
+        Ok(is_open) => Ok(!is_open),
+        Err(RecoverError::Read) => Err(TreeError::Failed),
+        Err(_) => Ok(false),
+    }
+}
+
+/// Reads a batch, if its file may hold one.
+fn see_batch<T: Outer + Drop>(
+    alloc: Global,
+    file: &str,
+    seeing: &mut Seeing<T>,
+) -> Result<(), TreeError> {
+    if is_project_file(file) || !seeing.seen().has(file) {
+        return Ok(());
+    }
+    match seeing.read(alloc, file, BATCH_LIMIT) {
+        Err(TreeError::Failed) => Err(TreeError::Failed),
+        Ok(_) | Err(TreeError::Memory) => Ok(()),
+    }
+}
+
+/// Reads a list and the files that it names, and returns whether they are a project's.
+fn see_list<T: Outer + Drop>(
+    alloc: Global,
+    list: &str,
+    seeing: &mut Seeing<T>,
+) -> Result<bool, TreeError> {
+    match load_list(alloc, seeing, list) {
+        Ok(_) => Ok(true),
+        Err(ListError::Read) => Err(TreeError::Failed),
+        Err(_) => Ok(false),
+    }
+}
+
+/// Reads the gate, and the plan if the gate is open.
+fn see_recovery<T: Outer + Drop>(alloc: Global, seeing: &mut Seeing<T>) -> Result<(), TreeError> {
+    match read_recovery(alloc, seeing) {
+        Err(RecoverError::Read) => Err(TreeError::Failed),
+        Ok(_) | Err(_) => Ok(()),
+    }
+}
