@@ -1,0 +1,6 @@
+pub mod Least
+pub mod Repeats
+pub mod Differing
+pub mod Marks
+pub mod Ladder
+pub mod BinderLadder

@@ -1,0 +1,5 @@
+pub mod Steps
+pub mod Starting
+pub mod Exprs
+pub mod Modules
+pub mod Runs

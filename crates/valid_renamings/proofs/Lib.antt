@@ -1,0 +1,5 @@
+pub mod Words
+pub mod Kept
+pub mod Together
+pub mod Back
+pub mod Later
