@@ -1,0 +1,9 @@
+use Rattle.std.proofs.Common.{◌≡◌, length}
+use Rattle.lsp_frames.specs.Lines.{skip_blanks}
+use Rattle.lsp_frames.proofs.header.trim_start.Given as goal
+
+abbrev pub invariant-loop-bytes : goal.invariant-loop-bytes
+invariant-loop-bytes l = skip_blanks l.bytes ≡ skip_blanks l.fn.bytes
+
+abbrev pub decreases-loop-bytes : goal.decreases-loop-bytes
+decreases-loop-bytes l = length l.bytes
