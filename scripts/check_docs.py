@@ -3,17 +3,36 @@
 
 Usage: scripts/check_docs.py [TOP]
 
-Links and anchors that lead nowhere, names in back quotes that no crate has, counts of rows and of edits that differ from
-the files, crates that crates.txt lacks, and a README that is too long.
+Links and anchors that lead nowhere; names and paths in back quotes that the repository lacks; counts that differ from the
+files; crates that crates.txt lacks; pages and sentences that are too long; lists that their scripts would write otherwise.
 """
 import glob
 import os
 import re
+import subprocess
 import sys
 
-MOST_README_WORDS = 1500
-# names that stand in no file of a crate
+# the most words of a page, or of several together
+MOST_WORDS = {
+    ("README.md",): 1500,
+    ("docs/PROVED.md",): 2000,
+    ("docs/USING.md",): 1500,
+    ("docs/REFUSALS.md",): 2000,
+    ("docs/LANGUAGE.md",): 700,
+    ("docs/ARCHITECTURE.md",): 1400,
+    ("docs/DECISIONS.md",): 2500,
+    ("docs/TESTING.md", "docs/LIMITS.md", "docs/BUILD.md"): 2600,
+}
+# the most words of a sentence, or of a part of it up to a colon or a semicolon
+MOST_SENTENCE_WORDS = 25
+# the most part by which a size of the README may differ
+MOST_DIFFERENCE = 0.05
+# names that no file of a crate has
 OTHER_NAMES = {"examples", "stdout", "stdin"}
+# the scripts that write a list, and compare it with --check
+WRITERS = ["crate_table.py", "body_table.py", "trusted_counts.py"]
+# what the crates write in a page: its sentences are those of the crates
+WRITTEN = re.compile(r"<!-- crates: .*?<!-- end of crates -->", re.S)
 
 found = []
 
@@ -28,6 +47,10 @@ def anchor(heading):
     return re.sub(r"[^\w\- ]", "", heading.lower()).replace(" ", "-")
 
 
+def prose_of(text):
+    return re.sub(r"```.*?```", "", text, flags=re.S)
+
+
 def check_links(texts):
     anchors = {page: {anchor(it) for it in re.findall(r"^#+ (.*)$", text, re.M)} for page, text in texts.items()}
     for page, text in texts.items():
@@ -39,6 +62,9 @@ def check_links(texts):
                 found.append(f"{page}: a dead link: {path}")
             elif place and target in anchors and place[1:] not in anchors[target]:
                 found.append(f"{page}: a dead anchor: {path}{place}")
+        for name, path in re.findall(r"\[(\w+\.md)\]\(([^)#\s]*)", text):
+            if os.path.basename(path) not in (name, ""):
+                found.append(f"{page}: a link to {path} that is called {name}")
 
 
 def known_names():
@@ -55,28 +81,88 @@ def known_names():
 def check_names(texts):
     known = known_names()
     for page, text in texts.items():
-        prose = re.sub(r"```.*?```", "", text, flags=re.S)
+        prose = prose_of(text)
         for name in sorted(set(re.findall(r"`([A-Za-z]\w{3,})`", prose)) - known):
             found.append(f"{page}: no crate has the name {name}")
+        for path in sorted(set(re.findall(r"`((?:crates|scripts|docs|plants|examples)/[\w./*-]+)`", prose))):
+            if "NAME" not in path and not path.startswith("crates/rotor/out/") and not glob.glob(path):
+                found.append(f"{page}: no file {path}")
+
+
+def lines_of(patterns):
+    return sum(read(path).count("\n") for pattern in patterns for path in glob.glob(pattern, recursive=True))
+
+
+def product_crates():
+    """The crates of crates.txt, up to the heading of the tests."""
+    return re.findall(r"^(\w+):", read("crates.txt").split("# tests")[0], re.M)
+
+
+def check_count(page, text, pattern, there, what):
+    for count in re.findall(pattern, text, re.M):
+        if int(count.replace(",", "")) != there:
+            found.append(f"{page}: {count} {what}, and there are {there}")
 
 
 def check_counts(texts):
     edits = len(glob.glob("crates/*/must-fail/*.edit"))
     plants = len(glob.glob("plants/*/*.edit"))
-    rows = len(re.findall(r"^run$", read("crates/rows/stdin"), re.M))
     for page, text in texts.items():
-        for count in re.findall(r"(\d+) (?:wrong versions|changes of the code|such changes)", text):
-            if int(count) != edits:
-                found.append(f"{page}: {count} edits, and there are {edits}")
-        for count in re.findall(r"`plants/NAME/\*\.edit` has (\d+)", text):
-            if int(count) != plants:
-                found.append(f"{page}: {count} plants, and there are {plants}")
-    for count in re.findall(r"^\| rows \| (\d+) \|$", texts["docs/TESTING.md"], re.M):
-        if int(count) != rows:
-            found.append(f"docs/TESTING.md: {count} rows, and there are {rows}")
-    words = len(texts["README.md"].split())
-    if words > MOST_README_WORDS:
-        found.append(f"README.md: {words} words, and {MOST_README_WORDS} are the most")
+        check_count(page, text, r"([\d,]+) (?:wrong versions|changes of the code|such changes)", edits, "edits")
+        check_count(page, text, r"`plants/NAME/\*\.edit` has ([\d,]+)", plants, "plants")
+    page = "docs/TESTING.md"
+    resolutions = read("crates/resolutions/stdin")
+    requests = len(re.findall(r"^(?:facts|looks|fault|respell)\b", resolutions, re.M))
+    for pattern, there, what in [
+        (r"^\| `rows` \| ([\d,]+) rows", len(re.findall(r"^run$", read("crates/rows/stdin"), re.M)), "rows"),
+        (r"^\| `resolutions` \| ([\d,]+) folders", len(re.findall(r"^end$", resolutions, re.M)), "folders"),
+        (r"^\| `resolutions` \| .* with ([\d,]+) requests", requests, "requests"),
+        (r"^\| `texts` \| ([\d,]+) lines", lines_of(["crates/texts/stdin"]), "lines"),
+        (r"^\| `trees` \| ([\d,]+) rows", lines_of(["crates/trees/stdout"]), "rows of trees"),
+        (r"^\| `text_rows` \| ([\d,]+) rows", lines_of(["crates/text_rows/stdin"]), "rows of text_rows"),
+    ]:
+        if not re.search(pattern, texts[page], re.M):
+            found.append(f"{page}: no count of {what}")
+        check_count(page, texts[page], pattern, there, what)
+    for crate, count in re.findall(r"^\| (tests_\w+) \| (\d+) \|", texts[page], re.M):
+        there = sum(read(it).count("#[test]") for it in glob.glob(f"crates/{crate}/src/**/*.rt", recursive=True))
+        if int(count) != there:
+            found.append(f"{page}: {count} tests of {crate}, and there are {there}")
+
+
+def check_sizes(texts):
+    """The lines of code, definitions and proofs, which the README rounds."""
+    parts = {"code in": ("src", "rt"), "definitions": ("specs", "antt"), "proofs": ("proofs", "antt")}
+    for what, (part, ending) in parts.items():
+        there = lines_of([f"crates/{crate}/{part}/**/*.{ending}" for crate in product_crates()])
+        for count in re.findall(rf"([\d,]+) (?:lines )?of {what}", texts["README.md"]):
+            if abs(int(count.replace(",", "")) - there) > MOST_DIFFERENCE * there:
+                found.append(f"README.md: {count} lines of {part}/, and there are {there}")
+
+
+def check_lengths(texts):
+    for pages, most in MOST_WORDS.items():
+        words = sum(len(texts[page].split()) for page in pages)
+        if words > most:
+            found.append(f"{' and '.join(pages)}: {words} words, and {most} are the most")
+
+
+def sentences_of(text):
+    for line in WRITTEN.sub("", prose_of(text)).splitlines():
+        if line.startswith(("#", ">", "    ", "|--")):
+            continue
+        for cell in line.strip("|").split("|") if line.startswith("|") else [line]:
+            plain = re.sub(r"`[^`]*`", "X", cell)
+            plain = re.sub(r"\[([^\]]*)\]\([^)]*\)", r"\1", plain)
+            yield from re.split(r"(?<=[.?!:;])\s+", re.sub(r"^\s*(?:-|\d+\.)\s", "", plain).replace("**", ""))
+
+
+def check_sentences(texts):
+    for page, text in texts.items():
+        for sentence in sentences_of(text):
+            words = len(re.findall(r"[\w'’]+", sentence))
+            if words > MOST_SENTENCE_WORDS:
+                found.append(f"{page}: {words} words in a sentence: {sentence.strip()}")
 
 
 def check_crates():
@@ -86,15 +172,37 @@ def check_crates():
         found.append(f"crates.txt: {crate} is {'listed and not there' if crate in listed else 'not listed'}")
 
 
+def check_sources():
+    """Each file of specs/ names its source in its first lines."""
+    for path in glob.glob("crates/*/specs/**/*.antt", recursive=True):
+        head = re.match(r"(?:--.*\n)*", read(path))[0].replace("\n-- ", " ")
+        if os.path.basename(path) != "Lib.antt" and not re.search(r"\bown\b|manual|Unicode|GNU|Protocol|POSIX", head):
+            found.append(f"{path}: no source in the first lines")
+
+
+def check_writers():
+    for script in WRITERS:
+        ran = subprocess.run([sys.executable, f"scripts/{script}", "--check"], capture_output=True, text=True, check=False)
+        found.extend(ran.stdout.splitlines() or ([f"scripts/{script} failed"] if ran.returncode else []))
+
+
 def main():
     os.chdir(sys.argv[1] if len(sys.argv) > 1 else os.path.dirname(os.path.dirname(os.path.abspath(__file__))))
-    texts = {page: read(page) for page in ["README.md", *sorted(glob.glob("docs/*.md"))]}
+    pages = ["README.md", "CHANGELOG.md", "CONTRIBUTING.md", *sorted(glob.glob("docs/*.md"))]
+    texts = {page: read(page) for page in pages}
     check_links(texts)
     check_names(texts)
     check_counts(texts)
+    check_sizes(texts)
+    check_lengths(texts)
+    check_sentences(texts)
     check_crates()
+    check_sources()
+    check_writers()
     for it in found:
         print(it)
+    for page, text in texts.items():
+        print(f"{len(text.split()):6} {page}")
     print(f"{len(texts)} documents, {sum(len(it.split()) for it in texts.values())} words, {len(found)} found")
     return 1 if found else 0
 

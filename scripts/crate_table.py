@@ -1,16 +1,18 @@
 #!/usr/bin/env python3
-"""Writes the table of crates in docs/PROVED.md from the crates themselves, or with --check says whether it differs.
+"""Writes the list of crates in docs/PROVED.md from the crates themselves, or with --check says whether it differs.
 
 Usage: scripts/crate_table.py [--check]
 
-A row has the crate's name, the first sentence of its root's comment, and its laws: the functions of src/laws.rt. The order
-is that of crates.txt, without the crates of tests.
+A line has the crate's name, the first sentence of its root's comment, and its laws: the functions of src/laws.rt, or if
+they are many their number. The order is that of crates.txt, without the crates of tests.
 """
 import os
 import re
 import sys
 
 PAGE = "docs/PROVED.md"
+# The most laws of a crate that a line names.
+MOST_LAWS = 3
 BEGIN, END = "<!-- crates: written by scripts/crate_table.py -->\n", "<!-- end of crates -->\n"
 
 
@@ -40,10 +42,15 @@ def laws(crate):
     return re.findall(r"^pub fn (\w+)", read(path), re.M) if os.path.exists(path) else []
 
 
-def table():
-    rows = ["| crate | what it has | laws |", "|---|---|---|"]
+def crate_list():
+    rows = []
     for crate in product_crates():
-        rows.append(f"| {crate} | {first_sentence(crate)} | {', '.join(f'`{it}`' for it in laws(crate))} |")
+        names = laws(crate)
+        if len(names) > MOST_LAWS:
+            told = f" ([{len(names)} laws](../crates/{crate}/src/laws.rt))"
+        else:
+            told = f" ({', '.join(f'`{it}`' for it in names)})" if names else ""
+        rows.append(f"- **{crate}**: {first_sentence(crate)}{told}")
     return "\n".join(rows) + "\n"
 
 
@@ -51,11 +58,11 @@ def main():
     os.chdir(os.path.dirname(os.path.dirname(os.path.abspath(__file__))))
     page = read(PAGE)
     before, rest = page.split(BEGIN)
-    written = before + BEGIN + table() + END + rest.split(END)[1]
+    written = before + BEGIN + crate_list() + END + rest.split(END)[1]
     if written == page:
         return 0
     if "--check" in sys.argv:
-        print(f"{PAGE}: the table of crates differs from the crates: run scripts/crate_table.py")
+        print(f"{PAGE}: the list of crates differs from the crates: run scripts/crate_table.py")
         return 1
     with open(PAGE, "w", encoding="utf-8") as it:
         it.write(written)

@@ -1,4 +1,4 @@
--- When a reading of the gate or of the plan, and a recovery, fail because of the folder.
+-- When a reading of the gate or of the plan, and a recovery, fail because of the folder (own).
 use Rattle.std.specs.Prelude.{◌≡◌, ◌⊎◌, ℕ, ◌<◌, ◌≤◌, Result, IsErrOf}
 use Rattle.tree_io.specs.Outside.{Rose}
 use Rattle.tree_io.specs.declared.outside.TreeError.{TreeError}

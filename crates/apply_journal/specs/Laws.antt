@@ -1,4 +1,4 @@
--- The laws of plans and of stops.
+-- The laws of plans and of stops (own).
 use Rattle.std.specs.Prelude.{◌≡◌, ◌⊎◌, ℕ, List, Some}
 use Rattle.rotor_base.specs.Files.{FileSet}
 use Rattle.rotor_base.specs.declared.source.SourceFile.{SourceFile}

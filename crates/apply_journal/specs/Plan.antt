@@ -1,4 +1,4 @@
--- Plans: the new bytes of the files that a renaming changes, as one text.
+-- Plans: the new bytes of the files that a renaming changes, as one text (own).
 use Rattle.std.specs.Prelude.{◌≡◌, ℕ, ◌≤◌, List, [], ◌∷◌, ◌++◌, flat_map, length, None, codes}
 use Rattle.std.specs.Fmt.{decimal}
 use Rattle.rotor_base.specs.Limits.{max_plan_bytes}

@@ -1,4 +1,4 @@
--- The pieces of a plan, and the rest behind each.
+-- The pieces of a plan, and the rest behind each (own).
 use Rattle.std.specs.Prelude.{◌≡◌, ℕ, ◌≤◌, ◌==◌, ◌&&◌, Bool, List, [], ◌∷◌, ◌++◌, true, false, length, codes, nat_le}
 use Rattle.std.specs.Fmt.{decimal}
 use Rattle.std.specs.List.{list_any}

@@ -1,4 +1,4 @@
--- The gate, the writes, and what is recovered after a stop.
+-- The gate, the writes, and what is recovered after a stop (own).
 use Rattle.std.specs.Prelude.{◌≡◌, ℕ, List, [], ◌∷◌, ◌++◌, length, Option, Some, None, codes}
 use Rattle.std.specs.FinMap.{get}
 use Rattle.rotor_base.specs.Files.{FileSet}

@@ -1,4 +1,4 @@
--- The command line as it is declared to `clap`, and the form that it reads.
+-- The command line as it is declared to `clap`, and the form that it reads (own).
 use Rattle.std.specs.Prelude.{◌≡◌, List, Bool, true, false, not, ◌==◌, Option, Some, None, option_map, option_and_then, if◌then◌else◌, codes}
 use Rattle.std.specs.Str.{bytes_eq}
 use Rattle.clap.specs.Words.{App, Row, Rule, app_of, count_of, first_of, new_app, new_rule, subcommand_of, takes, with_rule, with_subcommand}

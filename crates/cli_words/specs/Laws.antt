@@ -1,4 +1,4 @@
--- What the reports print is read again.
+-- What the reports print is read again (own).
 use Rattle.std.specs.Prelude.{◌≡◌, ℕ, List, [], ◌∷◌, ◌++◌, ◌<◌, ◌^◌, true, false, Some, codes}
 use Rattle.std.specs.Fmt.{decimal}
 use Rattle.rotor_base.specs.Name.{is_value_name}

@@ -1,4 +1,4 @@
--- What a target word names.
+-- What a target word names (own).
 use Rattle.std.specs.Prelude.{ℕ, List, [], ◌∷◌, ◌==◌, ◌&&◌, ◌+◌, ◌-◌, ◌*◌, Option, Some, None, option_map, option_and_then, if◌then◌else◌, nat_le}
 use Rattle.std.specs.Prelude.{nat_lt, take, drop}
 use Rattle.std.specs.Char.{is_ascii_digit}

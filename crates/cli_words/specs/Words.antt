@@ -1,4 +1,4 @@
--- The forms of the words of the command line, and the commands that they request.
+-- The forms of the words of the command line, and the commands that they request (own).
 use Rattle.std.specs.Prelude.{ℕ, List, [], ◌∷◌, Bool, true, false, ◌==◌, ◌&&◌, not, Option, Some, None, option_map, option_and_then, if◌then◌else◌}
 use Rattle.std.specs.Prelude.{nat_le, codes}
 use Rattle.std.specs.Str.{bytes_eq}

@@ -1,4 +1,4 @@
--- A form written out, and compared with the words.
+-- A form written out, and compared with the words (own).
 use Rattle.std.specs.Prelude.{List, [], ◌∷◌, Bool, true, false, ◌&&◌, ◌||◌, codes}
 use Rattle.std.specs.Borrow.{Bor}
 use Rattle.std.specs.Str.{bytes_eq}

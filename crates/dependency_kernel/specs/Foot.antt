@@ -1,4 +1,5 @@
--- The footprint of a declaration.
+-- The footprint of a declaration (own, after Rowe, Férée, Thompson and Owens, 'Characterising
+-- Renaming within OCaml's Module System').
 use Rattle.std.specs.Prelude.{◌≡◌, ◌⊎◌, List, Contains, AllPairs, Option, IfSome, IfNone}
 use Rattle.rotor_base.specs.Place.{IsBefore}
 use Rattle.rotor_base.specs.declared.place.Place.{Place}

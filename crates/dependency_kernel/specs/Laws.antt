@@ -1,4 +1,4 @@
--- The laws of footprints: the graph half of 'least footprint'.
+-- The laws of footprints: the graph half of 'least footprint' (own).
 use Rattle.std.specs.Prelude.{◌≡◌, ◌≢◌, ◌↔◌, ℕ, List, Contains, IsSome}
 use Rattle.rotor_base.specs.declared.place.Place.{Place}
 use Rattle.rotor_base.specs.declared.place.Link.{Link}

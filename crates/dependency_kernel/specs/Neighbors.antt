@@ -1,4 +1,4 @@
--- The table of neighbors.
+-- The table of neighbors (own).
 use Rattle.std.specs.Prelude.{Contains, IsSomeAnd}
 use Rattle.std.specs.BTreeMap.{BTreeMap, get}
 use Rattle.std.specs.Global.{Vec}

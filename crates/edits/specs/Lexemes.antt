@@ -1,4 +1,4 @@
--- Edits that give the lexemes of a source new words.
+-- Edits that give the lexemes of a source new words (own).
 use Rattle.std.specs.Prelude.{◌≡◌, ℕ, List, [], ◌∷◌, length}
 use Rattle.ml_lexer.specs.Lexed.{Lexeme, Lexed}
 use Rattle.ml_lexer.specs.Respelled.{respelled}

@@ -1,4 +1,4 @@
--- A source with spans replaced.
+-- A source with spans replaced (own).
 use Rattle.std.specs.Prelude.{◌≡◌, ℕ, ◌<◌, ◌≤◌, List, [], ◌∷◌, ◌++◌, length, take, drop, slice_range}
 use Rattle.rotor_base.specs.Limits.{max_name_bytes}
 use Rattle.edits.specs.declared.Edit.{Edit}

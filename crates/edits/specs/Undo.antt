@@ -1,4 +1,4 @@
--- Replacing spans, undone.
+-- Replacing spans, undone (own).
 use Rattle.std.specs.Prelude.{◌≡◌, ℕ, ◌+◌, ◌-◌, ◌<◌, ◌≤◌, List, [], ◌∷◌, length, slice_range, All}
 use Rattle.rotor_base.specs.Limits.{max_name_bytes}
 use Rattle.edits.specs.declared.Edit.{Edit}

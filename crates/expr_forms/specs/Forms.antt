@@ -1,4 +1,4 @@
--- The parts of forms, as the code reads them.
+-- The parts of forms, as the code reads them (own).
 use Rattle.std.specs.Prelude.{ℕ, List, ◌∷◌, Bool, Option, Some, None}
 use Rattle.ml_syntax.specs.declared.fixed.Fixed.TheVariants as key
 use Rattle.ml_syntax.specs.Tok.{Name, Tok, placed}

@@ -1,4 +1,4 @@
--- What a function value that reads expressions does, to a depth.
+-- What a function value that reads expressions does, to a depth (own).
 use Rattle.std.specs.Prelude.{ℕ, ◌≤◌, length, List, Result}
 use Rattle.std.specs.declared.alloc.Global.{Global}
 use denote.Ref.{Bor}

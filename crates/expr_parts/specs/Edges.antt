@@ -1,4 +1,4 @@
--- What is looked for on the right edge of an expression.
+-- What is looked for on the right edge of an expression (own).
 use Rattle.std.specs.Prelude.{Bool}
 use Rattle.ml_syntax.specs.Tree.{Expr}
 use Rattle.ml_syntax.specs.WellFormed.{is_form, is_if, is_open_if, has_cases}

@@ -1,4 +1,4 @@
--- The parts of a reading, as the functions of the code read them.
+-- The parts of a reading, as the functions of the code read them (own).
 use Rattle.std.specs.Prelude.{ℕ, ◌-◌, List, [], ◌∷◌, Bool, true, false, not, Option, Some, None}
 use Rattle.rotor_base.specs.declared.token.Class.TheVariants as class
 use Rattle.ml_syntax.specs.declared.word.Word.{Word}

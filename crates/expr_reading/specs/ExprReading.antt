@@ -1,4 +1,4 @@
--- Reading expressions.
+-- Reading expressions (the OCaml manual, "Expressions").
 use Rattle.std.specs.Prelude.{ℕ, zero, suc, ◌-◌, List, [], ◌∷◌, Bool, true, false, not, ◌&&◌, if◌then◌else◌, ◌==◌, Option, Some, None, codes}
 use Rattle.std.specs.Str.{bytes_eq}
 use Rattle.rotor_base.specs.declared.token.Class.TheVariants as class

@@ -1,4 +1,4 @@
--- The laws of groups that repeat no name.
+-- The laws of groups that repeat no name (own).
 use Rattle.std.specs.Prelude.{◌≡◌, List, Option, None}
 use Rattle.rotor_base.specs.declared.place.Place.{Place}
 use Rattle.ml_syntax.specs.Sound.{IsSound}

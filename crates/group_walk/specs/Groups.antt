@@ -1,4 +1,4 @@
--- The groups of expressions, modules and units: they depend on no scope.
+-- The groups of expressions, modules and units: they depend on no scope (own).
 use Rattle.std.specs.Prelude.{ℕ, List, [], Option, Some, None, true, ◌∷◌, ◌++◌}
 use Rattle.ml_syntax.specs.declared.expression.Branch.{Branch}
 use Rattle.ml_syntax.specs.Places.{punned, label_site}

@@ -1,4 +1,5 @@
--- What begins at the front of some bytes by the table of lexemes, and the rules on what follows.
+-- What begins at the front of some bytes by the table of lexemes, and the rules on what follows
+-- (own; the OCaml manual, "Lexical conventions").
 use Rattle.std.specs.Prelude.{ℕ, ◌-◌, ◌<◌, ◌≤◌, ◌⊎◌, Bool, ◌&&◌, IsTrue, IsFalse}
 use Rattle.std.specs.Prelude.{List, ◌∷◌, ◌++◌, codes, length, take, drop, slice_index}
 use Rattle.rotor_base.specs.Limits.{max_name_bytes}

@@ -1,4 +1,4 @@
--- Bytes cut at their first space.
+-- Bytes cut at their first space (own).
 use Rattle.std.specs.Prelude.{◌≡◌, ℕ, ◌==◌, false, List, ◌∷◌, ◌++◌}
 use Rattle.std.specs.List.{list_any}
 

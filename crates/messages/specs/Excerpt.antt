@@ -1,4 +1,4 @@
--- The line of a source under a message, and the carets.
+-- The line of a source under a message, and the carets (own).
 use Rattle.std.specs.Prelude.{ℕ, ◌+◌, ◌-◌, ◌==◌, List, [], ◌∷◌, ◌++◌, Bool, map, min, max, length, take, drop, nat_lt, codes, cond, replicate}
 use Rattle.std.specs.Fmt.{decimal}
 use Rattle.std.specs.Str.{trim_end}

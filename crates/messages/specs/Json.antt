@@ -1,4 +1,5 @@
--- The JSON of messages: an array of an object for each, in compact form with its keys in byte order, and LF.
+-- The JSON of messages: an array of an object for each, in compact form with its keys in byte
+-- order, and LF (own).
 use Rattle.std.specs.Prelude.{ℕ, ◌+◌, max, List, [], ◌∷◌, Option, Some, None, codes, map}
 use Rattle.serde_json.specs.Data.{Data, array, object, number, unsigned, member, no_members}
 use Rattle.serde_json.specs.View.{items_of}

@@ -1,4 +1,4 @@
--- The words of the kinds of messages.
+-- The words of the kinds of messages (own).
 use Rattle.std.specs.Prelude.{ℕ, List, codes}
 use Rattle.messages.specs.declared.kinds.Kind.{Kind}
 use Rattle.messages.specs.declared.kinds.Kind.TheVariants as kind

@@ -1,4 +1,4 @@
--- The law of what a terminal gets.
+-- The law of what a terminal gets (own).
 use Rattle.std.specs.Prelude.{◌≡◌, ℕ, false}
 use Rattle.messages.specs.Shown.{hides, safe}
 

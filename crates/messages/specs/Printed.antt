@@ -1,4 +1,4 @@
--- The text of a message.
+-- The text of a message (own).
 use Rattle.std.specs.Prelude.{ℕ, List, [], ◌∷◌, ◌++◌, Option, Some, None, codes, flat_map}
 use Rattle.std.specs.Fmt.{decimal}
 use Rattle.report.specs.Pieces.{Word, join}

@@ -1,4 +1,4 @@
--- What a terminal shows of bytes.
+-- What a terminal shows of bytes (own; the characters are those of Unicode).
 use Rattle.std.specs.Prelude.{ℕ, ◌==◌, ◌||◌, ◌&&◌, not, List, ◌++◌, Bool, map, take, length, codes, nat_le, cond}
 use Rattle.std.specs.Int.{is_in_range}
 use Rattle.std.specs.Str.{chars, encode_utf8_all}

@@ -1,4 +1,4 @@
--- Numbers in a sentence.
+-- Numbers in a sentence (own).
 use Rattle.std.specs.Prelude.{ℕ, suc, ◌%◌, ◌==◌, List, [], ◌∷◌, length, codes, cond}
 use Rattle.std.specs.Fmt.{decimal}
 use Rattle.report.specs.Pieces.{Word, join}

@@ -1,4 +1,4 @@
--- What the errors of `lex` say.
+-- What the errors of `lex` say (own).
 use Rattle.std.specs.Prelude.{ℕ, List}
 use Rattle.ml_lexer.specs.declared.error.LexError.{LexError}
 use Rattle.ml_lexer.specs.declared.error.LexError.TheVariants as errors

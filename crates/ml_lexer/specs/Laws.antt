@@ -1,4 +1,4 @@
--- The laws of cutting.
+-- The laws of cutting (own).
 use Rattle.std.specs.Prelude.{◌≡◌, ℕ, ◌-◌, ◌<◌, ◌≤◌, List, [], ◌∷◌, All, length, take, drop}
 use Rattle.rotor_base.specs.declared.token.Class.{Class}
 use Rattle.ml_lexer.specs.declared.piece.Piece.TheVariants as piece

@@ -1,4 +1,5 @@
--- Lexed and LexFault: the cutting of a file into pieces.
+-- Lexed and LexFault: the cutting of a file into pieces (own profile; the OCaml manual, "Lexical
+-- conventions").
 use Rattle.std.specs.Prelude.{◌≡◌, ◌≢◌, ℕ, ◌+◌, List, [], ◌∷◌, ◌++◌, length, map}
 use Rattle.rotor_base.specs.declared.token.Class.{Class}
 use Rattle.rotor_base.specs.declared.token.Token.{Token}

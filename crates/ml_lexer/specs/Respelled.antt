@@ -1,4 +1,4 @@
--- Lexemes that are respelled: the bytes and the lexemes after it.
+-- Lexemes that are respelled: the bytes and the lexemes after it (own).
 use Rattle.std.specs.Prelude.{◌≡◌, ℕ, suc, ◌+◌, ◌-◌, List, [], ◌∷◌, ◌++◌, ◌⊎◌, IsTrue, Option, Some, None, codes, length, map, take, drop}
 use Rattle.std.specs.Prelude.{slice_index}
 use Rattle.std.specs.Str.{byte}

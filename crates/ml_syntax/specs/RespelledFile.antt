@@ -1,4 +1,4 @@
--- A file whose lexemes are respelled, and its tree.
+-- A file whose lexemes are respelled, and its tree (own).
 use Rattle.std.specs.Prelude.{◌≡◌, ℕ, suc, List, [], ◌∷◌, map, IsTrue, ◌⊎◌, Contains, None, false, ◌+◌, ◌≤◌, ◌++◌, length}
 use Rattle.rotor_base.specs.Limits.{max_file_bytes}
 use Rattle.rotor_base.specs.Name.{is_value_name}

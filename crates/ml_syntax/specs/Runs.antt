@@ -1,5 +1,5 @@
--- The tokens of types and of declarations, which are read as balanced runs (the OCaml manual, "Type expressions" and
--- "Type and exception definitions").
+-- The tokens of types and of declarations, which are read as balanced runs (own profile; the OCaml
+-- manual, "Type expressions" and "Type and exception definitions").
 use Rattle.std.specs.Prelude.{ℕ, ◌-◌, length, slice_index, List, [], ◌∷◌, Bool, true, false, ◌==◌, ◌&&◌, Option, Some, None, if◌then◌else◌, codes}
 use Rattle.std.specs.Str.{bytes_eq}
 use Rattle.rotor_base.specs.declared.token.Class.TheVariants as class

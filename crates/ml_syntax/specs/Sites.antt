@@ -1,4 +1,4 @@
--- The places that the program has found.
+-- The places that the program has found (own).
 use Rattle.std.specs.Prelude.{List, map}
 use Rattle.ml_syntax.specs.declared.sites.Site.{Site}
 use Rattle.ml_syntax.specs.Places as pure

@@ -1,4 +1,4 @@
--- The places of a respelled tree.
+-- The places of a respelled tree (own).
 use Rattle.std.specs.Prelude.{◌≡◌, ◌||◌, IsTrue, map}
 use Rattle.ml_syntax.specs.Each.{Each}
 use Rattle.ml_syntax.specs.Tree.{FileTree}

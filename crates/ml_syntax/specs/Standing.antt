@@ -1,4 +1,4 @@
--- The places of a tree among its words.
+-- The places of a tree among its words (own).
 use Rattle.std.specs.Prelude.{◌≡◌, ℕ, suc, ◌<◌, ◌≤◌, List, [], ◌∷◌, ◌++◌, Bool, true, false, not, ◌==◌, Contains, length, slice_index, codes}
 use Rattle.std.specs.Str.{byte}
 use Rattle.rotor_base.specs.declared.token.Class.{Class}

@@ -1,4 +1,4 @@
--- A tree of the program, without where it lies in memory.
+-- A tree of the program, without where it lies in memory (own).
 use Rattle.std.specs.Prelude.{List, [], ◌∷◌, Option, Some, None, map}
 use Rattle.std.specs.Global.{Box}
 use Rattle.ml_syntax.specs.declared.word.Word.{Word}

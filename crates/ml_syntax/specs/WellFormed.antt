@@ -1,5 +1,6 @@
--- Which trees are well formed: what may occur where, and the rules on right edges (the OCaml manual, "Patterns",
--- "Expressions", "Module types", "Module expressions" and "Compilation units").
+-- Which trees are well formed: what may occur where, and the rules on right edges (own profile;
+-- the OCaml manual, "Patterns", "Expressions", "Module types", "Module expressions" and
+-- "Compilation units").
 use Rattle.std.specs.Prelude.{◌≡◌, ◌≢◌, ℕ, ◌<◌, ◌≤◌, ◌⊎◌, List, [], ◌∷◌, Bool, true, false, ◌||◌, ◌&&◌, ◌==◌, not, Option, Some, None, if◌then◌else◌}
 use Rattle.std.specs.Prelude.{codes, nat_le}
 use Rattle.std.specs.List.{list_any}

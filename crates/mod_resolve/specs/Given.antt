@@ -1,4 +1,5 @@
--- The shapes of a functor's parameters, none of a parameter `()`, and the optional signature of a module.
+-- The shapes of a functor's parameters, none of a parameter `()`, and the optional signature of a
+-- module (the OCaml manual, "Module expressions").
 use Rattle.std.specs.Prelude.{ℕ, List, [], ◌∷◌, Option, Some, None}
 use Rattle.rotor_base.specs.declared.place.Place.{Place}
 use Rattle.ml_syntax.specs.Tree.{FunctorParam, NamedParam, NoParam, FunctorParams, no_functor_param, more_functor_param, MaybeType, no_type}

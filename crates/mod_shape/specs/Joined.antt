@@ -1,4 +1,4 @@
--- The shapes of the files of a unit, and what joins them.
+-- The shapes of the files of a unit, and what joins them (the OCaml manual, "Compilation units").
 use Rattle.std.specs.Prelude.{Option, Some, None}
 use Rattle.ml_syntax.specs.Tree.{FileTree}
 use Rattle.shape_core.specs.Shape.{Shape, Opaque, Entries}

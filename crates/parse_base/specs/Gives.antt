@@ -1,4 +1,5 @@
--- What a function that reads ensures: it gives what the reading on lists gives, unless memory runs out.
+-- What a function that reads ensures: it gives what the reading on lists gives, unless memory runs
+-- out (own).
 use Rattle.std.specs.Prelude.{◌≡◌, ℕ, ◌+◌, ◌<◌, ◌≤◌, Bool, true, false, length, List, [], ◌∷◌, drop, map, Option, Some, None, Result, Ok, Err}
 use Rattle.rotor_base.specs.declared.token.Class.{Class}
 use Rattle.rotor_base.specs.declared.token.Class.TheVariants as class

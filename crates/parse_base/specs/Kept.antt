@@ -1,4 +1,4 @@
--- The nesting and the refused forms of respelled tokens.
+-- The nesting and the refused forms of respelled tokens (own).
 use Rattle.std.specs.Prelude.{◌≡◌, ℕ, ◌⊎◌, ◌==◌, List, [], ◌∷◌, Bool, false, Option, None, length, map}
 use Rattle.rotor_base.specs.declared.token.Class.TheVariants as class
 use Rattle.rotor_base.specs.declared.token.Token.{Token}

@@ -1,4 +1,4 @@
--- Readings of paths, names and runs.
+-- Readings of paths, names and runs (the OCaml manual, "Names" and "Type expressions").
 use Rattle.std.specs.Prelude.{ℕ, suc, List, [], ◌∷◌, Bool, if◌then◌else◌, Option, Some, None, take, drop}
 use Rattle.rotor_base.specs.declared.token.Class.TheVariants as class
 use Rattle.ml_syntax.specs.declared.fixed.Fixed.{Fixed}

@@ -1,4 +1,4 @@
--- Small tests and readings of tokens, as the code makes them.
+-- Small tests and readings of tokens, as the code makes them (own).
 use Rattle.std.specs.Prelude.{ℕ, List, [], ◌∷◌, Bool, true, false, ◌||◌, codes}
 use Rattle.std.specs.Str.{bytes_eq}
 use Rattle.ml_syntax.specs.Tok.{Name, Tok}

@@ -1,4 +1,4 @@
--- The steps of reading a run, as the code takes them.
+-- The steps of reading a run, as the code takes them (own).
 use Rattle.std.specs.Prelude.{◌≡◌, ℕ, suc, ◌+◌, ◌==◌, Bool, true, false, length, List, [], ◌∷◌, Option, Some, None, if◌then◌else◌}
 use Rattle.ml_syntax.specs.declared.fixed.Fixed.{Fixed}
 use Rattle.ml_syntax.specs.Tok.{Tok}

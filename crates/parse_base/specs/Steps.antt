@@ -1,4 +1,4 @@
--- Reading as a function on lists of tokens: what is read first, and the tokens after it.
+-- Reading as a function on lists of tokens: what is read first, and the tokens after it (own).
 use Rattle.std.specs.Prelude.{ℕ, zero, suc, List, ◌∷◌, Bool, true, if◌then◌else◌, Option, Some, None}
 use Rattle.ml_syntax.specs.declared.fixed.Fixed.{Fixed}
 use Rattle.ml_syntax.specs.Tok.{Tok, fixed, placed, same}

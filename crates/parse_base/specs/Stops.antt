@@ -1,4 +1,4 @@
--- Where the removing of marks stops.
+-- Where the removing of marks stops (own).
 use Rattle.std.specs.Prelude.{Bool}
 use Rattle.parse_base.specs.declared.depth.Mark.{Mark}
 use Rattle.parse_base.specs.declared.depth.Stop.{Stop}

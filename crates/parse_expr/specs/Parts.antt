@@ -1,4 +1,4 @@
--- Parts and operators, as the code reads them.
+-- Parts and operators, as the code reads them (own).
 use Rattle.std.specs.Prelude.{ℕ, [], ◌∷◌, ◌==◌, if◌then◌else◌, Some, None}
 use Rattle.ml_syntax.specs.declared.fixed.Fixed.TheVariants as key
 use Rattle.ml_syntax.specs.Tok.{Tok, placed}

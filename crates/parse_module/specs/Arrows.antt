@@ -1,5 +1,5 @@
--- Module types with arrows, as the code reads them: the part before each arrow, and what is read behind the last. The
--- manual's chapter on module types.
+-- Module types with arrows, as the code reads them: the part before each arrow, and what is read
+-- behind the last (the OCaml manual, "Module types").
 use Rattle.std.specs.Prelude.{◌≡◌, ℕ, List, [], ◌∷◌, Option, Some, None, Result, Ok, Err}
 use Rattle.rotor_base.specs.declared.token.Token.{Token}
 use Rattle.ml_syntax.specs.declared.module.ModType.{ModType as Source}

@@ -1,4 +1,5 @@
--- Reading modules, module types and files.
+-- Reading modules, module types and files (the OCaml manual, "Module expressions", "Module types"
+-- and "Compilation units").
 use Rattle.std.specs.Prelude.{ℕ, zero, suc, List, [], ◌∷◌, Bool, true, false, if◌then◌else◌, Option, Some, None}
 use Rattle.rotor_base.specs.declared.token.Class.TheVariants as class
 use Rattle.ml_syntax.specs.declared.fixed.Fixed.TheVariants as key

@@ -1,4 +1,4 @@
--- The parts of items, modules and module types, as the code reads them.
+-- The parts of items, modules and module types, as the code reads them (own).
 use Rattle.std.specs.Prelude.{ℕ, List, ◌∷◌, Bool, true, false, Option, Some}
 use Rattle.rotor_base.specs.declared.token.Class.TheVariants as class
 use Rattle.ml_syntax.specs.declared.fixed.Fixed.TheVariants as key

@@ -1,4 +1,4 @@
--- What the function values that read modules and module types do, to a depth.
+-- What the function values that read modules and module types do, to a depth (own).
 use Rattle.std.specs.Prelude.{ℕ, ◌≤◌, length, List, Result}
 use Rattle.std.specs.declared.alloc.Global.{Global}
 use Rattle.rotor_base.specs.Limits.{max_file_bytes}

@@ -1,4 +1,4 @@
--- When the answer of loading is that the folder failed.
+-- When the answer of loading is that the folder failed (own).
 use Rattle.std.specs.Prelude.{ℕ, ◌<◌, ◌≤◌, Result, IsErrOf}
 use Rattle.rotor_base.specs.declared.refusal.LoadError.{LoadError}
 use Rattle.rotor_base.specs.declared.refusal.LoadError.TheVariants.{Read}

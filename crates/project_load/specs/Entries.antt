@@ -1,4 +1,4 @@
--- The entries of a list, and the folder that they give.
+-- The entries of a list, and the folder that they give (own).
 use Rattle.std.specs.Prelude.{◌≡◌, ◌⊎◌, ℕ, ◌≤◌, true, List, [], ◌∷◌, ◌++◌, Option, Some, None, IsSome, is_some, Result, Ok, Err}
 use Rattle.std.specs.Prelude.{MatchResult, String, length, map, string_bytes}
 use Rattle.std.specs.BTreeSet.{BTreeSet, contains_text}

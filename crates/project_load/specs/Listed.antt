@@ -1,4 +1,4 @@
--- Loading by a list: the list gives a folder, which is loaded.
+-- Loading by a list: the list gives a folder, which is loaded (own).
 use Rattle.std.specs.Prelude.{◌≡◌, ◌⊎◌, ℕ, ◌+◌, ◌<◌, ◌≤◌, ◌||◌, Bool, true, List, [], ◌∷◌, ◌++◌, None, Some, IsSome, Result, Ok, Err}
 use Rattle.std.specs.Prelude.{MatchResult, length, codes}
 use Rattle.std.specs.Str.{bytes_eq}

@@ -1,4 +1,4 @@
--- The files of a project in a folder: Load.
+-- The files of a project in a folder: Load (own).
 use Rattle.std.specs.Prelude.{◌≡◌, ◌⊎◌, ℕ, List, Option, Some, None, option_map, filter, Result, Ok, Err, MatchResult, codes}
 use Rattle.std.specs.List.{filter_map}
 use Rattle.std.specs.FinMap.{get, keys}

@@ -1,4 +1,4 @@
--- The folder that a naming of sources shows.
+-- The folder that a naming of sources shows (own).
 use Rattle.std.specs.Prelude.{Option}
 use Rattle.std.specs.Option.{option_map}
 use Rattle.tree_io.specs.Outside.{FileMap}

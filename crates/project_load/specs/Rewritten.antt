@@ -1,4 +1,4 @@
--- A folder after some of its sources were written.
+-- A folder after some of its sources were written (own).
 use Rattle.std.specs.Prelude.{◌≡◌, ◌⊎◌, ℕ, List, [], ◌∷◌, None, Ok, Contains, slice_get}
 use Rattle.std.specs.List.{filter_map}
 use Rattle.std.specs.FinMap.{insert}

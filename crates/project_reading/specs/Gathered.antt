@@ -1,4 +1,5 @@
--- How the tree of a further source is added to units, which are in byte order of their names.
+-- How the tree of a further source is added to units, which are in byte order of their names
+-- (own).
 use Rattle.std.specs.Prelude.{ℕ, List, [], ◌∷◌, Bool, true, false, Some, None}
 use Rattle.std.specs.Cmp.Lexicographic.{slice_cmp}
 use Rattle.std.specs.Ordering.{nat_cmp, match_ordering}

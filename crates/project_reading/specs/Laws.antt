@@ -1,4 +1,4 @@
--- The laws of reading.
+-- The laws of reading (own).
 use Rattle.std.specs.Prelude.{◌≡◌, ◌⊎◌, ℕ, List, Some, slice_get, Contains}
 use Rattle.rotor_base.specs.Files.{FileSet, IsProject}
 use Rattle.rotor_base.specs.declared.refusal.Refusal.{Refusal}

@@ -1,4 +1,4 @@
--- The project that files are read as, and why they are not.
+-- The project that files are read as, and why they are not (own).
 use Rattle.std.specs.Prelude.{◌≡◌, ◌⊎◌, ℕ, List, Option, None, true, false}
 use Rattle.rotor_base.specs.Files.{FileSet}
 use Rattle.rotor_base.specs.declared.refusal.Refusal.{Refusal}

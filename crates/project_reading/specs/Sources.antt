@@ -1,4 +1,4 @@
--- What the sources of a project are read as, one after another, each with its number.
+-- What the sources of a project are read as, one after another, each with its number (own).
 use Rattle.std.specs.Prelude.{◌≡◌, ◌⊎◌, ℕ, suc, List, [], ◌∷◌}
 use Rattle.rotor_base.specs.declared.refusal.Refusal.{Refusal}
 use Rattle.rotor_base.specs.declared.refusal.Refusal.TheVariants as refusal

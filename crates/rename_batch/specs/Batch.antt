@@ -1,4 +1,4 @@
--- Batch: renamings one after the other, all or none.
+-- Batch: renamings one after the other, all or none (own).
 use Rattle.std.specs.Prelude.{◌≡◌, ◌≢◌, ◌⊎◌, ℕ, suc, ◌+◌, List, [], ◌∷◌, map, reverse, Result, Ok, Err, if◌then◌else◌}
 use Rattle.std.specs.Str.{bytes_eq}
 use Rattle.rotor_base.specs.declared.refusal.Refusal.{Refusal}

@@ -1,4 +1,4 @@
--- What is said of batches as a whole.
+-- What is said of batches as a whole (own).
 use Rattle.std.specs.Prelude.{◌≡◌, ◌≢◌, ◌⊎◌, ◌<◌, ℕ, List, [], None, All, Contains, Result, Ok, length, slice_get}
 use Rattle.std.specs.List.Sorted.{IsStrictlySortedBy}
 use Rattle.std.specs.Ordering.{nat_cmp}

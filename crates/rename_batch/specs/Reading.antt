@@ -1,4 +1,4 @@
--- Reading a batch: lines `TARGET NAME`.
+-- Reading a batch: lines `TARGET NAME` (own).
 use Rattle.std.specs.Prelude.{◌≡◌, ◌≢◌, ◌⊎◌, ℕ, ◌+◌, ◌≤◌, List, [], ◌∷◌, ◌++◌, true, length}
 use Rattle.std.specs.Str.{IsUtf8}
 use Rattle.line_words.specs.Cut.{IsWhole}

@@ -1,4 +1,4 @@
--- The report of an accepted batch.
+-- The report of an accepted batch (own).
 use Rattle.std.specs.Prelude.{ℕ, List, [], ◌∷◌, ◌++◌, map, flat_map, length, codes}
 use Rattle.report.specs.Pieces.{Word, join, place_text}
 use Rattle.report.specs.Lines.{number_line}

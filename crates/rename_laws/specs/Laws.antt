@@ -1,4 +1,4 @@
--- What a renaming that is accepted keeps.
+-- What a renaming that is accepted keeps (own).
 use Rattle.std.specs.Prelude.{◌≡◌, ◌⊎◌, ◌↔◌, ◌||◌, ℕ, ◌<◌, ◌≤◌, List, map, length, Bool, true, not, nat_le, Some, None, All, Contains}
 use Rattle.std.specs.Prelude.{IsSome, IsTrue, IsFalse, Ok, slice_get, slice_index}
 use Rattle.std.specs.List.Sorted.{IsStrictlySortedBy}

@@ -1,4 +1,4 @@
--- The first position of a list at which the items so far meet a test.
+-- The first position of a list at which the items so far meet a test (own).
 use Rattle.std.specs.Prelude.{ℕ, suc, List, [], ◌∷◌, Bool, Option, Some, None, option_map, if◌then◌else◌}
 
 -- the position of the first item with which the items up to it meet a test

@@ -1,4 +1,4 @@
--- The footprint of a binder, and the places that take the new word.
+-- The footprint of a binder, and the places that take the new word (own).
 use Rattle.std.specs.Prelude.{List, ◌++◌, Bool, false, Contains, map, filter}
 use Rattle.std.specs.List.{list_any}
 use Rattle.rotor_base.specs.declared.place.Place.{Place}

@@ -1,4 +1,5 @@
--- Ladders of refusals: conditions in their order (`before` of capture_check), their end, and least places.
+-- Ladders of refusals: conditions in their order (`before` of capture_check), their end, and least
+-- places (own).
 use Rattle.std.specs.Prelude.{◌≡◌, ◌⊎◌}
 use Rattle.rotor_base.specs.declared.place.Place.{Place}
 use Rattle.rotor_base.specs.Place.{IsBefore}

@@ -1,4 +1,4 @@
--- Law: each ladder gives at most one refusal, and a target has one goal.
+-- Law: each ladder gives at most one refusal, and a target has one goal (own).
 use Rattle.std.specs.Prelude.{List}
 use Rattle.rotor_base.specs.declared.target.Target.{Target}
 use Rattle.rotor_base.specs.Files.{FileSet}

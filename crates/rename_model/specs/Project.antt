@@ -1,4 +1,4 @@
--- The refusals of a project that was read, in their order; and what `check` counts.
+-- The refusals of a project that was read, in their order; and what `check` counts (own).
 use Rattle.std.specs.Prelude.{◌≡◌, ℕ, List, Some, length, filter}
 use Rattle.rotor_base.specs.declared.refusal.Refusal.{Refusal}
 use Rattle.rotor_base.specs.declared.refusal.Refusal.TheVariants as refusal

@@ -1,4 +1,4 @@
--- The refusals of a renaming, in their order, each a condition of its own.
+-- The refusals of a renaming, in their order, each a condition of its own (own).
 use Rattle.std.specs.Prelude.{◌≡◌, List, Some, Contains, IsTrue, IsFalse}
 use Rattle.rotor_base.specs.declared.place.Place.{Place}
 use Rattle.rotor_base.specs.declared.place.Goal.{Goal}

@@ -1,4 +1,4 @@
--- What `footprint` shows, and what `rename` has done.
+-- What `footprint` shows, and what `rename` has done (own).
 use Rattle.std.specs.Prelude.{◌≡◌, ℕ, suc, List, [], ◌∷◌, length, ◌==◌, if◌then◌else◌}
 use Rattle.std.specs.List.{list_any}
 use Rattle.rotor_base.specs.declared.place.Place.{Place}

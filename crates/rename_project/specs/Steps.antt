@@ -1,4 +1,4 @@
--- What the steps of a call answer.
+-- What the steps of a call answer (own).
 use Rattle.std.specs.Prelude.{◌≡◌, ◌⊎◌}
 use Rattle.rotor_base.specs.declared.refusal.Refusal.{Refusal}
 use Rattle.rotor_base.specs.declared.refusal.Refusal.TheVariants as refusal

@@ -1,4 +1,4 @@
--- The tables by which the new words are found.
+-- The tables by which the new words are found (own).
 use Rattle.std.specs.Prelude.{ℕ, List, Option, Some, None, option_copied}
 use Rattle.std.specs.Borrow.{Bor}
 use Rattle.std.specs.BTreeMap.{BTreeMap, get}

@@ -1,4 +1,4 @@
--- The law of surveys.
+-- The law of surveys (own).
 use Rattle.std.specs.Prelude.{List}
 use Rattle.rotor_base.specs.Files.{FileSet}
 use Rattle.ml_syntax.specs.Each.{Each}

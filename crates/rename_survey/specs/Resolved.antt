@@ -1,4 +1,4 @@
--- Files that are read as a project and resolved.
+-- Files that are read as a project and resolved (own).
 use Rattle.std.specs.Prelude.{◌≡◌, ◌⊎◌, List, None}
 use Rattle.rotor_base.specs.declared.refusal.Refusal.{Refusal}
 use Rattle.rotor_base.specs.Files.{FileSet}

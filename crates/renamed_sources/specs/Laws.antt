@@ -1,4 +1,4 @@
--- The laws of renamed sources.
+-- The laws of renamed sources (own).
 use Rattle.std.specs.Prelude.{◌≡◌, ◌⊎◌, ℕ, List, Option, Some, None, false, Contains, IsTrue, slice_get}
 use Rattle.rotor_base.specs.declared.looks.Watch.{Watch}
 use Rattle.rotor_base.specs.declared.place.Place.{Place}

@@ -1,4 +1,4 @@
--- The JSON of a report: one object in compact form with its keys in byte order, and LF.
+-- The JSON of a report: one object in compact form with its keys in byte order, and LF (own).
 use Rattle.std.specs.Prelude.{ℕ, List, [], ◌∷◌, map, Option, Some, None, codes}
 use Rattle.std.specs.Str.Lossy.{utf8_lossy}
 use Rattle.serde_json.specs.Data.{Data, array, object, string, number, unsigned, member, no_members}

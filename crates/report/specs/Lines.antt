@@ -1,4 +1,4 @@
--- The lines of a report, without their ends.
+-- The lines of a report, without their ends (own).
 use Rattle.std.specs.Prelude.{ℕ, List, [], ◌∷◌, ◌++◌, Bool, true, false, map, length, Option, Some, None, codes}
 use Rattle.std.specs.Fmt.{decimal}
 use Rattle.rotor_base.specs.declared.place.Place.{Place}

@@ -1,4 +1,4 @@
--- What the line of a refusal holds.
+-- What the line of a refusal holds (own).
 use Rattle.std.specs.Prelude.{List, [], ◌∷◌, ◌++◌, Option, Some, None, codes, flat_map}
 use Rattle.std.specs.Fmt.{decimal}
 use Rattle.rotor_base.specs.declared.place.Place.{Place}

@@ -1,4 +1,4 @@
--- What the lines of a report are made of.
+-- What the lines of a report are made of (own).
 use Rattle.std.specs.Prelude.{ℕ, List, [], ◌∷◌, ◌++◌, Option, Some, None, codes, unwrap_or, slice_get}
 use Rattle.std.specs.Fmt.{decimal}
 use Rattle.rotor_base.specs.declared.place.Place.{Place}

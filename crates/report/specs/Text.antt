@@ -1,4 +1,4 @@
--- The text of a report: its lines, each ended by LF.
+-- The text of a report: its lines, each ended by LF (own).
 use Rattle.std.specs.Prelude.{ℕ, List, [], ◌∷◌, ◌++◌, flat_map}
 use Rattle.rotor_base.specs.declared.report.Outcome.{Outcome}
 use Rattle.report.specs.Pieces.{Word}

@@ -1,6 +1,6 @@
--- What holds of a command that is done: what a renaming keeps, that the words of its undo give the old files back, what a
--- footprint and a batch are, what a recovery leaves, and what a yes of `verify` says. What is recovered after a stop, and
--- when a command has to be done.
+-- What holds of a command that is done: what a renaming keeps, that the words of its undo give the
+-- old files back, what a footprint and a batch are, what a recovery leaves, and what a yes of
+-- `verify` says (own). What is recovered after a stop, and when a command has to be done.
 use Rattle.std.specs.Prelude.{◌≡◌, ℕ, ◌≤◌, List, [], ◌∷◌, ◌++◌, ◌≢◌, ◌⊎◌, ◌||◌, Bool, true, false, Option, Some, None, IsSome, Ok}
 use Rattle.std.specs.Prelude.{codes, length}
 use Rattle.std.specs.Global.{Vec}

@@ -1,4 +1,5 @@
--- The laws of the crates below that the contract of the top call rests on, and the law of replies.
+-- The laws of the crates below that the contract of the top call rests on, and the law of replies
+-- (own).
 use Rattle.std.specs.Prelude.{◌≡◌, Option}
 use Rattle.tree_io.specs.Outside.{FileMap}
 use Rattle.cli_words.specs.declared.command.Command.{Command}

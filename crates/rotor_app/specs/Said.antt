@@ -1,4 +1,5 @@
--- What the program answers to its words over the files of a folder, and what the folder holds after it.
+-- What the program answers to its words over the files of a folder, and what the folder holds
+-- after it (own).
 use Rattle.std.specs.Prelude.{ℕ, List, [], ◌++◌, ◌≡◌, ◌≢◌, ◌<◌, ◌≤◌, Bool, true, false, if◌then◌else◌, Option, Some, None, Result, Ok, Err}
 use Rattle.std.specs.Prelude.{length, codes}
 use Rattle.std.specs.Fmt.{decimal}

@@ -1,4 +1,4 @@
--- The exit codes of the statuses.
+-- The exit codes of the statuses (own).
 use Rattle.std.specs.Prelude.{ℕ}
 use Rattle.rotor_app.specs.declared.status.Status.{Status}
 use Rattle.rotor_app.specs.declared.status.Status.TheVariants.{Done, Refused, Usage, Project, TreeFault, SinkFault, Memory}

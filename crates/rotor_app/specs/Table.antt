@@ -1,4 +1,4 @@
--- What a call of the program leaves: the table of its answers.
+-- What a call of the program leaves: the table of its answers (own).
 use Rattle.std.specs.Prelude.{◌≡◌, ◌⊎◌, ℕ, ◌<◌, ◌≤◌, List, length, Option, Some, None}
 use Rattle.tree_io.specs.Outside.{FileMap, Rose, Takes, TakesPrefix}
 use Rattle.cli_words.specs.declared.command.Command.{Command}

@@ -1,4 +1,4 @@
--- What a command needs of the folder, and what it puts.
+-- What a command needs of the folder, and what it puts (own).
 use Rattle.std.specs.Prelude.{ℕ, List, Bool, true, false, not, ◌&&◌, ◌||◌, Option, Some, None, is_none}
 use Rattle.cli_words.specs.declared.command.Command.{Command}
 use Rattle.cli_words.specs.declared.command.Command.TheVariants as command

@@ -1,4 +1,5 @@
--- The sources of a folder with their manifest, and which of them are taken as a project's files.
+-- The sources of a folder with their manifest, and which of them are taken as a project's files
+-- (own; the OCaml manual, "Compilation units").
 use Rattle.std.specs.Prelude.{◌≡◌, ◌⊎◌, ℕ, suc, List, [], ◌∷◌, Bool, true, ◌&&◌, ◌||◌, not, if◌then◌else◌, Option, Some, None, option_map, length}
 use Rattle.std.specs.Prelude.{map, filter, sum_by, nat_lt, codes}
 use Rattle.std.specs.Option.{option_or}

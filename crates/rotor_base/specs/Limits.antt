@@ -1,4 +1,4 @@
--- The limits of the product (their values in code are in src/limits.rt).
+-- The limits of the product (their values in code are in src/limits.rt) (own).
 use Rattle.std.specs.Prelude.{ℕ}
 
 -- the most source files of a folder

@@ -1,4 +1,4 @@
--- Lines that LF alone ends.
+-- Lines that LF alone ends (own).
 use Rattle.std.specs.Prelude.{ℕ, List, [], ◌∷◌, ◌==◌, if◌then◌else◌}
 use Rattle.std.specs.List.{onto_first}
 

@@ -1,4 +1,4 @@
--- Which line of a manifest is bad, in words of its lines.
+-- Which line of a manifest is bad, in words of its lines (own).
 use Rattle.std.specs.Prelude.{◌≡◌, ◌≢◌, ◌⊎◌, ◌↔◌, ℕ, ◌+◌, List, [], ◌∷◌, ◌++◌, Contains, Option, Some, None, length, map}
 use Rattle.rotor_base.specs.Files.{bad_line}
 use Rattle.rotor_base.specs.declared.unit.SourceUnit.{SourceUnit}

@@ -1,4 +1,4 @@
--- The names of sources (the OCaml manual, "Compilation units").
+-- The names of sources (own limits; the OCaml manual, "Compilation units").
 use Rattle.std.specs.Prelude.{ℕ, List, [], ◌∷◌, Bool, false, ◌==◌, ◌&&◌, ◌||◌, ◌-◌, length, take, drop, nat_le, codes}
 use Rattle.std.specs.Char.{is_ascii_alphabetic, is_ascii_alphanumeric}
 use Rattle.std.specs.List.{list_all}

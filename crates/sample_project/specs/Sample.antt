@@ -1,4 +1,4 @@
--- What `sample` reports.
+-- What `sample` reports (own).
 use Rattle.std.specs.Prelude.{◌≡◌, ℕ, List, [], ◌∷◌, true, Option, Some, None, Result, Ok, Err, length, slice_get, codes}
 use Rattle.rotor_base.specs.declared.refusal.Refusal.{Refusal}
 use Rattle.rotor_base.specs.declared.report.Renamed.{Renamed}

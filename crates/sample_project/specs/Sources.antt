@@ -1,4 +1,4 @@
--- The files that `sample` renames in.
+-- The files that `sample` renames in (own).
 use Rattle.std.specs.Prelude.{ℕ, zero, suc, ◌+◌, ◌*◌, List, [], ◌∷◌, ◌++◌, None, map, filter, flat_map, nat_lt, codes}
 use Rattle.std.specs.Fmt.{decimal}
 use Rattle.rotor_base.specs.Files.{FileSet}

@@ -1,5 +1,5 @@
--- Shapes coded as trees of numbers, different shapes as different trees. A value that contracts see in place of a
--- struct must have such a code.
+-- Shapes coded as trees of numbers, different shapes as different trees (own). A value that
+-- contracts see in place of a struct must have such a code.
 use Rattle.std.specs.Prelude.{◌≡◌, ℕ, zero, suc, Option, None, refl}
 use Rattle.std.specs.Coded.{Coded, code_by, coded_ℕ, coded_list, coded_option, coded×}
 use Rattle.std.proofs.Common.{ap}

@@ -1,4 +1,4 @@
--- No part of a shared shape is deeper than the shape.
+-- No part of a shared shape is deeper than the shape (own).
 use Rattle.std.specs.Prelude.{◌≤◌, List, [], ◌∷◌, max}
 use Rattle.std.proofs.Common.{arith}
 use denote.Param.Weighed.{most}

@@ -1,4 +1,4 @@
--- What an index of a list of entries holds.
+-- What an index of a list of entries holds (own).
 use Rattle.std.specs.Prelude.{◌≡◌, ◌≤◌, ℕ, suc, Bool, false, List, [], ◌∷◌, ◌++◌, slice_get, Option, Some, None, bytes_eq, nat_eq}
 use Rattle.rotor_base.specs.Limits.{max_levels}
 use Rattle.shape_core.specs.declared.shared.SharedEntry.{SharedEntry}

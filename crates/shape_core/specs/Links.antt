@@ -1,4 +1,5 @@
--- Match and Pin: the links of two shapes and of one, with the work that finding them costs.
+-- Match and Pin: the links of two shapes and of one, with the work that finding them costs (work
+-- is own; signature matching is that of the OCaml manual, "Module types").
 use Rattle.std.specs.Prelude.{ℕ, zero, suc, ◌+◌, List, [], ◌∷◌, ◌++◌, Option, Some, None}
 use Rattle.rotor_base.specs.declared.place.Goal.{Goal}
 use Rattle.rotor_base.specs.declared.place.Goal.TheVariants.{Outside, Missing, Hidden}

@@ -1,4 +1,5 @@
--- Looks' part on the links of Match and Pin: what each look-up of the old or of the new name would find.
+-- Looks' part on the links of Match and Pin: what each look-up of the old or of the new name would
+-- find (own).
 use Rattle.std.specs.Prelude.{ℕ, suc, Bool, false, ◌||◌, ◌&&◌, not, is_some, List, [], ◌∷◌, length, Option, Some, None, bytes_eq}
 use Rattle.std.specs.List.{list_any}
 use Rattle.rotor_base.specs.Place.{same_place}

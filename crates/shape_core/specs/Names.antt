@@ -1,4 +1,4 @@
--- What a name table holds for a name.
+-- What a name table holds for a name (own).
 use Rattle.std.specs.Prelude.{ℕ, List, Option, bytes_eq}
 use Rattle.indexmap.specs.IndexMap.{get_by}
 use Rattle.shape_core.specs.declared.names.Names.{Names}

@@ -1,4 +1,4 @@
--- What a list of shared entries and a shared shape show.
+-- What a list of shared entries and a shared shape show (own).
 use Rattle.std.specs.Prelude.{List, [], ◌∷◌}
 use Rattle.shape_core.specs.declared.shared.Form.{Form}
 use Rattle.shape_core.specs.declared.shared.Form.TheVariants as f

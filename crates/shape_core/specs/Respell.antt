@@ -1,4 +1,4 @@
--- The same shape with other names at some declarations.
+-- The same shape with other names at some declarations (own).
 use Rattle.std.specs.Prelude.{Option, Some, None}
 use Rattle.rotor_base.specs.declared.place.Place.{Place}
 use Rattle.rotor_base.specs.declared.place.Goal.{Goal}

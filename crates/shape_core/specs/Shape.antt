@@ -1,4 +1,5 @@
--- Shapes, look-ups and weights.
+-- Shapes, look-ups and weights (own; the OCaml manual, "Names", "Module types" and "Module
+-- expressions").
 use Rattle.std.specs.Prelude.{ℕ, zero, suc, ◌+◌, Bool, true, false, List, [], ◌∷◌, length, Option, Some, None, max, min, bytes_eq}
 use Rattle.rotor_base.specs.declared.place.Place.{Place}
 use Rattle.rotor_base.specs.declared.place.Goal.{Goal}

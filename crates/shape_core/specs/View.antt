@@ -1,4 +1,4 @@
--- The shapes of the plain form, without their addresses in memory.
+-- The shapes of the plain form, without their addresses in memory (own).
 use Rattle.std.specs.Prelude.{◌≡◌, List, [], ◌∷◌, length, Option, Some, None}
 use Rattle.std.specs.Borrow.{Bor}
 use Rattle.shape_core.specs.declared.shape.Shape.{Shape}

@@ -1,4 +1,4 @@
--- The hunks of a diff, and their text.
+-- The hunks of a diff, and their text (unified diff, as GNU diff writes it).
 use Rattle.std.specs.Prelude.{◌≡◌, ℕ, suc, ◌-◌, ◌==◌, List, [], ◌∷◌, ◌++◌, Bool, length, map, codes, if◌then◌else◌, slice_index, slice_range}
 use Rattle.std.specs.List.{flat_map}
 use Rattle.std.specs.Fmt.{decimal}

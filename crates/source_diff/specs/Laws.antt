@@ -1,4 +1,4 @@
--- The laws of diffs.
+-- The laws of diffs (own).
 use Rattle.std.specs.Prelude.{◌≡◌, ℕ, List}
 use Rattle.std.specs.List.{concat}
 use Rattle.source_diff.specs.Pairs.{text_lines, pairs_of}

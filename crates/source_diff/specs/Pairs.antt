@@ -1,4 +1,4 @@
--- The lines of two texts, paired by their numbers.
+-- The lines of two texts, paired by their numbers (own).
 use Rattle.std.specs.Prelude.{ℕ, List, [], ◌∷◌, ◌==◌, Bool, not, bytes_eq, if◌then◌else◌}
 use Rattle.std.specs.List.{onto_first}
 use Rattle.source_diff.specs.declared.pairs.LinePair.{LinePair}

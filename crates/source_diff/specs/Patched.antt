@@ -1,4 +1,4 @@
--- What hunks make of a text.
+-- What hunks make of a text (own).
 use Rattle.std.specs.Prelude.{◌≡◌, ℕ, ◌+◌, List, [], ◌∷◌, ◌++◌, length}
 use Rattle.source_diff.specs.Pairs.{Line}
 use Rattle.source_diff.specs.Hunks.{Hunk, old_lines, new_lines}

@@ -1,4 +1,4 @@
--- The lines that a diff shows, as runs. Lines count from 0.
+-- The lines that a diff shows, as runs (unified diff, as GNU diff writes it). Lines count from 0.
 use Rattle.std.specs.Prelude.{◌≡◌, ◌⊎◌, ℕ, ◌+◌, ◌-◌, ◌<◌, ◌≤◌, List, [], ◌∷◌, Bool, true, false, slice_range}
 use Rattle.std.specs.List.{list_any}
 use Rattle.source_diff.specs.declared.runs.Run.{Run}

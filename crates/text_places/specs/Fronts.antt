@@ -1,4 +1,5 @@
--- What begins at the front of a text: a line end, a character, or a byte that begins none.
+-- What begins at the front of a text: a line end, a character, or a byte that begins none
+-- (Unicode, "UTF-8" and "UTF-16"; Language Server Protocol 3.17, "Position").
 use Rattle.std.specs.Prelude.{ℕ, suc, ◌+◌, ◌==◌, List, [], ◌∷◌, Bool, true, false, take, if◌then◌else◌}
 use Rattle.std.specs.Str.{is_utf8}
 use Rattle.text_places.specs.declared.counting.Counting.{Counting}

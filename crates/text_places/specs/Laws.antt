@@ -1,4 +1,4 @@
--- The laws of lines and columns.
+-- The laws of lines and columns (own).
 use Rattle.std.specs.Prelude.{◌≡◌, ℕ, ◌≤◌, List, [], ◌∷◌, ◌++◌, Some, Contains, length, map}
 use Rattle.std.specs.Str.{IsUtf8}
 use Rattle.text_places.specs.declared.counting.Counting.{Counting}

@@ -1,4 +1,5 @@
--- The positions of a text, and the bytes that they name.
+-- The positions of a text, and the bytes that they name (own; Language Server Protocol 3.17,
+-- "Position").
 use Rattle.std.specs.Prelude.{ℕ, zero, suc, ◌-◌, ◌==◌, ◌&&◌, ◌||◌, nat_lt, nat_le, List, [], ◌∷◌, Bool, true, Option, option_map, if◌then◌else◌}
 use Rattle.std.specs.List.{find}
 use Rattle.text_places.specs.declared.counting.Counting.{Counting}

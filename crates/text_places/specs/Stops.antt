@@ -1,4 +1,4 @@
--- A walk along a text.
+-- A walk along a text (own).
 use Rattle.std.specs.Prelude.{ℕ, ◌+◌, ◌≤◌, List, drop, length}
 use Rattle.text_places.specs.declared.counting.Counting.{Counting}
 use Rattle.text_places.specs.declared.front.Front.{Front}

@@ -1,4 +1,4 @@
--- Counts of calls and of faults, and the calls that are to fail.
+-- Counts of calls and of faults, and the calls that are to fail (own).
 use Rattle.std.specs.Prelude.{◌≡◌, ℕ, ◌+◌, ◌-◌, ◌^◌, ◌<◌, min, Bool, false, List, ◌==◌}
 use Rattle.std.specs.List.{list_any}
 

@@ -1,4 +1,4 @@
--- What the calls of a disk find and do.
+-- What the calls of a disk find and do (own; POSIX).
 use Rattle.std.specs.Prelude.{◌≡◌, ◌≤◌, ℕ, ◌+◌, List, ◌++◌, take, drop, length, Option, Some, ⊤}
 use Rattle.tree_io.specs.declared.disk.Found.{Found}
 use Rattle.tree_io.specs.declared.disk.Found.TheVariants.{Missing, File, Link, Other}

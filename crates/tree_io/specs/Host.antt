@@ -1,4 +1,4 @@
--- What is known of the system's folder and output: the faults that they counted.
+-- What is known of the system's folder and output: the faults that they counted (own).
 use Rattle.std.specs.Prelude.{ℕ, Bool}
 use Rattle.tree_io.specs.declared.host.HostTree.{HostTree}
 use Rattle.tree_io.specs.declared.host.HostSink.{HostSink}

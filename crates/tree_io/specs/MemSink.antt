@@ -1,4 +1,4 @@
--- What an output in memory holds.
+-- What an output in memory holds (own).
 use Rattle.std.specs.Prelude.{◌≡◌, ℕ, ◌+◌, ◌-◌, ◌/◌, ◌≤◌, min, List, Bool, false, ◌||◌, length, take, nat_lt, if◌then◌else◌}
 use Rattle.tree_io.specs.declared.mem_sink.MemSink.{MemSink}
 use Rattle.tree_io.specs.Counts.{next_count, is_listed}

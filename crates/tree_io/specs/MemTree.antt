@@ -1,4 +1,4 @@
--- What a folder in memory with listed faults holds.
+-- What a folder in memory with listed faults holds (own).
 use Rattle.std.specs.Prelude.{◌≡◌, ℕ, List, Bool, if◌then◌else◌}
 use Rattle.tree_io.specs.declared.mem_tree.MemTree.{MemTree}
 use Rattle.tree_io.specs.Counts.{next_count, is_listed, IsPast}

@@ -1,4 +1,4 @@
--- What the calls of a tree do to its folder, and those of a sink to its output.
+-- What the calls of a tree do to its folder, and those of a sink to its output (own).
 use Rattle.std.specs.Prelude.{◌≡◌, ◌⊎◌, ℕ, ◌-◌, ◌^◌, ◌<◌, ◌≤◌, List, ◌++◌, take, length, Option, Some, option_map, Result, IsErrOf, OnOk, OnErr}
 use Rattle.std.specs.Ordering.{nat_cmp}
 use Rattle.std.specs.Cmp.Lexicographic.{slice_cmp}

@@ -1,4 +1,4 @@
--- What a folder in memory that never fails holds.
+-- What a folder in memory that never fails holds (own).
 use Rattle.tree_io.specs.declared.sound_tree.SoundTree.{SoundTree}
 use Rattle.tree_io.specs.Outside.{FileMap}
 use Rattle.tree_io.specs.Store.{stored}

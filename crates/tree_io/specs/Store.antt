@@ -1,4 +1,4 @@
--- What a store of files holds.
+-- What a store of files holds (own).
 use Rattle.std.specs.Prelude.{◌≡◌, ℕ, true, List, map}
 use Rattle.std.specs.FinMap.{from_entries}
 use Rattle.rotor_base.specs.declared.source.SourceFile.{SourceFile}

@@ -1,4 +1,4 @@
--- How often each name is in a list of names.
+-- How often each name is in a list of names (own).
 use Rattle.std.specs.Prelude.{◌≡◌, ℕ, List, count_by, unwrap_or}
 use Rattle.std.specs.Str.{bytes_eq}
 use Rattle.indexmap.specs.IndexMap.{get_by}

@@ -1,4 +1,4 @@
--- Why units have no order.
+-- Why units have no order (the OCaml manual, "Dependency generator").
 use Rattle.std.specs.Prelude.{◌≡◌, ℕ, List, Option, None, false, ⊤}
 use Rattle.ml_syntax.specs.Tree.{UnitTree}
 use Rattle.unit_order.specs.Order.{takes_all, IsStuck}

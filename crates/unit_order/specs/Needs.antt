@@ -1,4 +1,4 @@
--- The needs of the units of a list, as a table and as lists of positions.
+-- The needs of the units of a list, as a table and as lists of positions (own).
 use Rattle.std.specs.Prelude.{◌≡◌, ℕ, ◌+◌, ◌<◌, List, [], ◌∷◌, Bool, All, cond, count_by, get_or, length, map, nat_eq}
 use Rattle.std.specs.List.{list_any}
 use Rattle.ml_syntax.specs.Tree.{UnitTree}

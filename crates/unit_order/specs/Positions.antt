@@ -1,4 +1,4 @@
--- The units of a list by their positions, counted from 0.
+-- The units of a list by their positions, counted from 0 (own).
 use Rattle.std.specs.Prelude.{ℕ, List, [], None, get_or, map}
 use Rattle.ml_syntax.specs.Tree.{UnitTree}
 use Rattle.ml_syntax.specs.declared.module.UnitTree as trees

@@ -1,4 +1,4 @@
--- How a unit waits for those that it needs.
+-- How a unit waits for those that it needs (own).
 use Rattle.std.specs.Prelude.{◌≡◌, ◌-◌, ◌==◌, ◌<◌, ℕ, List, Bool, ◌||◌, ◌&&◌, not, false, cond, get_or}
 use Rattle.unit_order.specs.declared.taking.Waiting.{Waiting}
 
