@@ -7,47 +7,52 @@ use apply_journal::{RecoverError, gate_open, read_recovery};
 use cli_words::Command;
 use known::{Known, Outer, Seeing};
 use project_load::{ListError, is_project_file, load, load_list};
-use rotor_base::{LoadError, MAX_FILE_BYTES};
+use rotor_base::{Files, LoadError, MAX_FILE_BYTES};
 use std::alloc::Global;
 use tree_io::{Tree, TreeError};
 
 /// The most bytes of a batch that are read: one more than it may have.
 const BATCH_LIMIT: u32 = MAX_FILE_BYTES + 1;
 
-/// The folder with what a command may ask of it.
+/// The folder with what a command may ask of it. The files that its calls loaded are added to `loaded`: a large file that
+/// is freed before the command runs makes the memory that follows slower.
 pub(crate) fn see<T: Outer + Drop>(
     alloc: Global,
     command: &Command,
     tree: T,
+    loaded: &mut Vec<Files>,
 ) -> Result<Known<T>, TreeError>
     ensures { IfOk result (λ known. known_faults known ≡ 0) }
 {
     let mut seeing = Seeing::new(alloc, tree)?;
-    see_asked(alloc, command, &mut seeing)?;
+    see_asked(alloc, command, &mut seeing, loaded)?;
     Ok(seeing.into_known(alloc)?)
 }
 
-/// Reads what a command may ask. The error is `Failed`.
+/// Reads what a command may ask.
 fn see_asked<T: Outer + Drop>(
     alloc: Global,
     command: &Command,
     seeing: &mut Seeing<T>,
+    loaded: &mut Vec<Files>,
 ) -> Result<(), TreeError> {
     match command {
         Command::Sample(_) => Ok(()),
-        Command::Check | Command::Shape(_) => see_project(alloc, false, seeing).map(|_| ()),
+        Command::Check | Command::Shape(_) => {
+            see_project(alloc, false, seeing, loaded).map(|_| ())
+        }
         Command::Rename { write, safe, .. } => {
-            see_project(alloc, *write || *safe, seeing).map(|_| ())
+            see_project(alloc, *write || *safe, seeing, loaded).map(|_| ())
         }
         Command::Batch { file, write } => {
-            if see_project(alloc, *write, seeing)? {
+            if see_project(alloc, *write, seeing, loaded)? {
                 see_batch(alloc, file.as_str(), seeing)?;
             }
             Ok(())
         }
         Command::Verify { old, new } => {
-            if see_list(alloc, old.as_str(), seeing)? {
-                see_list(alloc, new.as_str(), seeing)?;
+            if see_list(alloc, old.as_str(), seeing, loaded)? {
+                see_list(alloc, new.as_str(), seeing, loaded)?;
             }
             Ok(())
         }
@@ -61,12 +66,26 @@ fn see_project<T: Outer + Drop>(
     alloc: Global,
     asks_gate: bool,
     seeing: &mut Seeing<T>,
+    loaded: &mut Vec<Files>,
 ) -> Result<bool, TreeError> {
     match load(alloc, seeing) {
-        Ok(_) if asks_gate => see_gate(alloc, seeing),
-        Ok(_) => Ok(true),
+        Ok(files) => {
+            keep(files, loaded)?;
+            if asks_gate {
+                return see_gate(alloc, seeing);
+            }
+            Ok(true)
+        }
         Err(LoadError::Read) => Err(TreeError::Failed),
         Err(_) => Ok(false),
+    }
+}
+
+/// Adds files to those that are kept.
+fn keep(files: Files, loaded: &mut Vec<Files>) -> Result<(), TreeError> {
+    match loaded.push(files) {
+        Ok(()) => Ok(()),
+        Err(_) => Err(TreeError::Memory),
     }
 }
 
@@ -99,9 +118,13 @@ fn see_list<T: Outer + Drop>(
     alloc: Global,
     list: &str,
     seeing: &mut Seeing<T>,
+    loaded: &mut Vec<Files>,
 ) -> Result<bool, TreeError> {
     match load_list(alloc, seeing, list) {
-        Ok(_) => Ok(true),
+        Ok(files) => {
+            keep(files, loaded)?;
+            Ok(true)
+        }
         Err(ListError::Read) => Err(TreeError::Failed),
         Err(_) => Ok(false),
     }

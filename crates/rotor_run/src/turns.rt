@@ -33,10 +33,11 @@ pub fn run_command<T: Outer + Drop, S: Sink>(
     ensures run { IsRun (command_of (map string_bytes words.now)) (S.taken out.old) (S.taken out.new) result }
     ensures quiet { (result ≡ Status.TreeFault) ⊎ (result ≡ Status.Memory) → out.new ≡ out.old }
 {
+    let mut loaded = Vec::new(alloc);
     match asking(alloc, words) {
         Err(Memory) => Status::Memory,
         Ok(None) => run_alone(alloc, words, tree, out),
-        Ok(Some(command)) => match see(alloc, &command, tree) {
+        Ok(Some(command)) => match see(alloc, &command, tree, &mut loaded) {
             Err(TreeError::Failed) => Status::TreeFault,
             Err(TreeError::Memory) => Status::Memory,
             Ok(mut known) => run_over(alloc, words, &mut known, out),
