@@ -5,6 +5,7 @@ ghost use Rattle.std.specs.Str.{bytes_eq};
 ghost use Rattle.std.specs.FinMap.{get};
 ghost use Rattle.known.specs.Known.{known_faults, known_files};
 ghost use Rattle.known.specs.Seeing.{seeing_faults};
+ghost use Rattle.tree_io.specs.Outside.{IsFront};
 ghost use Rattle.known.specs.Seen.{HasNames, SeesFile, seen_files};
 
 use crate::held::Held;
@@ -75,7 +76,9 @@ impl<T: Outer + Drop> Seeing<T> {
     /// # Errors
     ///
     /// `Failed` after a counted fault of the listing, and `Memory`.
-    pub fn new(alloc: Global, tree: T) -> Result<Self, TreeError> {
+    pub fn new(alloc: Global, tree: T) -> Result<Self, TreeError>
+        ensures names { IfOk result (λ seeing. IfSome (T.content tree) (λ held. HasNames held seeing.seen)) }
+    {
         let mut tree = tree;
         let seen = see_names(alloc, &mut tree)?;
         Ok(Seeing {
@@ -86,7 +89,9 @@ impl<T: Outer + Drop> Seeing<T> {
     }
 
     /// What was seen so far.
-    pub fn seen(&self) -> &Seen {
+    pub fn seen(&self) -> &Seen
+        ensures { result.now ≡ self.now.seen }
+    {
         &self.seen
     }
 
@@ -96,14 +101,17 @@ impl<T: Outer + Drop> Seeing<T> {
     ///
     /// `Memory` alone.
     pub fn into_known(self, alloc: Global) -> Result<Known<T>, Memory>
-        ensures { IfOk result (λ known. known_faults known ≡ 0) }
+        ensures files { IfOk result (λ known. known_files known ≡ seen_files self.seen) }
+        ensures faults { IfOk result (λ known. known_faults known ≡ 0) }
     {
         Known::new(alloc, self.tree, self.seen)
     }
 
     /// The first bytes of a file, which is read if it was not before.
     fn front(&mut self, alloc: Global, name: &str, limit: u32) -> Result<Vec<u8>, TreeError>
+        ensures seen { IfOk result (λ bytes. IsFront limit (get (seen_files self.new.seen) name.now) bytes.items) }
         ensures limit { IfOk result (λ bytes. length bytes.items ≤ limit) }
+        ensures content { T.content self.new.tree ≡ T.content self.old.tree }
         ensures faults { seeing_faults self.new ≡ seeing_faults self.old }
     {
         if self.seen.front(name, limit).is_none() {
