@@ -4,7 +4,7 @@ use Rattle.std.proofs.Common.{String, map, string_bytes, IsPermutation, refl, sy
 use Rattle.std.specs.Option.{option_or}
 use Rattle.std.specs.Cmp.Lexicographic.{nat_list_eq_equiv}
 use Rattle.std.specs.List.{list_any}
-use Rattle.std.specs.FinMap.{get, insert, keys}
+use Rattle.std.specs.FinMap.{entries, entries_sorted, get, insert, keys}
 use Rattle.std.specs.Str.{bytes_eq}
 use Rattle.std.specs.declared.alloc.Global.{Global}
 use Rattle.std.proofs.Common.{Bor, IfOk, IsNone, ◌==◌}
@@ -18,14 +18,17 @@ use Rattle.std.proofs.lemmas.Slice.Eq.{bytes_eq-Decides}
 use Rattle.tree_io.specs.declared.sound_tree.SoundTree.{SoundTree}
 use Rattle.rotor_base.specs.declared.fault.Failed.{Failed}
 use Rattle.tree_io.specs.Outside.{FileMap, IsFront, KeepsRoom}
+use Rattle.tree_io.specs.declared.outside.TreeError.{TreeError}
 use Rattle.tree_io.specs.SoundTree.{sound_files}
 use Rattle.tree_io.specs.Store.{store_room}
 use Rattle.project_load.proofs.Keys.{get_written}
 use Rattle.project_load.proofs.Causes.{told, telling}
 use Rattle.project_load.proofs.ListLoads.{set_more}
-use Rattle.project_load.proofs.Sorted.{held_name}
-use Rattle.known.specs.Seen.{HasNames, IsRead, SeesFile, seen_files, seen_room}
+use Rattle.project_load.proofs.Sorted.{held_name, keys_rise, same_words}
+use Rattle.known.specs.Seen.{HasNames, NamesOf, SeesFile, SetsFile, seen_files, seen_room}
+use Rattle.known.specs.declared.held.Held.{Held}
 use Rattle.known.specs.declared.seen.Seen.{Seen}
+use Rattle.known.specs.Known.{files_of}
 use Rattle.known.specs.Kept.{kept_files, kept_room}
 use Rattle.known.specs.declared.kept.Kept.{Kept}
 use Rattle.known.proofs.Files.{over_get, same_files, seen_get}
@@ -179,18 +182,37 @@ named_more a b names name bytes q so_far set =
 
 -- the names of a listing are those of the folder
 pub names_held : (content : Option FileMap) (seen : Seen) (names : List (List ℕ)) → IfSome content (λ held. IsPermutation (keys held) names)
-    → ((q : List ℕ) → is_some (get (seen_files seen) q) ≡ list_any (bytes_eq q) names) → IfSome content (λ held. HasNames held seen)
-names_held content seen names listed has = telling content (λ held. HasNames held seen) (λ held e q.
+    → ((q : List ℕ) → is_some (get (seen_files seen) q) ≡ list_any (bytes_eq q) names) → NamesOf content (seen_files seen)
+names_held content seen names listed has held e q =
     has q ∙ sym (list_any-IsPermutation (bytes_eq q) (keys held) names (told content (λ held. IsPermutation (keys held) names) held e listed))
-    ∙ held_name held q)
+    ∙ held_name held q
 
 -- a file was read, under a text with the bytes of its name
-pub sees_file : (limit : ℕ) (name text bytes : List ℕ) (content : Option FileMap) (before now : Seen) → text ≡ name
-    → seen_files now ≡ insert (seen_files before) text bytes → IsRead now text limit → IfSome content (λ held. IsFront limit (get held name) bytes)
-    → SeesFile limit name content before now
-sees_file limit name text bytes content before now e set read front = record {
-  bytes = bytes;
-  set = subst (λ (w : List ℕ). seen_files now ≡ insert (seen_files before) w bytes) e set;
+pub sees_file : (limit : ℕ) (name text : List ℕ) (content : Option FileMap) (before now : Seen) (file : Held) → text ≡ name → file.limit ≡ limit
+    → SetsFile text file before now → IfSome content (λ held. IsFront limit (get held name) file.bytes.items) → SeesFile limit name content before now
+sees_file limit name text content before now file e count set front = record {
+  file = file;
+  count = count;
+  set = subst (λ (w : List ℕ). SetsFile w file before now) e set;
   front = front;
-  read = subst (λ (w : List ℕ). IsRead now w limit) e read;
 }
+
+same_keys : (files held : FileMap) → HasNames held files → keys files ≡ keys held
+same_keys files held same =
+    same_words (keys files) (keys held) (keys_rise (entries files) (entries_sorted files)) (keys_rise (entries held) (entries_sorted held))
+    (λ w. held_name files w ∙ same w ∙ sym (held_name held w))
+
+pub keys_of : (content : Option FileMap) (files : FileMap) → NamesOf content files → keys files ≡ keys (files_of content files)
+keys_of None files same = refl
+keys_of (Some held) files same = same_keys files held (same held refl)
+
+pub named_of : (result : Result (Vec (String Global)) TreeError) {one other : List (List ℕ)} → one ≡ other
+    → IfOk result (λ names. IsPermutation one (map string_bytes names.items)) → IfOk result (λ names. IsPermutation other (map string_bytes names.items))
+named_of (Ok names) e h = subst (λ (words : List (List ℕ)). IsPermutation words (map string_bytes names.items)) e h
+named_of (Err error) e h = tt
+
+-- a listing names the files of the folder
+pub lists_held : (content : Option FileMap) (files : FileMap) (names : List (List ℕ)) → NamesOf content files → IsPermutation (keys files) names
+    → IfSome content (λ held. IsPermutation (keys held) names)
+lists_held content files names same listed = telling content (λ held. IsPermutation (keys held) names) (λ held e.
+    subst (λ (words : List (List ℕ)). IsPermutation words names) (same_keys files held (same held e)) listed)

@@ -14,7 +14,8 @@ pub(crate) struct Held {
 impl Held {
     /// A file that was not read.
     pub(crate) fn unread(alloc: Global) -> Self
-        ensures { result.bytes.items ≡ [] }
+        ensures bytes { result.bytes.items ≡ [] }
+        ensures limit { result.limit ≡ 0 }
     {
         Held {
             bytes: Vec::new(alloc),
@@ -37,6 +38,7 @@ impl Held {
     pub(crate) fn reserve(&mut self, len: u32) -> Result<(), Memory>
         ensures made { OnOk result (len ≤ vec_capacity self.new.bytes) }
         ensures bytes { self.new.bytes.items ≡ self.old.bytes.items }
+        ensures limit { self.new.limit ≡ self.old.limit }
         ensures room { vec_capacity self.old.bytes ≤ vec_capacity self.new.bytes }
     {
         let missing = (len as usize).saturating_sub(self.bytes.len());

@@ -1,5 +1,5 @@
 // The files of a folder that was seen, and those that were made since.
-ghost use Rattle.std.specs.Prelude.{◌≡◌, ◌≤◌, length, map, string_bytes, IfOk, IfSome, IsNone, IsSome, OnOk, OnSome, IsPermutation};
+ghost use Rattle.std.specs.Prelude.{◌≡◌, ◌≤◌, ℕ, List, length, map, string_bytes, IfOk, IfSome, IsNone, OnOk, OnSome, IsPermutation};
 ghost use Rattle.std.specs.FinMap.{get, insert, keys};
 ghost use Rattle.tree_io.specs.Outside.{IsFront, KeepsRoom};
 
@@ -17,12 +17,13 @@ pub(crate) struct Kept {
 }
 
 impl Kept {
-    ghost use Rattle.known.specs.Kept.{kept_files, kept_room};
-    ghost use Rattle.known.specs.Seen.{IsRead, seen_files};
+    ghost use Rattle.known.specs.Kept.{HasRead, kept_files, kept_room};
+    ghost use Rattle.known.specs.Seen.{seen_files};
 
     /// What was seen, before any write.
     pub(crate) fn new(alloc: Global, seen: Seen) -> Result<Self, Memory>
-        ensures { IfOk result (λ kept. kept_files kept ≡ seen_files seen) }
+        ensures files { IfOk result (λ kept. kept_files kept ≡ seen_files seen) }
+        ensures seen { IfOk result (λ kept. kept.seen ≡ seen) }
     {
         let made = SoundTree::new(alloc, Vec::new(alloc))?;
         Ok(Kept { seen, made })
@@ -33,6 +34,7 @@ impl Kept {
         ensures names { IfOk result (λ names. IsPermutation (keys (kept_files self.old)) (map string_bytes names.items)) }
         ensures room { KeepsRoom (kept_room self.old) (kept_room self.new) }
         ensures files { kept_files self.new ≡ kept_files self.old }
+        ensures seen { self.new.seen ≡ self.old.seen }
     {
         match self.made.list(alloc) {
             Ok(made) if made.is_empty() => self.seen.names(alloc),
@@ -44,7 +46,7 @@ impl Kept {
     pub(crate) fn front(&self, name: &str, limit: u32) -> Option<&[u8]>
         ensures front { IfSome result (λ bytes. IsFront limit (get (kept_files self.now) name.now) bytes.now) }
         ensures limit { IfSome result (λ bytes. length bytes.now ≤ limit) }
-        ensures read { OnSome result (IsSome (get (seen_files self.now.seen) name.now) → IsRead self.now.seen name.now limit) }
+        ensures read { OnSome result (HasRead self.now name.now limit) }
     {
         if self.seen.has(name) {
             return self.seen.front(name, limit);
@@ -58,6 +60,7 @@ impl Kept {
         ensures made { OnOk result (len ≤ kept_room self.new name.now) }
         ensures room { KeepsRoom (kept_room self.old) (kept_room self.new) }
         ensures files { kept_files self.new ≡ kept_files self.old }
+        ensures read { (other : List ℕ) (limit : ℕ) → HasRead self.new other limit → HasRead self.old other limit }
     {
         if self.seen.has(name) {
             self.seen.reserve(name, len)
@@ -71,6 +74,7 @@ impl Kept {
         requires fits { length bytes.now ≤ kept_room self.old name.now }
         requires placed { IsNone (get (kept_files self.old) name.now) → 1 ≤ kept_room self.old name.now }
         ensures files { kept_files self.new ≡ insert (kept_files self.old) name.now bytes.now }
+        ensures others { (other : List ℕ) (limit : ℕ) → (other ≡ name.now → ⊥) → HasRead self.new other limit → HasRead self.old other limit }
         ensures room { KeepsRoom (kept_room self.old) (kept_room self.new) }
     {
         if self.seen.has(name) {

@@ -9,6 +9,6 @@ mod seeing;
 mod seen;
 
 pub use known::Known;
-pub use outer::{Outer, Roomy};
+pub use outer::Outer;
 pub use seeing::{Seeing, see_file, see_names};
 pub use seen::Seen;

@@ -1,12 +1,11 @@
 // Seeing a folder: it is listed once, and each file that is asked is read once.
-ghost use Rattle.std.specs.Prelude.{◌≡◌, ◌≤◌, ◌-◌, ◌^◌, None, ℕ, List, length, map, string_bytes, IfOk, IfSome, OnOk, is_some};
+ghost use Rattle.std.specs.Prelude.{◌≡◌, ◌≤◌, ℕ, List, length, IfErr, IfOk, IfSome, OnErr, OnOk, is_some};
+ghost use Rattle.std.specs.Prelude.{map, string_bytes};
 ghost use Rattle.std.specs.List.{list_any};
 ghost use Rattle.std.specs.Str.{bytes_eq};
 ghost use Rattle.std.specs.FinMap.{get};
-ghost use Rattle.known.specs.Known.{known_faults, known_files};
-ghost use Rattle.known.specs.Seeing.{seeing_faults};
 ghost use Rattle.tree_io.specs.Outside.{IsFront};
-ghost use Rattle.known.specs.Seen.{HasNames, SeesFile, seen_files};
+ghost use Rattle.known.specs.Seen.{FrontsOf, IsRead, NamesOf, SeesFile, seen_files, seen_held};
 
 use crate::held::Held;
 use crate::known::Known;
@@ -22,7 +21,8 @@ use tree_io::{Tree, TreeError};
 ///
 /// `Failed` after a counted fault of the listing, and `Memory`.
 pub fn see_names<T: Tree>(alloc: Global, tree: &mut T) -> Result<Seen, TreeError>
-    ensures names { IfOk result (λ seen. IfSome (T.content tree.old) (λ held. HasNames held seen)) }
+    ensures names { IfOk result (λ seen. NamesOf (T.content tree.new) (seen_files seen)) }
+    ensures fronts { IfOk result (λ seen. FrontsOf (T.content tree.new) seen) }
     ensures content { T.content tree.new ≡ T.content tree.old }
 {
     let names = tree.list(alloc)?;
@@ -31,7 +31,8 @@ pub fn see_names<T: Tree>(alloc: Global, tree: &mut T) -> Result<Seen, TreeError
 
 /// Files of these names, none of which was read.
 fn unread(alloc: Global, names: Vec<String>) -> Result<Seen, Memory>
-    ensures { IfOk result (λ seen. (name : List ℕ) → is_some (get (seen_files seen) name) ≡ list_any (bytes_eq name) (map string_bytes names.items)) }
+    ensures names { IfOk result (λ seen. (name : List ℕ) → is_some (get (seen_files seen) name) ≡ list_any (bytes_eq name) (map string_bytes names.items)) }
+    ensures nothing { IfOk result (λ seen. (name : List ℕ) (limit : ℕ) → IsRead seen name limit → limit ≡ 0) }
 {
     let mut seen = Seen::new(alloc);
     for name in names {
@@ -44,7 +45,7 @@ fn unread(alloc: Global, names: Vec<String>) -> Result<Seen, Memory>
 ///
 /// # Errors
 ///
-/// `Failed` if the folder failed or has no file of this name, and `Memory`.
+/// `Failed` if the folder failed or has no file of this name, and `Memory`. Then no other file is known than before.
 pub fn see_file<T: Outer>(
     alloc: Global,
     name: &str,
@@ -53,6 +54,7 @@ pub fn see_file<T: Outer>(
     seen: &mut Seen,
 ) -> Result<(), TreeError>
     ensures sees { OnOk result (SeesFile limit name.now (T.content tree.old) seen.old seen.new) }
+    ensures kept { OnErr result ((other : List ℕ) → seen_held seen.new other ≡ seen_held seen.old other) }
     ensures content { T.content tree.new ≡ T.content tree.old }
 {
     let bytes = tree.look(alloc, name, limit)?;
@@ -61,31 +63,33 @@ pub fn see_file<T: Outer>(
     Ok(())
 }
 
-/// A folder of which all that is asked is kept. It is listed at the start. A read goes to the folder, unless the file was
-/// read before. Its room takes no memory, and a write is a counted fault.
+/// A folder of which all that is asked is kept. It was listed before. A read goes to the folder, unless the file was read
+/// before. There is no room for a write, and a write is a counted fault.
 #[derive(Drop)]
-pub struct Seeing<T> {
+pub struct Seeing<T: Outer> {
     tree: T,
     seen: Seen,
     faults: u64,
+    ghost names: { NamesOf (T.content tree) (seen_files seen) },
+    ghost fronts: { FrontsOf (T.content tree) seen },
 }
 
 impl<T: Outer + Drop> Seeing<T> {
-    /// Lists a folder.
-    ///
-    /// # Errors
-    ///
-    /// `Failed` after a counted fault of the listing, and `Memory`.
-    pub fn new(alloc: Global, tree: T) -> Result<Self, TreeError>
-        ensures names { IfOk result (λ seeing. IfSome (T.content tree) (λ held. HasNames held seeing.seen)) }
+    ghost use Rattle.known.specs.Known.{known_faults, known_files, known_tree};
+    ghost use Rattle.known.specs.Seeing.{seeing_faults, seeing_tree};
+
+    /// A folder of which this was seen so far. It takes no memory.
+    pub fn new(tree: T, seen: Seen) -> Self
+        requires names { NamesOf (T.content tree) (seen_files seen) }
+        requires fronts { FrontsOf (T.content tree) seen }
+        ensures tree { seeing_tree result ≡ tree }
+        ensures faults { seeing_faults result ≡ 0 }
     {
-        let mut tree = tree;
-        let seen = see_names(alloc, &mut tree)?;
-        Ok(Seeing {
+        Seeing {
             tree,
             seen,
             faults: 0,
-        })
+        }
     }
 
     /// What was seen so far.
@@ -95,14 +99,19 @@ impl<T: Outer + Drop> Seeing<T> {
         &self.seen
     }
 
-    /// The folder as it was seen.
-    ///
-    /// # Errors
-    ///
-    /// `Memory` alone.
-    pub fn into_known(self, alloc: Global) -> Result<Known<T>, Memory>
+    /// The folder. It takes no memory.
+    pub fn into_tree(self) -> T
+        ensures { result ≡ seeing_tree self }
+    {
+        self.tree
+    }
+
+    /// The folder with what was seen of it. If there is no memory, the call returns the folder alone.
+    pub fn into_known(self, alloc: Global) -> Result<Known<T>, T>
+        ensures tree { IfOk result (λ known. known_tree known ≡ seeing_tree self) }
         ensures files { IfOk result (λ known. known_files known ≡ seen_files self.seen) }
         ensures faults { IfOk result (λ known. known_faults known ≡ 0) }
+        ensures back { IfErr result (λ tree. tree ≡ seeing_tree self) }
     {
         Known::new(alloc, self.tree, self.seen)
     }
@@ -110,6 +119,7 @@ impl<T: Outer + Drop> Seeing<T> {
     /// The first bytes of a file, which is read if it was not before.
     fn front(&mut self, alloc: Global, name: &str, limit: u32) -> Result<Vec<u8>, TreeError>
         ensures seen { IfOk result (λ bytes. IsFront limit (get (seen_files self.new.seen) name.now) bytes.items) }
+        ensures read { OnOk result (IsRead self.new.seen name.now limit) }
         ensures limit { IfOk result (λ bytes. length bytes.items ≤ limit) }
         ensures content { T.content self.new.tree ≡ T.content self.old.tree }
         ensures faults { seeing_faults self.new ≡ seeing_faults self.old }
@@ -125,11 +135,13 @@ impl<T: Outer + Drop> Seeing<T> {
 }
 
 impl<T: Outer + Drop> Tree for Seeing<T> {
+    ghost use Rattle.known.specs.Seeing.{seeing_faults};
+
     ghost faults = { seeing_faults };
 
-    ghost content = { λ _. None };
+    ghost content = { λ seeing. T.content seeing.tree };
 
-    ghost room_for = { λ _ _. 2 ^ 32 - 1 };
+    ghost room_for = { λ _ _. 0 };
 
     ghost is_steady = { λ _. ⊥ };
 
@@ -146,7 +158,7 @@ impl<T: Outer + Drop> Tree for Seeing<T> {
     }
 
     fn room(&mut self, _alloc: Global, _name: &str, _len: u32) -> Result<(), Memory> {
-        Ok(())
+        Err(Memory)
     }
 
     fn write(&mut self, _name: &str, _bytes: &[u8]) -> Result<(), Failed> {

@@ -1,8 +1,7 @@
 // What was seen of a folder.
-ghost use Rattle.std.specs.Prelude.{◌≡◌, ◌≤◌, ℕ, Some, length, map, string_bytes, IfOk, IfSome, IsSome, OnOk, OnSome, is_some};
+ghost use Rattle.std.specs.Prelude.{◌≡◌, ◌≤◌, ℕ, List, length, map, string_bytes, IfOk, IfSome, IsSome, OnErr, OnOk, OnSome, is_some};
 ghost use Rattle.std.specs.FinMap.{empty, get, insert, keys};
 ghost use Rattle.tree_io.specs.Outside.{IsFront, KeepsRoom};
-ghost use Rattle.known.specs.Held.{Reaches};
 
 use crate::held::Held;
 use rotor_base::Memory;
@@ -16,7 +15,7 @@ pub struct Seen {
 }
 
 impl Seen {
-    ghost use Rattle.known.specs.Seen.{IsRead, seen_files, seen_room};
+    ghost use Rattle.known.specs.Seen.{IsRead, SetsFile, seen_files, seen_held, seen_room};
 
     /// A folder without names. It takes no memory.
     pub(crate) fn new(alloc: Global) -> Self
@@ -29,8 +28,8 @@ impl Seen {
 
     /// Sets the bytes of a file.
     pub(crate) fn set(&mut self, name: String, held: Held) -> Result<(), Memory>
-        ensures files { OnOk result (seen_files self.new ≡ insert (seen_files self.old) (string_bytes name) held.bytes.items) }
-        ensures read { OnOk result ((limit : ℕ) → Reaches limit (Some held) → IsRead self.new (string_bytes name) limit) }
+        ensures set { OnOk result (SetsFile (string_bytes name) held self.old self.new) }
+        ensures kept { OnErr result ((other : List ℕ) → seen_held self.new other ≡ seen_held self.old other) }
     {
         self.files.insert(name, held)?;
         Ok(())
@@ -74,6 +73,7 @@ impl Seen {
         ensures made { OnOk result (len ≤ seen_room self.new name.now) }
         ensures room { KeepsRoom (seen_room self.old) (seen_room self.new) }
         ensures files { seen_files self.new ≡ seen_files self.old }
+        ensures read { (other : List ℕ) (limit : ℕ) → IsRead self.new other limit → IsRead self.old other limit }
     {
         match self.files.get_mut(name) {
             None => Ok(()),
@@ -86,6 +86,7 @@ impl Seen {
         requires there { IsSome (get (seen_files self.old) name.now) }
         requires fits { length bytes.now ≤ seen_room self.old name.now }
         ensures files { seen_files self.new ≡ insert (seen_files self.old) name.now bytes.now }
+        ensures others { (other : List ℕ) → (other ≡ name.now → ⊥) → seen_held self.new other ≡ seen_held self.old other }
         ensures room { KeepsRoom (seen_room self.old) (seen_room self.new) }
     {
         match self.files.get_mut(name) {

@@ -31,7 +31,8 @@ pub fn run<R: Env + Files<File = File> + Print + AllocGlobal>(rt: &R) -> ExitCod
         Err(_) => return ExitCode::from(NO_WORDS),
     };
     let mut out = HostSink::new(rt);
-    exit_code(run_command(rt.alloc(), &words, HostTree::new(rt), &mut out))
+    let ended = run_command(rt.alloc(), &words, HostTree::new(rt), &mut out);
+    exit_code(ended.status)
 }
 
 /// The exit code of a status.

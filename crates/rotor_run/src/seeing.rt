@@ -1,11 +1,14 @@
 // Reading what a command may ask. The calls that read it are those of the command, in its order, so that the bounds of
 // loading are kept, and the first fault is the command's.
-ghost use Rattle.std.specs.Prelude.{◌≡◌, IfOk};
-ghost use Rattle.known.specs.Known.{known_faults};
+ghost use Rattle.std.specs.Prelude.{◌≡◌, IfErr, IfOk};
+ghost use Rattle.known.specs.Known.{known_faults, known_tree};
+ghost use Rattle.known.specs.Seeing.{seeing_tree};
+ghost use Rattle.rotor_run.specs.Run.{IsUnseen};
 
+use crate::ended::Ended;
 use apply_journal::{RecoverError, gate_open, read_recovery};
 use cli_words::Command;
-use known::{Known, Outer, Seeing};
+use known::{Known, Outer, Seeing, see_names};
 use project_load::{ListError, is_project_file, load, load_list};
 use rotor_base::{Files, LoadError, MAX_FILE_BYTES};
 use std::alloc::Global;
@@ -15,18 +18,32 @@ use tree_io::{Tree, TreeError};
 const BATCH_LIMIT: u32 = MAX_FILE_BYTES + 1;
 
 /// The folder with what a command may ask of it. The files that its calls loaded are added to `loaded`: a large file that
-/// is freed before the command runs makes the memory that follows slower.
+/// is freed before the command runs makes the memory that follows slower. If the folder failed or there was no memory, the
+/// run ends so, with the folder as it was.
 pub(crate) fn see<T: Outer + Drop>(
     alloc: Global,
     command: &Command,
     tree: T,
     loaded: &mut Vec<Files>,
-) -> Result<Known<T>, TreeError>
-    ensures { IfOk result (λ known. known_faults known ≡ 0) }
+) -> Result<Known<T>, Ended<T>>
+    ensures content { IfOk result (λ known. T.content (known_tree known) ≡ T.content tree) }
+    ensures faults { IfOk result (λ known. known_faults known ≡ 0) }
+    ensures stopped { IfErr result (λ ended. IsUnseen ended.status) }
+    ensures folder { IfErr result (λ ended. T.content ended.folder ≡ T.content tree) }
 {
-    let mut seeing = Seeing::new(alloc, tree)?;
-    see_asked(alloc, command, &mut seeing, loaded)?;
-    Ok(seeing.into_known(alloc)?)
+    let mut tree = tree;
+    let seen = match see_names(alloc, &mut tree) {
+        Ok(seen) => seen,
+        Err(error) => return Err(Ended::unseen(error, tree)),
+    };
+    let mut seeing = Seeing::new(tree, seen);
+    if let Err(error) = see_asked(alloc, command, &mut seeing, loaded) {
+        return Err(Ended::unseen(error, seeing.into_tree()));
+    }
+    match seeing.into_known(alloc) {
+        Ok(known) => Ok(known),
+        Err(tree) => Err(Ended::unseen(TreeError::Memory, tree)),
+    }
 }
 
 /// Reads what a command may ask.
@@ -35,7 +52,9 @@ fn see_asked<T: Outer + Drop>(
     command: &Command,
     seeing: &mut Seeing<T>,
     loaded: &mut Vec<Files>,
-) -> Result<(), TreeError> {
+) -> Result<(), TreeError>
+    ensures { T.content (seeing_tree seeing.new) ≡ T.content (seeing_tree seeing.old) }
+{
     match command {
         Command::Sample(_) => Ok(()),
         Command::Check | Command::Shape(_) => {
@@ -67,7 +86,9 @@ fn see_project<T: Outer + Drop>(
     asks_gate: bool,
     seeing: &mut Seeing<T>,
     loaded: &mut Vec<Files>,
-) -> Result<bool, TreeError> {
+) -> Result<bool, TreeError>
+    ensures { T.content (seeing_tree seeing.new) ≡ T.content (seeing_tree seeing.old) }
+{
     match load(alloc, seeing) {
         Ok(files) => {
             keep(files, loaded)?;
@@ -90,7 +111,9 @@ fn keep(files: Files, loaded: &mut Vec<Files>) -> Result<(), TreeError> {
 }
 
 /// Reads the gate, and returns whether it is closed.
-fn see_gate<T: Outer + Drop>(alloc: Global, seeing: &mut Seeing<T>) -> Result<bool, TreeError> {
+fn see_gate<T: Outer + Drop>(alloc: Global, seeing: &mut Seeing<T>) -> Result<bool, TreeError>
+    ensures { T.content (seeing_tree seeing.new) ≡ T.content (seeing_tree seeing.old) }
+{
     match gate_open(alloc, seeing) {
         Ok(is_open) => Ok(!is_open),
         Err(RecoverError::Read) => Err(TreeError::Failed),
@@ -103,7 +126,9 @@ fn see_batch<T: Outer + Drop>(
     alloc: Global,
     file: &str,
     seeing: &mut Seeing<T>,
-) -> Result<(), TreeError> {
+) -> Result<(), TreeError>
+    ensures { T.content (seeing_tree seeing.new) ≡ T.content (seeing_tree seeing.old) }
+{
     if is_project_file(file) || !seeing.seen().has(file) {
         return Ok(());
     }
@@ -119,7 +144,9 @@ fn see_list<T: Outer + Drop>(
     list: &str,
     seeing: &mut Seeing<T>,
     loaded: &mut Vec<Files>,
-) -> Result<bool, TreeError> {
+) -> Result<bool, TreeError>
+    ensures { T.content (seeing_tree seeing.new) ≡ T.content (seeing_tree seeing.old) }
+{
     match load_list(alloc, seeing, list) {
         Ok(files) => {
             keep(files, loaded)?;
@@ -131,7 +158,9 @@ fn see_list<T: Outer + Drop>(
 }
 
 /// Reads the gate, and the plan if the gate is open.
-fn see_recovery<T: Outer + Drop>(alloc: Global, seeing: &mut Seeing<T>) -> Result<(), TreeError> {
+fn see_recovery<T: Outer + Drop>(alloc: Global, seeing: &mut Seeing<T>) -> Result<(), TreeError>
+    ensures { T.content (seeing_tree seeing.new) ≡ T.content (seeing_tree seeing.old) }
+{
     match read_recovery(alloc, seeing) {
         Err(RecoverError::Read) => Err(TreeError::Failed),
         Ok(_) | Err(_) => Ok(()),

@@ -1,10 +1,13 @@
 //! The program over a folder that is read once.
 ghost use Rattle.std.specs.Prelude.{◌≡◌, ◌⊎◌, map, string_bytes, IfNone, IfOk};
+ghost use Rattle.std.specs.Option.{ForSome};
 ghost use Rattle.cli_words.specs.Words.{command_of};
-ghost use Rattle.known.specs.Known.{known_faults, known_files};
+ghost use Rattle.known.specs.Known.{files_of, known_faults, known_files, known_tree};
 ghost use Rattle.rotor_app.specs.Said.{AsksNothing};
+ghost use Rattle.rotor_app.specs.Table.{IsRefusal, TreeStopped};
 ghost use Rattle.rotor_run.specs.Run.{IsRun, IsRunOver};
 
+use crate::ended::Ended;
 use crate::seeing::see;
 use cli_words::{Command, WordsError, read_words};
 use known::{Known, Outer};
@@ -16,7 +19,7 @@ use tree_io::{Sink, TreeError};
 /// The most turns of a command. All commands need one, unless another process changes the folder meanwhile.
 const MAX_TURNS: u32 = 4096;
 
-/// Runs the command of the words over a folder and an output, and returns how it ended.
+/// Runs the command of the words over a folder and an output, and returns how it ended, with the folder.
 ///
 /// The folder is listed once, and each file that the command may ask is read once. Then `rotor` runs over what was read.
 /// Words that ask nothing of the folder do not call it.
@@ -25,23 +28,49 @@ pub fn run_command<T: Outer + Drop, S: Sink>(
     words: &[String],
     tree: T,
     out: &mut S,
-) -> Status
+) -> Ended<T>
     requires { S.faults out.old ≡ 0 }
 
-    // The status and the text are those of the one reply to the map of what was read, or the folder or the output failed,
-    // or there was no memory.
-    ensures run { IsRun (command_of (map string_bytes words.now)) (S.taken out.old) (S.taken out.new) result }
-    ensures quiet { (result ≡ Status.TreeFault) ⊎ (result ≡ Status.Memory) → out.new ≡ out.old }
+    // The status and the text are those of the one reply to a map of what was read, or the folder or the output failed,
+    // or there was no memory. If the content of the folder is modelled, the map is the folder's, and the folder is left
+    // with the writes of the reply.
+    ensures run { IsRun (command_of (map string_bytes words.now)) (T.content tree) (T.content result.folder) (S.taken out.old) (S.taken out.new) result.status }
+
+    // Refusals and want of memory leave the folder. If the folder failed, nothing was written, or a write failed.
+    ensures unchanged { IsRefusal result.status → T.content result.folder ≡ T.content tree }
+    ensures stopped { (result.status ≡ Status.TreeFault) → ForSome (T.content tree) (λ files. TreeStopped (command_of (map string_bytes words.now)) files (T.content result.folder)) }
+    ensures quiet { (result.status ≡ Status.TreeFault) ⊎ (result.status ≡ Status.Memory) → out.new ≡ out.old }
 {
     let mut loaded = Vec::new(alloc);
     match asking(alloc, words) {
-        Err(Memory) => Status::Memory,
+        Err(Memory) => Ended::unseen(TreeError::Memory, tree),
         Ok(None) => run_alone(alloc, words, tree, out),
         Ok(Some(command)) => match see(alloc, &command, tree, &mut loaded) {
-            Err(TreeError::Failed) => Status::TreeFault,
-            Err(TreeError::Memory) => Status::Memory,
-            Ok(mut known) => run_over(alloc, words, &mut known, out),
+            Err(ended) => ended,
+            Ok(known) => run_known(alloc, words, known, out),
         },
+    }
+}
+
+/// Runs the command of the words over a folder of which is known what the command may ask.
+fn run_known<T: Outer + Drop, S: Sink>(
+    alloc: Global,
+    words: &[String],
+    known: Known<T>,
+    out: &mut S,
+) -> Ended<T>
+    requires known { known_faults known ≡ 0 }
+    requires out { S.faults out.old ≡ 0 }
+    ensures run { IsRun (command_of (map string_bytes words.now)) (T.content (known_tree known)) (T.content result.folder) (S.taken out.old) (S.taken out.new) result.status }
+    ensures unchanged { IsRefusal result.status → T.content result.folder ≡ T.content (known_tree known) }
+    ensures stopped { (result.status ≡ Status.TreeFault) → ForSome (T.content (known_tree known)) (λ files. TreeStopped (command_of (map string_bytes words.now)) files (T.content result.folder)) }
+    ensures quiet { (result.status ≡ Status.TreeFault) ⊎ (result.status ≡ Status.Memory) → out.new ≡ out.old }
+{
+    let mut known = known;
+    let status = run_over(alloc, words, &mut known, out);
+    Ended {
+        status,
+        folder: known.into_tree(),
     }
 }
 
@@ -62,14 +91,19 @@ fn run_alone<T: Outer + Drop, S: Sink>(
     words: &[String],
     tree: T,
     out: &mut S,
-) -> Status
+) -> Ended<T>
     requires asks { AsksNothing (command_of (map string_bytes words.now)) }
     requires faults { S.faults out.old ≡ 0 }
-    ensures run { IsRun (command_of (map string_bytes words.now)) (S.taken out.old) (S.taken out.new) result }
-    ensures quiet { (result ≡ Status.TreeFault) ⊎ (result ≡ Status.Memory) → out.new ≡ out.old }
+    ensures run { IsRun (command_of (map string_bytes words.now)) (T.content tree) (T.content result.folder) (S.taken out.old) (S.taken out.new) result.status }
+    ensures folder { result.folder ≡ tree }
+    ensures quiet { (result.status ≡ Status.TreeFault) ⊎ (result.status ≡ Status.Memory) → out.new ≡ out.old }
 {
     let mut tree = tree;
-    rotor(alloc, words, &mut tree, out)
+    let status = rotor(alloc, words, &mut tree, out);
+    Ended {
+        status,
+        folder: tree,
+    }
 }
 
 /// Runs the command of the words over a folder of which is known what the command may ask. If it asks more, that is read,
@@ -83,8 +117,12 @@ pub fn run_over<T: Outer + Drop, S: Sink>(
     requires known { known_faults known.old ≡ 0 }
     requires out { S.faults out.old ≡ 0 }
 
-    // For some map of what was read, the status, the files and the text are those of the one reply to it.
-    ensures run { IsRunOver (command_of (map string_bytes words.now)) (known_files known.new) (S.taken out.old) (S.taken out.new) result }
+    // For some map of what was read, the status, the files and the text are those of the one reply to it. If the content
+    // of the folder is modelled, the map is the folder's.
+    ensures run { IsRunOver (command_of (map string_bytes words.now)) (T.content (known_tree known.old))
+        (files_of (T.content (known_tree known.new)) (known_files known.new)) (S.taken out.old) (S.taken out.new) result }
+    ensures unchanged { IsRefusal result → T.content (known_tree known.new) ≡ T.content (known_tree known.old) }
+    ensures stopped { (result ≡ Status.TreeFault) → ForSome (T.content (known_tree known.old)) (λ files. TreeStopped (command_of (map string_bytes words.now)) files (T.content (known_tree known.new))) }
     ensures quiet { (result ≡ Status.TreeFault) ⊎ (result ≡ Status.Memory) → out.new ≡ out.old }
 {
     for _ in 0..MAX_TURNS {

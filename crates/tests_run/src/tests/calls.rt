@@ -5,7 +5,8 @@ use rotor_app::Status;
 use rotor_run::{run_command, run_over};
 use std::alloc::Global;
 use std::test::Fail;
-use tree_io::{HostTree, MemSink};
+use rotor_base::SourceFile;
+use tree_io::{HostTree, MemSink, SoundTree};
 
 /// The names of a listing that has only those of the things.
 fn listing(alloc: Global, things: &[(&str, Thing)]) -> Result<Vec<u8>, Fail> {
@@ -42,7 +43,7 @@ fn run_on(
         calls,
     };
     let mut out = MemSink::new(alloc, 1_000_000, Vec::new(alloc))?;
-    Ok(run_command(alloc, &words, HostTree::over(alloc, disk), &mut out))
+    Ok(run_command(alloc, &words, HostTree::over(alloc, disk), &mut out).status)
 }
 
 /// A row: the words, the status, and the names that are opened and written.
@@ -215,12 +216,38 @@ fn unread_files_are_read_in_further_turns(rt: HostRuntime) -> Result<(), Fail> {
     };
     let mut tree = HostTree::over(alloc, disk);
     let seen = see_names(alloc, &mut tree).map_err(|_| "no names")?;
-    let mut known = Known::new(alloc, tree, seen)?;
+    let mut known = Known::new(alloc, tree, seen).map_err(|_| "no memory")?;
     let mut out = MemSink::new(alloc, 1_000, Vec::new(alloc))?;
     let words = words_of(alloc, "rename A.x z --write")?;
     assert_eq!(rt; run_over(alloc, &words, &mut known, &mut out), Status::Done);
     assert_eq!(rt; calls.listings.get(), 1);
     assert!(rt; are_names(&calls.opened, &["a.ml", "b.ml"]));
     assert!(rt; are_names(&calls.written, &["a.ml", "b.ml"]));
+    Ok(())
+}
+
+/// A file of a folder in memory.
+fn file_of(alloc: Global, name: &str, bytes: &[u8]) -> Result<SourceFile, Fail> {
+    Ok(SourceFile {
+        name: String::from_str(alloc, name)?,
+        bytes: bytes.to_vec(alloc)?,
+    })
+}
+
+#[test]
+fn a_folder_in_memory_is_left_with_the_writes(rt: HostRuntime) -> Result<(), Fail> {
+    let alloc = rt.alloc();
+    let mut files = Vec::new(alloc);
+    files.push(file_of(alloc, "a.ml", b"let x = 1\n")?)?;
+    files.push(file_of(alloc, "b.ml", b"let y = A.x\n")?)?;
+    files.push(file_of(alloc, "notes.txt", b"not read\n")?)?;
+    let tree = SoundTree::new(alloc, files)?;
+    let mut out = MemSink::new(alloc, 1_000, Vec::new(alloc))?;
+    let words = words_of(alloc, "rename A.x z --write")?;
+    let ended = run_command(alloc, &words, tree, &mut out);
+    assert_eq!(rt; ended.status, Status::Done);
+    assert!(rt; ended.folder.get("a.ml") == Some(b"let z = 1\n"));
+    assert!(rt; ended.folder.get("b.ml") == Some(b"let y = A.z\n"));
+    assert!(rt; ended.folder.get("notes.txt") == Some(b"not read\n"));
     Ok(())
 }

@@ -1,6 +1,7 @@
 use Rattle.std.proofs.Common.{IsNone, refl, sym, subst, ◌∙◌}
 use Rattle.std.specs.FinMap.{get}
 use Rattle.tree_io.specs.Outside.{FileMap}
+use Rattle.known.proofs.Fronts.{has_apart}
 use Rattle.known.proofs.Keeping.{seen_set, made_set, seen_room_set, succeeds, room_made, some_is}
 use Rattle.known.proofs.kept.Kept.put.Goals as goal
 
@@ -22,3 +23,7 @@ pub returns-else-has-clause-files : goal.returns-else-has-clause-files
 returns-else-has-clause-files c =
     made_set c.args.self.now (record { seen = c.args.self.now.seen; made = c.write.new.self }) c.args.name.now c.args.bytes.now refl
     (some_is (succeeds c.write.result c.write.ensures.written (c.write.ensures.steady tt).1)) (sym c.has.ensures ∙ c.if-has.false)
+
+pub returns-then-has-clause-others : goal.returns-then-has-clause-others
+returns-then-has-clause-others c =
+    has_apart c.args.self.now.seen c.fill.new.self c.args.name.now c.args.bytes.now c.fill.ensures.files c.fill.ensures.others

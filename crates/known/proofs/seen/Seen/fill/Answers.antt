@@ -3,6 +3,7 @@ use Rattle.std.specs.FinMap.{empty, insert}
 use Rattle.std.proofs.lemmas.Map.Text.{btree_map_updates_text}
 use Rattle.known.specs.Seen.{seen_files}
 use Rattle.known.proofs.Files.{over_set, more_room, is_found, was_found}
+use Rattle.known.proofs.Fronts.{others_stay}
 use Rattle.known.proofs.seen.Seen.fill.Goals as goal
 
 pub returns-in-None-clause-files : goal.returns-in-None-clause-files
@@ -24,3 +25,10 @@ returns-in-Some-clause-room c =
     ((c.get_mut.follows.holds c.fill.new.self).3 (ap is_some was)) in
     more_room empty c.args.self.now.files.entries (c.get_mut.follows.lender c.fill.new.self).entries c.args.name.now c.fill.new.self sets
     c.in-Some.held.now was c.fill.ensures.room 0
+
+pub returns-in-Some-clause-others : goal.returns-in-Some-clause-others
+returns-in-Some-clause-others c =
+    let was = was_found c.args.self.now c.args.name.now c.get_mut.result c.in-Some.held c.get_mut.ensures.value c.in-Some.is in
+    let sets = btree_map_updates_text c.args.name.now c.args.self.now.files (c.get_mut.follows.lender c.fill.new.self) (Some c.fill.new.self)
+    ((c.get_mut.follows.holds c.fill.new.self).3 (ap is_some was)) in
+    others_stay c.args.self.now (record { files = c.get_mut.follows.lender c.fill.new.self }) c.args.name.now c.fill.new.self sets
