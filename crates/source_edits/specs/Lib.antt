@@ -1,0 +1,4 @@
+pub mod Ranges
+pub mod Edited
+pub mod Renamed
+pub mod Laws
