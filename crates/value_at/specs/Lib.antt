@@ -1,0 +1,4 @@
+pub mod Cursor
+pub mod Value
+pub mod Places
+pub mod Laws
