@@ -1,0 +1,5 @@
+pub mod Words
+pub mod Members
+pub mod Files
+pub mod Texts
+pub mod Listed
