@@ -1,0 +1,105 @@
+//! A renaming that an editor asks for.
+
+ghost use Rattle.std.specs.Prelude.{◌≡◌, IfErr, IfOk};
+ghost use Rattle.ml_syntax.specs.Sound.{IsSound};
+ghost use Rattle.ml_syntax.specs.View.{view_project};
+ghost use Rattle.binding_model.specs.Facts.{facts as facts_of};
+ghost use Rattle.project_reading.specs.Reads.{Reads};
+ghost use Rattle.editor_renaming.specs.Asked.{IsAnswer, IsRenamedTo, name_at, target_of};
+
+use crate::accepted::accepted_edits;
+use ml_syntax::Project;
+use rename_files::rename;
+use renaming_edits::{EditsError, FileEdits};
+use rotor_base::{Facts, Files, Memory, Name, Place, Refusal, Renamed, SourceFile, Target};
+use std::alloc::Global;
+use text_places::Counting;
+use value_at::{ValueAt, value_at};
+
+/// What a renaming that an editor asks for is answered.
+#[derive(Drop)]
+pub enum EditorRenaming {
+    /// It is accepted: what it has done, and the edits of each source that changed.
+    Edits {
+        done: Renamed,
+        edits: Vec<FileEdits>,
+    },
+    /// It is accepted, but the source of this number would change and is no text in UTF-8.
+    NotText {
+        file: u32,
+    },
+    /// It is refused.
+    Refused(Refusal),
+    /// The place declares and uses no value of the folder.
+    NoValue(ValueAt),
+}
+
+/// Renames the value that a place declares or uses. The caller ensures that the files are read as the project and that the
+/// facts are its own. `Memory` is the only error.
+pub fn rename_at(
+    alloc: Global,
+    counting: Counting,
+    files: &Files,
+    project: &Project,
+    facts: &Facts,
+    place: Place,
+    name: &[u8],
+) -> Result<EditorRenaming, Memory>
+    requires sound { IsSound (view_project project.now) }
+    requires reads { Reads files.now (view_project project.now) }
+    requires facts { facts.now ≡ facts_of (view_project project.now) }
+    ensures { IfOk result (IsAnswer counting files.now (view_project project.now) place name.now) }
+{
+    match value_at(alloc, project, facts, place)? {
+        ValueAt::Value(declaration) => {
+            rename_value(alloc, counting, files, project, facts, declaration, name)
+        }
+        found => Ok(EditorRenaming::NoValue(found)),
+    }
+}
+
+/// Renames the value that a place declares.
+fn rename_value(
+    alloc: Global,
+    counting: Counting,
+    files: &Files,
+    project: &Project,
+    facts: &Facts,
+    declaration: Place,
+    name: &[u8],
+) -> Result<EditorRenaming, Memory>
+    requires reads { Reads files.now (view_project project.now) }
+    requires facts { facts.now ≡ facts_of (view_project project.now) }
+    ensures { IfOk result (IsRenamedTo counting files.now declaration name.now) }
+{
+    let target = target_of(alloc, files.entries(), declaration)?;
+    let done = match rename(alloc, files, &target, name) {
+        Ok(done) => done,
+        Err(why) => return Ok(EditorRenaming::Refused(why)),
+    };
+    match accepted_edits(alloc, counting, files, facts, &target, &done) {
+        Ok(edits) => Ok(EditorRenaming::Edits { done, edits }),
+        Err(EditsError::NotText { file }) => Ok(EditorRenaming::NotText { file }),
+        Err(EditsError::Memory) => Err(Memory),
+    }
+}
+
+/// The target that names a place by its source and its token.
+fn target_of(alloc: Global, sources: &[SourceFile], place: Place) -> Result<Target, Memory>
+    ensures { IfOk result (λ target. target ≡ target_of sources.now place) }
+{
+    Ok(Target::At {
+        file: Name::new(alloc, name_at(sources, place.file))?,
+        token: place.token,
+    })
+}
+
+/// The name of the source of a number; if there is none, no bytes.
+fn name_at(sources: &[SourceFile], number: u32) -> &[u8]
+    ensures { result.now ≡ name_at sources.now number }
+{
+    match sources.get(number as usize) {
+        Some(source) => source.name.as_str().as_bytes(),
+        None => &[],
+    }
+}

@@ -1,0 +1,8 @@
+//! A renaming as an editor asks for it: by a place of a source, with the edits that make the new sources.
+#![tactic(auto)]
+
+mod accepted;
+mod asked;
+
+pub use accepted::accepted_edits;
+pub use asked::{EditorRenaming, rename_at};
