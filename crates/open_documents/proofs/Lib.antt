@@ -1,0 +1,4 @@
+pub mod Folders
+pub mod Gathered
+pub mod Laying
+pub mod Outcomes

@@ -1,0 +1,7 @@
+-- The names so far, and then those that are left, are those of the map.
+use Rattle.std.proofs.Common.{◌≡◌, ◌++◌, map, string_bytes}
+use Rattle.std.specs.BTreeMap.{keys}
+use Rattle.open_documents.proofs.documents.Documents.names.Given as goal
+
+abbrev pub invariant-loop-name : goal.invariant-loop-name
+invariant-loop-name l = map string_bytes l.names.items ++ map string_bytes l.name-iterator ≡ map string_bytes (keys l.self.held)

@@ -1,0 +1,4 @@
+pub mod Document
+pub mod Documents
+pub mod OpenTree
+pub mod Workspace
