@@ -1,0 +1,5 @@
+pub mod Escapes
+pub mod Outcomes
+pub mod Reread
+pub mod Splitting
+pub mod Words
