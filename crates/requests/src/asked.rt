@@ -2,7 +2,7 @@
 ghost use Rattle.std.specs.Prelude.{◌≡◌, option_map};
 ghost use Rattle.std.specs.Option.{option_copied};
 ghost use Rattle.serde_json.specs.View.{view};
-ghost use Rattle.requests.specs.Asked.{asked_spot, declarations_of, name_of, request_for, request_of, request_words, result_words, says_declarations};
+ghost use Rattle.requests.specs.Asked.{asked_spot, asked_there, bad_parameters, declarations_of, name_of, query_words, request_for, request_of, request_words, result_words, says_declarations};
 ghost use Rattle.requests.specs.Spot.{spot_words};
 
 use crate::client::{Client, client_of};
@@ -15,18 +15,19 @@ use serde_json::Value;
 pub enum Request<T> {
     Initialize(Client),
     Shutdown,
-    PrepareRename(Spot<T>),
+    /// What is asked at a place of a document.
+    Document { spot: Spot<T>, query: Query<T> },
+}
+
+/// What is asked at a place of a document.
+#[derive(Clone, Copy, Debug)]
+pub enum Query<T> {
+    PrepareRename,
     /// The new name is `None` if the request has none.
-    Rename {
-        spot: Spot<T>,
-        name: Option<T>,
-    },
-    References {
-        spot: Spot<T>,
-        with_declarations: bool,
-    },
-    Definition(Spot<T>),
-    DocumentHighlight(Spot<T>),
+    Rename { name: Option<T> },
+    References { with_declarations: bool },
+    Definition,
+    DocumentHighlight,
 }
 
 /// Why a request is not one of them.
@@ -34,7 +35,9 @@ pub enum Request<T> {
 pub enum RequestError {
     /// Its method is none that the server answers.
     UnknownMethod,
-    /// Its parameters are not those of its method.
+    /// It is `initialize`, and its parameters are no object.
+    BadClient,
+    /// Its parameters name no place of a document.
     BadParameters,
 }
 
@@ -48,9 +51,19 @@ pub(crate) fn request_of<'a>(
     match method_named(method) {
         None => Err(RequestError::UnknownMethod),
         Some(method) => match request_for(method, message) {
-            None => Err(RequestError::BadParameters),
+            None => Err(bad_parameters(method)),
             Some(request) => Ok(request),
         },
+    }
+}
+
+/// Why a request with this method is none.
+fn bad_parameters(method: Method) -> RequestError
+    ensures { result ≡ bad_parameters method }
+{
+    match method {
+        Method::Initialize => RequestError::BadClient,
+        _ => RequestError::BadParameters,
     }
 }
 
@@ -64,32 +77,26 @@ fn request_for(method: Method, message: &Value) -> Option<Request<&str>>
             Some(Request::Initialize(client))
         }
         Method::Shutdown => Some(Request::Shutdown),
-        Method::PrepareRename => {
-            let spot = asked_spot(message)?;
-            Some(Request::PrepareRename(spot))
-        }
+        Method::PrepareRename => asked_there(message, Query::PrepareRename),
         Method::Rename => {
-            let spot = asked_spot(message)?;
             let name = name_of(message);
-            Some(Request::Rename { spot, name })
+            asked_there(message, Query::Rename { name })
         }
         Method::References => {
-            let spot = asked_spot(message)?;
             let with_declarations = declarations_of(message);
-            Some(Request::References {
-                spot,
-                with_declarations,
-            })
+            asked_there(message, Query::References { with_declarations })
         }
-        Method::Definition => {
-            let spot = asked_spot(message)?;
-            Some(Request::Definition(spot))
-        }
-        Method::DocumentHighlight => {
-            let spot = asked_spot(message)?;
-            Some(Request::DocumentHighlight(spot))
-        }
+        Method::Definition => asked_there(message, Query::Definition),
+        Method::DocumentHighlight => asked_there(message, Query::DocumentHighlight),
     }
+}
+
+/// A query at the place that a request names; `None` if it names none.
+fn asked_there<'a>(message: &'a Value, query: Query<&'a str>) -> Option<Request<&'a str>>
+    ensures { option_map request_words result ≡ asked_there (view message.now) (query_words query.entry) }
+{
+    let spot = asked_spot(message)?;
+    Some(Request::Document { spot, query })
 }
 
 /// The place that a request names.

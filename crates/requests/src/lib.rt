@@ -9,7 +9,7 @@ mod method;
 mod notice;
 mod spot;
 
-pub use asked::{Request, RequestError};
+pub use asked::{Query, Request, RequestError};
 pub use client::{Client, Encoding};
 pub use json::read_json;
 pub use message::{Id, Message, message_of};
