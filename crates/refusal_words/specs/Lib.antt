@@ -1,0 +1,14 @@
+pub mod Cut
+pub mod Stretches
+pub mod Faults
+pub mod Parts
+pub mod Folder
+pub mod Source
+pub mod Unnamed
+pub mod Target
+pub mod Naming
+pub mod Renaming
+pub mod Puns
+pub mod Captured
+pub mod Commands
+pub mod Refused
