@@ -1,0 +1,4 @@
+pub mod Cuts
+pub mod Cutting
+pub mod Targets
+pub mod Answered

@@ -1,0 +1,8 @@
+//! What `check`, `footprint` and `rename` are asked has an answer.
+#![tactic(auto)]
+
+mod laws;
+
+pub use laws::{
+    checks_are_answered, files_are_cut, footprints_are_answered, renamings_are_answered,
+};

@@ -1,0 +1,6 @@
+//! What `rename` leaves, `verify` accepts.
+#![tactic(auto)]
+
+mod laws;
+
+pub use laws::renamings_are_verified;
