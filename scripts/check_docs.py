@@ -176,7 +176,7 @@ def check_sources():
     """Each file of specs/ names its source in its first lines."""
     for path in glob.glob("crates/*/specs/**/*.antt", recursive=True):
         head = re.match(r"(?:--.*\n)*", read(path))[0].replace("\n-- ", " ")
-        if os.path.basename(path) != "Lib.antt" and not re.search(r"\bown\b|manual|Unicode|GNU|Protocol|POSIX", head):
+        if os.path.basename(path) != "Lib.antt" and not re.search(r"\bown\b|manual|Unicode|GNU|Protocol|POSIX|RFC", head):
             found.append(f"{path}: no source in the first lines")
 
 

@@ -1,19 +1,27 @@
 #!/usr/bin/env python3
-"""Writes the list of crates in docs/PROVED.md from the crates themselves, or with --check says whether it differs.
+"""Writes the list of crates in docs/CRATES.md and the table of laws in docs/PROVED.md from the crates themselves,
+or with --check says whether they differ.
 
 Usage: scripts/crate_table.py [--check]
 
-A line has the crate's name, the first sentence of its root's comment, and its laws: the functions of src/laws.rt, or if
-they are many their number. The order is that of crates.txt, without the crates of tests.
+A line of the list has the crate's name, the first sentence of its root's comment, and its laws: the functions of
+src/laws.rt, or if they are many their number. The order is that of crates.txt, without the crates of tests. A row of the
+table has a law of a crate that has nothing but laws of renamings, and the comment of its function.
 """
 import os
 import re
 import sys
 
-PAGE = "docs/PROVED.md"
-# The most laws of a crate that a line names.
+# The most laws of a crate that a line of the list names.
 MOST_LAWS = 3
-BEGIN, END = "<!-- crates: written by scripts/crate_table.py -->\n", "<!-- end of crates -->\n"
+LIST_PAGE, TABLE_PAGE = "docs/CRATES.md", "docs/PROVED.md"
+LIST_MARKS = ("<!-- crates: written by scripts/crate_table.py -->\n", "<!-- end of crates -->\n")
+TABLE_MARKS = ("<!-- laws: written by scripts/crate_table.py -->\n", "<!-- end of laws -->\n")
+# The crates whose laws the table has, in its order.
+LAW_CRATES = [
+    "rename_laws", "answer_laws", "accepted_renamings", "verified_renamings", "batch_laws", "valid_renamings", "ladder_laws",
+    "facts_laws", "run_laws",
+]
 
 
 def read(path):
@@ -54,19 +62,39 @@ def crate_list():
     return "\n".join(rows) + "\n"
 
 
+def law_table():
+    rows = ["| law | crate | it says |", "|---|---|---|"]
+    for crate in LAW_CRATES:
+        path = f"crates/{crate}/src/laws.rt"
+        if not os.path.exists(path):
+            continue
+        for comment, name in re.findall(r"((?:^///.*\n)+)pub fn (\w+)", read(path), re.M):
+            said = " ".join(it[3:].strip() for it in comment.splitlines())
+            rows.append(f"| `{name}` | {crate} | {said} |")
+    return "\n".join(rows) + "\n"
+
+
+def rewritten(page, marks, text):
+    """The page with this text between its marks."""
+    before, rest = page.split(marks[0])
+    return before + marks[0] + text + marks[1] + rest.split(marks[1])[1]
+
+
 def main():
     os.chdir(os.path.dirname(os.path.dirname(os.path.abspath(__file__))))
-    page = read(PAGE)
-    before, rest = page.split(BEGIN)
-    written = before + BEGIN + crate_list() + END + rest.split(END)[1]
-    if written == page:
-        return 0
-    if "--check" in sys.argv:
-        print(f"{PAGE}: the list of crates differs from the crates: run scripts/crate_table.py")
-        return 1
-    with open(PAGE, "w", encoding="utf-8") as it:
-        it.write(written)
-    return 0
+    differs = False
+    for path, marks, text in [(LIST_PAGE, LIST_MARKS, crate_list()), (TABLE_PAGE, TABLE_MARKS, law_table())]:
+        page = read(path)
+        written = rewritten(page, marks, text)
+        if written == page:
+            continue
+        if "--check" in sys.argv:
+            print(f"{path}: a list differs from the crates: run scripts/crate_table.py")
+            differs = True
+            continue
+        with open(path, "w", encoding="utf-8") as it:
+            it.write(written)
+    return 1 if differs else 0
 
 
 sys.exit(main())
