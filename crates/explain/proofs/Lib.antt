@@ -1,0 +1,2 @@
+pub mod Diffing
+pub mod Single

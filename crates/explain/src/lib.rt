@@ -1,0 +1,21 @@
+//! What `rotor-explain` says of the files of a project: for people and for tools.
+#![tactic(auto)]
+
+mod around;
+mod blurs;
+mod checked;
+mod diffs;
+mod ending;
+mod lines;
+mod refused;
+mod renamed;
+mod shown;
+mod sources;
+mod targets;
+mod told;
+
+pub use checked::explain_check;
+pub use ending::Ending;
+pub use renamed::explain_rename;
+pub use shown::explain_footprint;
+pub use told::{Told, told_text, unloaded_told};
