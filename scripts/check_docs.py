@@ -120,6 +120,8 @@ def check_counts(texts):
         (r"^\| `texts` \| ([\d,]+) lines", lines_of(["crates/texts/stdin"]), "lines"),
         (r"^\| `trees` \| ([\d,]+) rows", lines_of(["crates/trees/stdout"]), "rows of trees"),
         (r"^\| `text_rows` \| ([\d,]+) rows", lines_of(["crates/text_rows/stdin"]), "rows of text_rows"),
+        (r"^\| `sentence_rows` \| ([\d,]+) rows", lines_of(["crates/sentence_rows/stdin"]), "rows of sentence_rows"),
+        (r"^\| `editor_rows` \| ([\d,]+) rows", lines_of(["crates/editor_rows/stdin"]), "rows of editor_rows"),
     ]:
         if not re.search(pattern, texts[page], re.M):
             found.append(f"{page}: no count of {what}")

@@ -2,10 +2,10 @@
 use super::disk::{Calls, NamedDisk, Thing, are_names};
 use known::{Known, see_names};
 use rotor_app::Status;
+use rotor_base::SourceFile;
 use rotor_run::{run_command, run_over};
 use std::alloc::Global;
 use std::test::Fail;
-use rotor_base::SourceFile;
 use tree_io::{HostTree, MemSink, SoundTree};
 
 /// The names of a listing that has only those of the things.
