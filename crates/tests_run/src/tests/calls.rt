@@ -2,11 +2,11 @@
 use super::disk::{Calls, NamedDisk, Thing, are_names};
 use known::{Known, see_names};
 use rotor_app::Status;
-use rotor_base::SourceFile;
+use rotor_base::{SourceFile, Text};
 use rotor_run::{run_command, run_over};
 use std::alloc::Global;
 use std::test::Fail;
-use tree_io::{HostTree, MemSink, SoundTree};
+use tree_io::{HostTree, MemSink, SoundTree, have_distinct_names};
 
 /// The names of a listing that has only those of the things.
 fn listing(alloc: Global, things: &[(&str, Thing)]) -> Result<Vec<u8>, Fail> {
@@ -229,8 +229,8 @@ fn unread_files_are_read_in_further_turns(rt: HostRuntime) -> Result<(), Fail> {
 /// A file of a folder in memory.
 fn file_of(alloc: Global, name: &str, bytes: &[u8]) -> Result<SourceFile, Fail> {
     Ok(SourceFile {
-        name: String::from_str(alloc, name)?,
-        bytes: bytes.to_vec(alloc)?,
+        name: Text::from_string(String::from_str(alloc, name)?),
+        bytes: rotor_base::Row::from_vec(bytes.to_vec(alloc)?),
     })
 }
 
@@ -241,6 +241,7 @@ fn a_folder_in_memory_is_left_with_the_writes(rt: HostRuntime) -> Result<(), Fai
     files.push(file_of(alloc, "a.ml", b"let x = 1\n")?)?;
     files.push(file_of(alloc, "b.ml", b"let y = A.x\n")?)?;
     files.push(file_of(alloc, "notes.txt", b"not read\n")?)?;
+    assert!(rt; have_distinct_names(&files), "a name twice");
     let tree = SoundTree::new(alloc, files)?;
     let mut out = MemSink::new(alloc, 1_000, Vec::new(alloc))?;
     let words = words_of(alloc, "rename A.x z --write")?;
