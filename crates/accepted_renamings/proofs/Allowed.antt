@@ -38,6 +38,7 @@ use Rattle.binding_model.proofs.Standing.{given}
 use Rattle.capture_check.specs.Fault.{IsMet, IsFirstDiffering, of_ref, of_link, before}
 use Rattle.project_reading.specs.Reads.{Reads}
 use Rattle.project_reading.specs.Sources.{ReadAll, AreCut}
+use Rattle.project_reading.proofs.Cut.{all_cut}
 use Rattle.project_reading.proofs.RespellingKept.{respelling_keeps_the_reading}
 use Rattle.project_reading.proofs.Soundness.{read_is_sound}
 use Rattle.respelled_reading.specs.Renamed.{GivesValueNames}
@@ -57,38 +58,11 @@ use Rattle.rename_steps.proofs.Rungs as rungs
 use Rattle.rename_files.specs.Answer.{Accepts}
 use Rattle.rename_laws.proofs.Hits.{leads, hit_cases}
 use Rattle.rename_laws.proofs.Ladder.{none_met}
+use Rattle.rename_laws.proofs.Undone.{fixed_at, link_goal, none_differ, ref_goal}
 use Rattle.facts_laws.proofs.Unrepeated.{good_repeats_none}
 use Rattle.accepted_renamings.specs.Laws.{CanTakeName}
 
 -- ---- parts
-
-either_true : (a b : Bool) → (a ≡ true) ⊎ (b ≡ true) → (a || b) ≡ true
-either_true true b h = refl
-either_true false b (inl e) = absurd (true≢false (sym e))
-either_true false b (inr e) = e
-
-fixed_at : (x : Site) (o : Option Site) → o ≡ Some x → (x.operator ≡ true) ⊎ (x.pun ≡ true) → IsFixedSite o
-fixed_at x o e h = subst IsFixedSite (sym e) (either_true x.operator x.pun h)
-
-pub cuts : (n : ℕ) (ss : List SourceFile) (ts : List FileTree) → ReadAll n ss ts → (lists : List (List Lexeme)) × AreCut ss lists
-cuts n [] [] h = ([], tt)
-cuts n [] (t ∷ ts) h = absurd h
-cuts n (s ∷ ss) [] h = absurd h
-cuts n (s ∷ ss) (t ∷ ts) h = let r = cuts (suc n) ss ts h.1 in (h.0.lexemes ∷ r.0, (h.0.plain.cut, r.1))
-
-module _ {A : Type 0} (make : Place → Goal → A) (one : (p : Place) (g k : Goal) → make p g ≡ make p k → g ≡ k) (olds news : List A)
-    (same : olds ≡ news) where
-  none_differ : (p : Place) (g k : Goal) → IsFirstDiffering make olds news p g k → ⊥
-  none_differ p g k h =
-      let both : Some (make p g) ≡ Some (make p k) = sym h.differs.old_one ∙ (ap (λ l. slice_get l h.number) same ∙ h.differs.new_one) in
-      let items : make p g ≡ make p k = cc in
-      h.differs.differ (one p g k items)
-
-ref_goal : (p : Place) (g k : Goal) → of_ref p g ≡ of_ref p k → g ≡ k
-ref_goal p g k e = ap (λ (r : Ref). r.goal) e
-
-link_goal : (p : Place) (g k : Goal) → of_link p g ≡ of_link p k → g ≡ k
-link_goal p g k e = ap (λ (l : Link). l.source) e
 
 ends_of : (l : Link) (p : Place) → IsFixedBy l p → ((l.item ≡ Decl p) × (l.source ≡ Outside)) ⊎ ((l.item ≡ Outside) × (l.source ≡ Decl p))
 ends_of l p (inl e) = inl (ap (λ (x : Link). x.item) e, ap (λ (x : Link). x.source) e)
@@ -159,7 +133,7 @@ module _ (files : FileSet) (us : List UnitTree) (d : Place) (foot : Foot) (new :
   gives = watches_give_value_names us W both.0 free.valid (λ a c. ((both.1 a c).0, (both.1 a c).1))
 
   pub made : (news : List SourceFile) × AreRespelled (in_file (renamed_words us W)) 0 files.entries news
-  made = let cut = cuts 0 files.entries accepts.reads.trees accepts.reads.read in
+  made = let cut = all_cut 0 files.entries accepts.reads.trees accepts.reads.read in
       sources_can_be_respelled (renamed_words us W) 0 files.entries cut.0 cut.1
 
   abbrev pub out : FileSet

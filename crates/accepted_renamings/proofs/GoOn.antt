@@ -14,6 +14,7 @@ use Rattle.binding_model.specs.Facts.{facts}
 use Rattle.binding_model.specs.Local.{renaming}
 use Rattle.binding_model.specs.Renaming.{Renaming, places, at_place, in_file, words_of, respell, IsFixedSite, IsValid}
 use Rattle.project_reading.specs.Reads.{Reads}
+use Rattle.project_reading.proofs.Cut.{all_cut}
 use Rattle.project_reading.proofs.OneReading.{one_project}
 use Rattle.project_reading.proofs.RespellingKept.{respelling_keeps_the_reading}
 use Rattle.project_reading.proofs.Soundness.{read_is_sound}
@@ -26,7 +27,6 @@ use Rattle.valid_renamings.specs.Laws.{together}
 use Rattle.valid_renamings.proofs.Kept.{is_fixed, is_place}
 use Rattle.valid_renamings.proofs.Together.{at_together, together_is_valid, words_both}
 use Rattle.accepted_renamings.specs.Laws.{AcceptedAreValid, AreValidlyRenamed, ValidRenamingsGoOn}
-use Rattle.accepted_renamings.proofs.Allowed.{cuts}
 use Rattle.accepted_renamings.proofs.Sources.{sources_twice}
 
 pub accepted_are_valid : AcceptedAreValid
@@ -88,7 +88,7 @@ module _ (first middle last : FileSet) (p : IsProject first) (q : IsProject midd
 
   pub sources : AreRespelled (in_file (words_of both (facts us).refs)) 0 first.entries last.entries
   sources =
-      let cut = cuts 0 first.entries reads.trees reads.read in
+      let cut = all_cut 0 first.entries reads.trees reads.read in
       sources_twice (in_file (words_of both (facts us).refs)) (in_file (words_of s (facts vs).refs)) (in_file (words_of r (facts us).refs))
       (λ file at x. words_both us r s sound sound_too valid valid_too (record { file = file; token = at }) x) 0 first.entries middle.entries
       last.entries cut.0 cut.1 (renamed_files_are_cut us r first middle cut.0 p reads gives renamed cut.1) renamed.sources renamed_too.sources

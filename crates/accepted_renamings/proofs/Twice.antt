@@ -34,6 +34,7 @@ use Rattle.binding_model.proofs.Standing.{given, member_in}
 use Rattle.capture_check.specs.Fault.{IsMet}
 use Rattle.project_reading.specs.Reads.{Reads}
 use Rattle.project_reading.specs.Respelled.{respelled_lists}
+use Rattle.project_reading.proofs.Cut.{all_cut}
 use Rattle.project_reading.proofs.OneReading.{one_project}
 use Rattle.respelled_reading.proofs.Renamed.{renamed_files_are_cut}
 use Rattle.rename_model.specs.Bytes.{position_with}
@@ -52,7 +53,6 @@ use Rattle.facts_laws.proofs.Feet.{of_member}
 use Rattle.valid_renamings.proofs.Kept.{binder_new, fixed, free_new, good_by_steps}
 use Rattle.valid_renamings.proofs.Words.{steps_twice}
 use Rattle.accepted_renamings.specs.Laws.{CanTakeName, OnceIsTwice, TwiceIsOnce}
-use Rattle.accepted_renamings.proofs.Allowed.{cuts}
 use Rattle.accepted_renamings.proofs.Exactly.{accepted_so}
 use Rattle.accepted_renamings.proofs.Sources.{sources_twice}
 
@@ -189,7 +189,7 @@ module _ (files : FileSet) (us : List UnitTree) (d : Place) (foot : Foot) (first
 
   pub straight : (news : List SourceFile) → AreRespelled (in_file u) 0 out.entries news → AreRespelled (in_file c) 0 files.entries news
   straight news i =
-      let cut = cuts 0 files.entries h.reads.trees h.reads.read in
+      let cut = all_cut 0 files.entries h.reads.trees h.reads.read in
       sources_twice (in_file c) (in_file u) (in_file w) (λ file at x. words_pass (record { file = file; token = at }) x) 0 files.entries out.entries
       news cut.0 cut.1
       (renamed_files_are_cut us r files out cut.0 h.files_are h.reads (kept.gives files us d foot first h)
@@ -210,7 +210,7 @@ module _ (files : FileSet) (us : List UnitTree) (d : Place) (foot : Foot) (first
   -- the sources of the second renaming, if those of the one from the old name are these
   pub detour : (news : List SourceFile) → AreRespelled (in_file c) 0 files.entries news → AreRespelled (in_file u) 0 out.entries news
   detour news i =
-      let cut = cuts 0 files.entries h.reads.trees h.reads.read in
+      let cut = all_cut 0 files.entries h.reads.trees h.reads.read in
       let cut_then = renamed_files_are_cut us r files out cut.0 h.files_are h.reads (kept.gives files us d foot first h)
       (record { sources = sources; manifest = manifest }) cut.1 in
       let made = sources_can_be_respelled u 0 out.entries (respelled_lists (in_file w) 0 cut.0) cut_then in

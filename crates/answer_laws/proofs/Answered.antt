@@ -21,6 +21,8 @@ use Rattle.ladder_laws.specs.Laws.{IsDecided}
 use Rattle.ladder_laws.proofs.Ladder.{project_decided}
 use Rattle.ladder_laws.proofs.BinderLadder.{binder_decided}
 use Rattle.project_reading.specs.Reads.{Reads}
+use Rattle.project_reading.proofs.Cut.{HaveCuts, all_cut}
+use Rattle.renamed_sources.proofs.Respelling.{sources_can_be_respelled}
 use Rattle.rename_model.specs.Foot.{IsTheFoot, hits, refs_to}
 use Rattle.rename_model.specs.Project.{counts_of, refusals_of_project}
 use Rattle.rename_model.specs.Renaming.{HasNoTarget, refusals_of_binder, renamed_words, watch_of}
@@ -28,7 +30,6 @@ use Rattle.rename_model.specs.Report.{hit_files, shown_of}
 use Rattle.rename_model.specs.Target.{Aims}
 use Rattle.rename_files.specs.Answer.{Accepts, Checks, Renames, Shows}
 use Rattle.answer_laws.specs.Laws.{ChecksAreAnswered, FootprintsAreAnswered, RenamingsAreAnswered}
-use Rattle.answer_laws.proofs.Cuts.{HaveCuts, all_cut, respelled_as}
 use Rattle.answer_laws.proofs.Targets.{IsFound, target_decided}
 
 pub checks_are_answered : ChecksAreAnswered
@@ -109,7 +110,7 @@ module _ (files : FileSet) (us : List UnitTree) (reads : Reads files us) (target
     renamed : IsFound (Aims files us target) → (answer : Result Renamed Refusal) × Renames files target new answer
     renamed (inl found) =
         let foot = footprints_exist us found.0 in
-        let news = respelled_as (in_file (renamed_words us (watch_of us found.0 foot.0 new))) 0 files.entries cuts in
+        let news = sources_can_be_respelled (renamed_words us (watch_of us found.0 foot.0 new)) 0 files.entries cuts.0 cuts.1 in
         renamed_at found.0 found.1 foot.0 foot.1 news.0 news.1 (binder_decided files.entries us found.0 foot.0 new news.0 news.1)
     renamed (inr nothing) = (Err refusal.NoTarget, inr (us, accepts, inl nothing))
 

@@ -1,4 +1,3 @@
-pub mod Cuts
 pub mod Cutting
 pub mod Targets
 pub mod Answered

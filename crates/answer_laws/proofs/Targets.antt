@@ -13,9 +13,9 @@ use Rattle.shape_core.specs.Shape.{Name, none}
 use Rattle.binding_model.specs.Least.{IsBinder}
 use Rattle.binding_model.specs.Renaming.{at_place, places}
 use Rattle.binding_model.specs.Scopes.{after_units}
+use Rattle.project_reading.proofs.Cut.{HaveCuts, cut_at}
 use Rattle.rename_model.specs.Target.{Aims, IsSpot, Names, TextSpot, dotted, number_of, token_over}
 use Rattle.rename_model.proofs.One.{one_name}
-use Rattle.answer_laws.proofs.Cuts.{HaveCuts, cut_at}
 
 some_is : {X : Type 0} {a b : X} → Some a ≡ Some b → a ≡ b
 some_is e = cc

@@ -6,7 +6,8 @@ use Rattle.rename_laws.proofs.Accepted.{renamable}
 use Rattle.rename_laws.proofs.Kept.{out_is}
 use Rattle.rename_batch.specs.declared.step.Step.{Step}
 use Rattle.rename_batch.specs.declared.step.Change.{Change}
-use Rattle.rename_batch.specs.Batch.{Answers, Runs}
+use Rattle.rename_batch.specs.declared.step.Batched.{Batched}
+use Rattle.rename_batch.specs.Batch.{Answers, Batches, Runs}
 use Rattle.accepted_renamings.specs.Laws.{AreValidlyRenamed}
 use Rattle.accepted_renamings.proofs.GoOn.{accepted_are_valid, valid_renamings_go_on}
 use Rattle.batch_laws.specs.Laws.{BatchesAreValid}
@@ -30,6 +31,18 @@ all_steps files step [] last (c ∷ (d ∷ ds)) p r = absurd r.3
 all_steps files step (next ∷ steps) last (c ∷ cs) p r =
     let q = still_project files step r.0 p r.1 in
     valid_renamings_go_on files r.0.files last p q (one_step files step r.0 p r.1) (all_steps r.0.files next steps last cs q r.3)
+
+all_projects : (files : FileSet) (steps : List Step) (last : FileSet) (changes : List Change) → IsProject files → Runs files steps last changes
+    → IsProject last
+all_projects files [] last [] p r = subst IsProject (sym r) p
+all_projects files [] last (c ∷ cs) p r = absurd r
+all_projects files (step ∷ steps) last [] p r = absurd r
+all_projects files (step ∷ steps) last (c ∷ cs) p r = all_projects r.0.files steps last cs (still_project files step r.0 p r.1) r.3
+
+-- an accepted batch leaves a project
+pub batches_leave_projects : (files : FileSet) (steps : List Step) (done : Batched) → IsProject files → Batches files steps (Ok done)
+    → IsProject done.files
+batches_leave_projects files steps done p h = all_projects files steps done.files done.done p h.run
 
 pub batches_are_valid : BatchesAreValid
 batches_are_valid files [] done p some h = absurd (some refl)

@@ -99,7 +99,7 @@ module _ {A : Type 0} (make : Place → Goal → A) (keeps : KeepsPlace make) (o
       let c = earlier_change b.0 t.0 in
       (c, subst (λ (m : ℕ). IsBest make old new m c) next (best_more make keeps old new n b.0 t.0 t.1 b.1))
 
-  first_or_none : (c : Option Change) × IsFirstChange make old new c
+  pub first_or_none : (c : Option Change) × IsFirstChange make old new c
   first_or_none = let b = best_at (length old) in (b.0, best_all make keeps old new (length old) b.0 (omega arith) b.1)
 
   none_differs : ((c : Change) → IsFirstChange make old new (Some c) → ⊥) → (k : ℕ) (p : Place) (w v : Goal) → Differs make old new k p w v → ⊥
@@ -132,7 +132,7 @@ tell_pair r s = elim (place_or r.at s.at) [
   goal_of d None = d.goal
   goal_of d (Some q) = q.goal
 
-tell_ref : (o p : Option Ref) → (c : Option Change) × Tells of_ref o p c
+pub tell_ref : (o p : Option Ref) → (c : Option Change) × Tells of_ref o p c
 tell_ref None p = (None, λ q w v e f d. cc)
 tell_ref (Some r) None = (None, λ q w v e f d. cc)
 tell_ref (Some r) (Some s) = tell_pair r s
@@ -165,7 +165,7 @@ tell_link_at Missing l k i = (None, λ p w v e f d. let x : Missing ≡ Decl p =
 tell_link_at Hidden l k i = (None, λ p w v e f d. let x : Hidden ≡ Decl p = sym i ∙ ap (item_at l) e in absurd cc)
 tell_link_at (Blur by n b) l k i = (None, λ p w v e f d. let x : Blur by n b ≡ Decl p = sym i ∙ ap (item_at l) e in absurd cc)
 
-tell_link : (o p : Option Link) → (c : Option Change) × Tells of_link o p c
+pub tell_link : (o p : Option Link) → (c : Option Change) × Tells of_link o p c
 tell_link None p = (None, λ q w v e f d. cc)
 tell_link (Some l) None = (None, λ q w v e f d. cc)
 tell_link (Some l) (Some k) = tell_link_at l.item l k refl

@@ -1,2 +1,10 @@
 pub mod Diffing
 pub mod Single
+pub mod Known
+pub mod Saying
+pub mod Stops
+pub mod Dotting
+pub mod Answering
+pub mod Scanning
+pub mod Answered
+pub mod Cutting

@@ -1,4 +1,5 @@
 -- How an explanation ends (own).
+use Rattle.std.specs.Prelude.{Bool, true, false}
 use Rattle.rotor_base.specs.declared.refusal.Refusal.{Refusal}
 use Rattle.rotor_base.specs.declared.refusal.Refusal.TheVariants as refusal
 use Rattle.explain.specs.declared.ending.Ending.{Ending}
@@ -27,3 +28,9 @@ ending_of (refusal.Clash first again) = Refused
 ending_of (refusal.Capture at was would) = Refused
 ending_of (refusal.Mislink item was would) = Refused
 ending_of refusal.Memory = Project
+
+-- the renaming is refused
+abbrev pub is_refused : Ending → Bool
+is_refused Refused = true
+is_refused Done = false
+is_refused Project = false

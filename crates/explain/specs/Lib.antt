@@ -2,5 +2,11 @@ pub mod Ending
 pub mod Told
 pub mod Diffs
 pub mod Lines
+pub mod PathStop
+pub mod Around
+pub mod Sources
+pub mod Blurs
+pub mod Targets
 pub mod Refused
+pub mod Shown
 pub mod Says

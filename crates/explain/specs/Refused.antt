@@ -1,7 +1,23 @@
 -- What is said of a refusal (own).
-use Rattle.std.specs.Prelude.{Bool, true, false}
+use Rattle.std.specs.Prelude.{◌≡◌, List, Bool, true, false, Option, Some, option_map, slice_get}
+use Rattle.rotor_base.specs.Files.{FileSet}
 use Rattle.rotor_base.specs.declared.refusal.Refusal.{Refusal}
 use Rattle.rotor_base.specs.declared.refusal.Refusal.TheVariants as refusal
+use Rattle.rotor_base.specs.declared.target.Target.{Target}
+use Rattle.report.specs.Pieces.{Word}
+use Rattle.messages.specs.declared.parts.Message.{Message}
+use Rattle.refusal_words.specs.Cut.{AreCuts, Cut}
+use Rattle.refusal_words.specs.Refused.{project_message, renaming_message}
+use Rattle.refusal_words.specs.Target.{operator}
+use Rattle.explain.specs.declared.ending.Ending.TheVariants.{Refused}
+use Rattle.explain.specs.declared.told.Told.{Told}
+use Rattle.explain.specs.declared.around.Around.{Around}
+use Rattle.explain.specs.Around.{IsAround}
+use Rattle.explain.specs.Blurs.{blurred_message}
+use Rattle.explain.specs.Ending.{ending_of, is_refused}
+use Rattle.explain.specs.Sources.{SaysSources}
+use Rattle.explain.specs.Targets.{target_message}
+use Rattle.explain.specs.Told.{maybe_told, messages_told}
 
 -- a source is outside the language
 abbrev pub is_unread : Refusal → Bool
@@ -11,3 +27,28 @@ is_unread (refusal.Form at kind) = true
 is_unread (refusal.Deep at) = true
 is_unread (refusal.Syntax file) = true
 is_unread _ = false
+
+-- there was no memory
+abbrev pub is_memory : Refusal → Bool
+is_memory refusal.Memory = true
+is_memory _ = false
+
+-- of a refusal of a project: the message of each source that is outside the language; else that of the refusal
+pub data SaysProject (files : FileSet) (why : Refusal) (told : Told) : Type 0 where
+  unread : (messages : List Message) → is_unread why ≡ true → SaysSources files.entries messages → told ≡ messages_told (ending_of why) messages
+      → SaysProject files why told
+  whole : (cuts : List Cut) → is_unread why ≡ false → AreCuts files.entries cuts → told ≡ maybe_told (ending_of why) (project_message cuts why)
+      → SaysProject files why told
+
+-- the message of a refusal of a renaming, by what is known around it
+abbrev pub refused_message : List Cut → Around → Target → Word → Refusal → Option Message
+refused_message cuts around target name refusal.NoTarget = Some (target_message cuts around.facts.refs around.stop target)
+refused_message cuts around target name refusal.Operator = option_map (operator cuts) (slice_get around.decls 0)
+refused_message cuts around target name (refusal.Blurred at) = blurred_message cuts around.facts at
+refused_message cuts around target name why = renaming_message cuts around.decls name why
+
+-- of a refusal of a footprint, or of a renaming to a name: what is said of the project, or the message of the refusal
+pub data SaysRefusal (files : FileSet) (target : Target) (name : Word) (why : Refusal) (told : Told) : Type 0 where
+  project : is_refused (ending_of why) ≡ false → SaysProject files why told → SaysRefusal files target name why told
+  renaming : (cuts : List Cut) (around : Around) → is_refused (ending_of why) ≡ true → AreCuts files.entries cuts → IsAround files target around
+      → told ≡ maybe_told Refused (refused_message cuts around target name why) → SaysRefusal files target name why told

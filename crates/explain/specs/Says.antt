@@ -1,20 +1,26 @@
 -- What is said of the commands over the files of a project (own).
-use Rattle.std.specs.Prelude.{◌≡◌, ◌⊎◌, ℕ, List, [], ◌∷◌, ◌++◌, Ok, Err, codes, flat_map, length, true}
+use Rattle.std.specs.Prelude.{◌≡◌, ◌⊎◌, ℕ, List, [], ◌∷◌, ◌++◌, Ok, Err, Bool, codes, flat_map, length, true, false}
 use Rattle.report.specs.Pieces.{Word, join}
 use Rattle.rotor_base.specs.Files.{FileSet}
+use Rattle.rotor_base.specs.declared.place.Facts.{Facts}
+use Rattle.rotor_base.specs.declared.place.Foot.{Foot}
 use Rattle.rotor_base.specs.declared.refusal.Refusal.{Refusal}
 use Rattle.rotor_base.specs.declared.report.Counts.{Counts}
 use Rattle.rotor_base.specs.declared.report.FootReport.{FootReport}
 use Rattle.rotor_base.specs.declared.report.Renamed.{Renamed}
 use Rattle.rotor_base.specs.declared.target.Target.{Target}
 use Rattle.messages.specs.Words.{counted}
+use Rattle.messages.specs.declared.parts.Message.{Message}
 use Rattle.refusal_words.specs.Cut.{AreCuts, Cut}
 use Rattle.rename_files.specs.Answer.{Checks, Renames, Shows}
 use Rattle.explain.specs.declared.ending.Ending.TheVariants.{Done}
 use Rattle.explain.specs.declared.told.Told.{Told}
+use Rattle.value_at.specs.Places.{places_of}
+use Rattle.explain.specs.Around.{AreFacts}
 use Rattle.explain.specs.Diffs.{AreDiffs}
-use Rattle.explain.specs.Ending.{ending_of}
 use Rattle.explain.specs.Lines.{place_line, place_word}
+use Rattle.explain.specs.Refused.{SaysProject, SaysRefusal}
+use Rattle.explain.specs.Shown.{place_messages, shown_text}
 use Rattle.explain.specs.Told.{bare_told}
 
 -- what a project has
@@ -23,11 +29,11 @@ counts_text c =
     join (counted c.files (codes "source") ∷ codes ", " ∷ counted c.units (codes "unit") ∷ codes ", "
     ∷ counted c.declarations (codes "declaration") ∷ codes ", " ∷ counted c.references (codes "use") ∷ codes ": all of it is read\n" ∷ [])
 
--- `check`: what the project has; or the ending of its first refusal
+-- `check`: what the project has; or what is said of its first refusal
 abbrev pub SaysCheck : FileSet → Told → Type 0
 SaysCheck files told =
     ((counts : Counts) × Checks files (Ok counts) × (told ≡ bare_told Done (counts_text counts)))
-    ⊎ ((why : Refusal) × Checks files (Err why) × (told.ending ≡ ending_of why))
+    ⊎ ((why : Refusal) × Checks files (Err why) × SaysProject files why told)
 
 -- the first line of a renaming that is accepted
 abbrev pub renamed_line : Renamed → Word
@@ -39,24 +45,47 @@ renamed_line done =
 abbrev pub declaration_lines : List Cut → Renamed → Word
 declaration_lines cuts done = flat_map (λ p. place_line cuts (place_word true) p) done.foot.decls
 
+-- the places of a footprint for tools, by the facts of the folder; if they are not asked for, none
+pub data AreToolPlaces (known : Facts) (cuts : List Cut) (foot : Foot) : Bool → List Message → Type 0 where
+  not_asked : AreToolPlaces known cuts foot false []
+  asked : AreToolPlaces known cuts foot true (place_messages cuts (places_of known.refs foot))
+
 -- a renaming that is accepted: its line, its declarations, and the diffs of the changed sources
-pub record SaysDone (files : FileSet) (done : Renamed) (told : Told) : Type 0 where
+pub record SaysDone (files : FileSet) (done : Renamed) (for_tools : Bool) (told : Told) : Type 0 where
   pub cuts : List Cut
   pub diffs : List ℕ
+  pub known : Facts
   pub cut : AreCuts files.entries cuts
+  pub facts : AreFacts files known
   pub are_diffs : AreDiffs files.entries done.files.entries done.changed diffs
   pub ending : told.ending ≡ Done
   pub messages : told.messages ≡ []
   pub text : told.text ≡ renamed_line done ++ declaration_lines cuts done ++ diffs
+  pub places : AreToolPlaces known cuts done.foot for_tools told.places
 
--- `rename`: the renaming; or the ending of its first refusal
-abbrev pub SaysRename : FileSet → Target → List ℕ → Told → Type 0
-SaysRename files target new told =
-    ((done : Renamed) × Renames files target new (Ok done) × SaysDone files done told)
-    ⊎ ((why : Refusal) × Renames files target new (Err why) × (told.ending ≡ ending_of why))
+-- `rename`: the renaming; or what is said of its first refusal
+abbrev pub SaysRename : FileSet → Target → List ℕ → Bool → Told → Type 0
+SaysRename files target new for_tools told =
+    ((done : Renamed) × Renames files target new (Ok done) × SaysDone files done for_tools told)
+    ⊎ ((why : Refusal) × Renames files target new (Err why) × SaysRefusal files target new why told)
 
--- `footprint`: the ending of the footprint, or of its first refusal
+-- a footprint, by the facts of the folder: its line, a line for each place, and one for the declaration that is fixed from
+-- outside
+pub record SaysShown (files : FileSet) (shown : FootReport) (told : Told) : Type 0 where
+  pub cuts : List Cut
+  pub known : Facts
+  pub cut : AreCuts files.entries cuts
+  pub facts : AreFacts files known
+  pub said : told
+      ≡ record {
+        ending = Done;
+        messages = [];
+        text = shown_text cuts shown (places_of known.refs shown.foot);
+        places = place_messages cuts (places_of known.refs shown.foot);
+      }
+
+-- `footprint`: the footprint; or what is said of the first refusal
 abbrev pub SaysFootprint : FileSet → Target → Told → Type 0
 SaysFootprint files target told =
-    ((shown : FootReport) × Shows files target (Ok shown) × (told.ending ≡ Done) × (told.messages ≡ []))
-    ⊎ ((why : Refusal) × Shows files target (Err why) × (told.ending ≡ ending_of why))
+    ((shown : FootReport) × Shows files target (Ok shown) × SaysShown files shown told)
+    ⊎ ((why : Refusal) × Shows files target (Err why) × SaysRefusal files target [] why told)

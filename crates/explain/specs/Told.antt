@@ -10,9 +10,13 @@ abbrev pub listed : Option Message → List Message
 listed None = []
 listed (Some message) = message ∷ []
 
+-- messages alone
+abbrev pub messages_told : Ending → List Message → Told
+messages_told ending messages = record { ending = ending; messages = messages; text = []; places = [] }
+
 -- one message, if there is one
 abbrev pub maybe_told : Ending → Option Message → Told
-maybe_told ending message = record { ending = ending; messages = listed message; text = []; places = [] }
+maybe_told ending message = messages_told ending (listed message)
 
 -- a text alone
 abbrev pub bare_told : Ending → List ℕ → Told

@@ -1,9 +1,10 @@
 //! The messages of places that are blurred.
-ghost use Rattle.std.specs.Prelude.{◌≡◌, IfOk, IfSome};
-ghost use Rattle.messages.specs.declared.kinds.Kind.TheVariants as kind;
+ghost use Rattle.std.specs.Prelude.{◌≡◌, IfOk, map};
+ghost use Rattle.refusal_words.specs.Cut.{view_cut};
+ghost use Rattle.explain.specs.Blurs.{blur_of as blur_in, blurred_message as blurred_message_of, blurring_link as blurring_link_of, blurring_use as blurring_use_of, blurs_link as blurs_link_of, blurs_source as blurs_source_of, blurs_use as blurs_use_of, is_behind as is_behind_of, is_declared_at as is_declared_of};
 
 use messages::Message;
-use refusal_words::{CutSource, blurred_link as link_message, blurred_use};
+use refusal_words::{CutSource, blurred_link, blurred_use};
 use rotor_base::{Facts, Goal, Link, Memory, Place, Ref};
 use std::alloc::Global;
 
@@ -15,44 +16,82 @@ pub(crate) fn blurred_message(
     facts: &Facts,
     at: Place,
 ) -> Result<Option<Message>, Memory>
-    ensures { IfOk result (λ found. IfSome found (λ message. message.kind ≡ kind.Blurred)) }
+    ensures { IfOk result (λ found. found ≡ blurred_message_of (map view_cut cuts.now) facts.now at) }
 {
-    if let Some(by) = blurred_ref(facts.refs.as_slice(), at) {
+    if let Some(by) = blurring_use(facts.refs.as_slice(), at) {
         return Ok(Some(blurred_use(alloc, cuts, at, by)?));
     }
-    match blurred_link(facts.links.as_slice(), at) {
-        Some(by) => Ok(Some(link_message(alloc, cuts, at, by)?)),
+    match blurring_link(facts.links.as_slice(), at) {
+        Some(by) => Ok(Some(blurred_link(alloc, cuts, at, by)?)),
         None => Ok(None),
     }
 }
 
-/// The outside module that blurs the reference at a place.
-fn blurred_ref(refs: &[Ref], at: Place) -> Option<Place> {
-    let index = refs.iter().position(|reference| blurs_ref(reference, at))?;
-    blur_of(refs.get(index)?.goal)
+/// The outside module that blurs the first reference at a place.
+fn blurring_use(refs: &[Ref], at: Place) -> Option<Place>
+    ensures { result ≡ blurring_use_of refs.now at }
+{
+    for reference in refs {
+        if blurs_use(reference, at) {
+            return blur_of(reference.goal);
+        }
+    }
+    None
 }
 
 /// Whether a reference is at a place and blurred.
-fn blurs_ref(reference: &Ref, at: Place) -> bool {
+fn blurs_use(reference: &Ref, at: Place) -> bool
+    ensures { result ≡ blurs_use_of at reference.now }
+{
     reference.at == at && blur_of(reference.goal).is_some()
 }
 
-/// The outside module that blurs the source of the item at a place, or a source that may be the value there.
-fn blurred_link(links: &[Link], at: Place) -> Option<Place> {
-    let index = links.iter().position(|link| blurs_link(link, at))?;
-    blur_of(links.get(index)?.source)
+/// The outside module that blurs the source of the first link there.
+fn blurring_link(links: &[Link], at: Place) -> Option<Place>
+    ensures { result ≡ blurring_link_of links.now at }
+{
+    for link in links {
+        if blurs_link(link, at) {
+            return blur_of(link.source);
+        }
+    }
+    None
 }
 
 /// Whether a link has a blurred source, and a place is its item, or behind its source.
-fn blurs_link(link: &Link, at: Place) -> bool {
+fn blurs_link(link: &Link, at: Place) -> bool
+    ensures { result ≡ blurs_link_of at link.now }
+{
     match link.source {
-        Goal::Blur { behind, .. } => behind == Some(at) || link.item == Goal::Decl(at),
+        Goal::Blur { behind, .. } => is_behind(behind, at) || is_declared_at(link.item, at),
+        _ => false,
+    }
+}
+
+/// Whether a place is behind a blurred goal.
+fn is_behind(behind: Option<Place>, at: Place) -> bool
+    ensures { result ≡ is_behind_of at behind }
+{
+    match behind {
+        Some(place) => place == at,
+        None => false,
+    }
+}
+
+/// Whether an item is declared at a place.
+fn is_declared_at(item: Goal, at: Place) -> bool
+    ensures { result ≡ is_declared_of at item }
+{
+    match item {
+        Goal::Decl(place) => place == at,
         _ => false,
     }
 }
 
 /// The last outside module of a blurred goal.
-fn blur_of(goal: Goal) -> Option<Place> {
+fn blur_of(goal: Goal) -> Option<Place>
+    ensures { result ≡ blur_in goal }
+{
     match goal {
         Goal::Blur { by, .. } => Some(by),
         _ => None,

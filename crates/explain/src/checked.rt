@@ -1,9 +1,11 @@
 //! What is said of a folder that is checked.
-ghost use Rattle.std.specs.Prelude.{◌≡◌, IfOk};
+ghost use Rattle.std.specs.Prelude.{◌≡◌, Err, IfOk};
+ghost use Rattle.rename_files.specs.Answer.{Checks};
+ghost use Rattle.rename_project.specs.Steps.{IsRefusedFor};
 ghost use Rattle.explain.specs.Says.{SaysCheck, counts_text as counts_text_of};
 
 use crate::ending::Ending;
-use crate::refused::project_told;
+use crate::refused::{is_memory, project_told};
 use crate::told::{Told, bare_told};
 use messages::{counted, joined};
 use rename_files::check;
@@ -20,9 +22,19 @@ pub fn explain_check(alloc: Global, files: &Files) -> Result<Told, Memory>
             let text = counts_text(alloc, &counts)?;
             Ok(bare_told(alloc, Ending::Done, text))
         }
-        Err(Refusal::Memory) => Err(Memory),
-        Err(refusal) => project_told(alloc, files, &refusal),
+        Err(refusal) => refused_check(alloc, files, &refusal),
     }
+}
+
+/// What is said of a folder that `check` refuses.
+fn refused_check(alloc: Global, files: &Files, refusal: &Refusal) -> Result<Told, Memory>
+    requires { IsRefusedFor (λ why. Checks files.now (Err why)) refusal.now }
+    ensures { IfOk result (SaysCheck files.now) }
+{
+    if is_memory(refusal) {
+        return Err(Memory);
+    }
+    project_told(alloc, files, refusal)
 }
 
 /// What a project has.

@@ -7,6 +7,8 @@ mod checked;
 mod diffs;
 mod ending;
 mod lines;
+mod opened;
+mod path_stop;
 mod refused;
 mod renamed;
 mod shown;

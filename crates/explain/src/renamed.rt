@@ -1,61 +1,99 @@
 //! What is said of a renaming.
-ghost use Rattle.std.specs.Prelude.{◌≡◌, ◌++◌, IfOk, map};
+ghost use Rattle.std.specs.Prelude.{◌≡◌, ◌++◌, Bool, Err, IfOk, map};
 ghost use Rattle.refusal_words.specs.Cut.{view_cut};
-ghost use Rattle.explain.specs.Says.{SaysDone, SaysRename, renamed_line as renamed_line_of};
+ghost use Rattle.rename_files.specs.Answer.{Renames};
+ghost use Rattle.rename_project.specs.Steps.{IsRefusedFor};
+ghost use Rattle.explain.specs.Around.{AreFacts};
+ghost use Rattle.explain.specs.Says.{SaysDone, SaysRename, declaration_lines, renamed_line as renamed_line_of};
 
 use crate::diffs::diffs_text;
 use crate::ending::Ending;
 use crate::lines::push_declarations;
-use crate::refused::renaming_told;
-use crate::shown::use_messages;
+use crate::opened::open_folder;
+use crate::refused::{is_memory, refusal_told};
+use crate::shown::tool_places;
 use crate::told::Told;
 use messages::{counted, joined};
-use refusal_words::cut_sources;
-use rename_files::rename;
-use rotor_base::{Files, Memory, Refusal, Renamed, Row, Target};
+use refusal_words::{CutSource, cut_sources};
+use rename_files::rename_in;
+use rotor_base::{Facts, Files, Memory, Refusal, Renamed, Row, Target};
 use std::alloc::Global;
 
 /// What is said of a renaming of the declaration that a target names: the declarations and the diffs of the sources; or
-/// the first refusal. With `places`, the declarations and the uses are given for tools too. The one error is want of
+/// the first refusal. If the answer is for tools, it has the declarations and the uses too. The one error is want of
 /// memory.
 pub fn explain_rename(
     alloc: Global,
     files: &Files,
     target: &Target,
     name: &[u8],
-    places: bool,
+    for_tools: bool,
 ) -> Result<Told, Memory>
-    ensures { IfOk result (SaysRename files.now target.now name.now) }
+    ensures { IfOk result (SaysRename files.now target.now name.now for_tools) }
 {
-    match rename(alloc, files, target, name) {
-        Ok(done) => done_told(alloc, files, &done, places),
-        Err(Refusal::Memory) => Err(Memory),
-        Err(refusal) => renaming_told(alloc, files, target, name, &refusal),
+    let opened = match open_folder(alloc, files) {
+        Ok(opened) => opened,
+        Err(refusal) => return refused_renaming(alloc, files, target, name, &refusal),
+    };
+    match rename_in(alloc, files, &opened.read, &opened.resolved, target, name) {
+        Ok(done) => done_told(alloc, files, &opened.resolved.facts, &done, for_tools),
+        Err(refusal) => refused_renaming(alloc, files, target, name, &refusal),
     }
 }
 
-/// What is said of a renaming that is accepted.
-fn done_told(alloc: Global, files: &Files, done: &Renamed, places: bool) -> Result<Told, Memory>
-    ensures { IfOk result (SaysDone files.now done.now) }
+/// What is said of a renaming that is refused.
+fn refused_renaming(
+    alloc: Global,
+    files: &Files,
+    target: &Target,
+    name: &[u8],
+    refusal: &Refusal,
+) -> Result<Told, Memory>
+    requires { IsRefusedFor (λ why. Renames files.now target.now name.now (Err why)) refusal.now }
+    ensures { IfOk result (λ told. (for_tools : Bool) → SaysRename files.now target.now name.now for_tools told) }
+{
+    if is_memory(refusal) {
+        return Err(Memory);
+    }
+    refusal_told(alloc, files, target, name, refusal)
+}
+
+/// What is said of a renaming that is accepted, over the facts of the folder.
+fn done_told(
+    alloc: Global,
+    files: &Files,
+    facts: &Facts,
+    done: &Renamed,
+    for_tools: bool,
+) -> Result<Told, Memory>
+    requires { AreFacts files.now facts.now }
+    ensures { IfOk result (SaysDone files.now done.now for_tools) }
 {
     let cuts = cut_sources(alloc, files.entries())?;
-    let line = renamed_line(alloc, done)?;
-    let mut text = line.as_slice().to_vec(alloc)?;
-    push_declarations(alloc, &mut text, &cuts, done.foot.decls.as_slice())?;
     let changed = done.changed.as_slice();
     let diffs = diffs_text(alloc, files.entries(), done.files.entries(), changed)?;
-    text.extend_from_slice(&diffs)?;
-    let places = if places {
-        use_messages(alloc, files, &cuts, &done.foot)?
-    } else {
-        Row::new(alloc)
-    };
     Ok(Told {
         ending: Ending::Done,
         messages: Row::new(alloc),
-        text: Row::from_vec(text),
-        places,
+        text: done_text(alloc, &cuts, done, &diffs)?,
+        places: tool_places(alloc, &cuts, facts, &done.foot, for_tools)?,
     })
+}
+
+/// The text of a renaming that is accepted: its line, its declarations, and these diffs.
+fn done_text(
+    alloc: Global,
+    cuts: &[CutSource<'_>],
+    done: &Renamed,
+    diffs: &[u8],
+) -> Result<Row<u8>, Memory>
+    ensures { IfOk result (λ text. text ≡ renamed_line_of done.now ++ declaration_lines (map view_cut cuts.now) done.now ++ diffs.now) }
+{
+    let line = renamed_line(alloc, done)?;
+    let mut text = line.as_slice().to_vec(alloc)?;
+    push_declarations(alloc, &mut text, cuts, done.foot.decls.as_slice())?;
+    text.extend_from_slice(diffs)?;
+    Ok(Row::from_vec(text))
 }
 
 /// The first line of a renaming that is accepted.

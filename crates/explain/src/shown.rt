@@ -1,57 +1,98 @@
 //! What is said of a footprint.
-ghost use Rattle.std.specs.Prelude.{◌≡◌, [], IfOk};
-ghost use Rattle.explain.specs.Says.{SaysFootprint};
+ghost use Rattle.std.specs.Prelude.{◌≡◌, ◌++◌, Err, IfOk, Ok, OnOk, map};
+ghost use Rattle.refusal_words.specs.Cut.{view_cut};
+ghost use Rattle.rename_files.specs.Answer.{Shows};
+ghost use Rattle.rename_project.specs.Steps.{IsRefusedFor};
+ghost use Rattle.explain.specs.Around.{AreFacts};
+ghost use Rattle.explain.specs.Says.{AreToolPlaces, SaysFootprint, SaysShown};
+ghost use Rattle.explain.specs.Shown.{outside_line, place_lines, place_messages as place_messages_of, shown_line as shown_line_of};
 
 use crate::ending::Ending;
 use crate::lines::{place_message, place_word, push_place};
-use crate::refused::renaming_told;
+use crate::opened::{Opened, open_folder};
+use crate::refused::{is_memory, refusal_told};
 use crate::told::Told;
 use messages::{Message, counted, joined, spot_text};
-use project_reading::read_project;
 use refusal_words::{CutSource, cut_sources, place_spot};
-use rename_files::foot;
-use rename_parts::hit_places;
-use rename_project::resolve_facts;
-use rotor_base::{Files, Foot, FootReport, Memory, Place, Refusal, Row, Target};
+use rename_files::foot_in;
+use rotor_base::{Facts, Files, Foot, FootReport, Memory, Place, Refusal, Row, Target};
 use std::alloc::Global;
-use watched::set_of;
+use value_at::{ValuePlace, places_of};
 
 /// What is said of the footprint of the declaration that a target names: the declarations and the uses, in order; or the
 /// first refusal. The one error is want of memory.
 pub fn explain_footprint(alloc: Global, files: &Files, target: &Target) -> Result<Told, Memory>
     ensures { IfOk result (SaysFootprint files.now target.now) }
 {
-    match foot(alloc, files, target) {
-        Ok(shown) => shown_told(alloc, files, &shown),
-        Err(Refusal::Memory) => Err(Memory),
-        Err(refusal) => renaming_told(alloc, files, target, b"", &refusal),
+    let opened = match open_folder(alloc, files) {
+        Ok(opened) => opened,
+        Err(refusal) => return refused_footprint(alloc, files, target, &refusal),
+    };
+    match foot_in(alloc, files, &opened.read, &opened.resolved, target) {
+        Ok(shown) => shown_footprint(alloc, files, &opened, target, &shown),
+        Err(refusal) => refused_footprint(alloc, files, target, &refusal),
     }
 }
 
+/// What is said of a footprint that is refused.
+fn refused_footprint(
+    alloc: Global,
+    files: &Files,
+    target: &Target,
+    refusal: &Refusal,
+) -> Result<Told, Memory>
+    requires { IsRefusedFor (λ why. Shows files.now target.now (Err why)) refusal.now }
+    ensures { IfOk result (SaysFootprint files.now target.now) }
+{
+    if is_memory(refusal) {
+        return Err(Memory);
+    }
+    refusal_told(alloc, files, target, b"", refusal)
+}
+
 /// What is said of a footprint that is shown.
-fn shown_told(alloc: Global, files: &Files, shown: &FootReport) -> Result<Told, Memory>
-    ensures ending { IfOk result (λ told. told.ending ≡ Ending.Done) }
-    ensures messages { IfOk result (λ told. told.messages ≡ []) }
+#[tactic(auto, using(crate::proofs::Answering::footprint_shown))]
+fn shown_footprint(
+    alloc: Global,
+    files: &Files,
+    opened: &Opened<'_>,
+    target: &Target,
+    shown: &FootReport,
+) -> Result<Told, Memory>
+    requires known { AreFacts files.now opened.now.resolved.facts }
+    requires shown { Shows files.now target.now (Ok shown.now) }
+    ensures { IfOk result (SaysFootprint files.now target.now) }
+{
+    shown_told(alloc, files, &opened.resolved.facts, shown)
+}
+
+/// What is said of a footprint that is shown, over the facts of the folder.
+fn shown_told(
+    alloc: Global,
+    files: &Files,
+    facts: &Facts,
+    shown: &FootReport,
+) -> Result<Told, Memory>
+    requires { AreFacts files.now facts.now }
+    ensures { IfOk result (SaysShown files.now shown.now) }
 {
     let cuts = cut_sources(alloc, files.entries())?;
+    let places = places_of(alloc, facts, &shown.foot)?;
     let mut text = shown_line(alloc, shown)?.into_vec();
-    let mut places = Vec::new(alloc);
-    for place in uses(alloc, files, &shown.foot)? {
-        let word = place_word(shown.foot.decls.as_slice().contains(&place));
-        push_place(alloc, &mut text, &cuts, word, place)?;
-        places.push(place_message(alloc, &cuts, word, place)?)?;
-    }
+    push_places(alloc, &mut text, &cuts, &places)?;
     push_outside(alloc, &mut text, &cuts, shown.foot.outside)?;
     Ok(Told {
         ending: Ending::Done,
         messages: Row::new(alloc),
         text: Row::from_vec(text),
-        places: Row::from_vec(places),
+        places: place_messages(alloc, &cuts, &places)?,
     })
 }
 
 /// The first line of a footprint.
-fn shown_line(alloc: Global, shown: &FootReport) -> Result<Row<u8>, Memory> {
+fn shown_line(alloc: Global, shown: &FootReport) -> Result<Row<u8>, Memory>
+    ensures { IfOk result (λ line. line ≡ shown_line_of shown.now) }
+{
     let declarations = shown.foot.decls.as_slice().len() as u64;
     let declarations = counted(alloc, declarations, "declaration")?;
     let uses = counted(alloc, shown.refs, "use")?;
@@ -69,55 +110,82 @@ fn shown_line(alloc: Global, shown: &FootReport) -> Result<Row<u8>, Memory> {
     )
 }
 
+/// Adds a line for each place.
+fn push_places(
+    alloc: Global,
+    text: &mut Vec<u8>,
+    cuts: &[CutSource<'_>],
+    places: &[ValuePlace],
+) -> Result<(), Memory>
+    ensures { OnOk result (text.new.items ≡ text.old.items ++ place_lines (map view_cut cuts.now) places.now) }
+{
+    for place in places {
+        push_place(
+            alloc,
+            text,
+            cuts,
+            place_word(place.is_declaration),
+            place.at,
+        )?;
+    }
+    Ok(())
+}
+
 /// Adds what is said of the declaration that is fixed from outside, if there is one.
 fn push_outside(
     alloc: Global,
     text: &mut Vec<u8>,
     cuts: &[CutSource<'_>],
     outside: Option<Place>,
-) -> Result<(), Memory> {
+) -> Result<(), Memory>
+    ensures { OnOk result (text.new.items ≡ text.old.items ++ outside_line (map view_cut cuts.now) outside) }
+{
     let Some(place) = outside else {
         return Ok(());
     };
     let spot = place_spot(alloc, cuts, place)?;
     let at = spot_text(alloc, &spot)?;
-    text.extend_from_slice(at.as_slice())?;
-    text.extend_from_slice(
-        b": note: fixed from outside the folder, so none of these can be renamed\n",
+    let line = joined(
+        alloc,
+        &[
+            at.as_slice(),
+            b": note: fixed from outside the folder, so none of these can be renamed\n",
+        ],
     )?;
+    text.extend_from_slice(line.as_slice())?;
     Ok(())
 }
 
-/// The messages of the places of a footprint, in order.
-pub(crate) fn use_messages(
+/// The messages of places.
+fn place_messages(
     alloc: Global,
-    files: &Files,
     cuts: &[CutSource<'_>],
-    foot: &Foot,
-) -> Result<Row<Message>, Memory> {
-    let mut messages = Row::new(alloc);
-    for place in uses(alloc, files, foot)? {
-        let word = place_word(foot.decls.as_slice().contains(&place));
-        messages.push(place_message(alloc, cuts, word, place)?)?;
+    places: &[ValuePlace],
+) -> Result<Row<Message>, Memory>
+    ensures { IfOk result (λ messages. messages ≡ place_messages_of (map view_cut cuts.now) places.now) }
+{
+    let mut messages = Vec::new(alloc);
+    for place in places {
+        let word = place_word(place.is_declaration);
+        messages.push(place_message(alloc, cuts, word, place.at)?)?;
     }
-    Ok(messages)
+    Ok(Row::from_vec(messages))
 }
 
-/// The declarations of a footprint and the uses of them, in order. If the folder is refused, there are none.
-fn uses(alloc: Global, files: &Files, foot: &Foot) -> Result<Vec<Place>, Memory> {
-    let read = match read_project(alloc, files) {
-        Ok(read) => read,
-        Err(Refusal::Memory) => return Err(Memory),
-        Err(_) => return Ok(Vec::new(alloc)),
-    };
-    let resolved = match resolve_facts(alloc, &read.project) {
-        Ok(resolved) => resolved,
-        Err(Refusal::Memory) => return Err(Memory),
-        Err(_) => return Ok(Vec::new(alloc)),
-    };
-    let members = set_of(alloc, foot.decls.as_slice())?;
-    let refs = resolved.facts.refs.as_slice();
-    let mut places = hit_places(alloc, refs, foot, &members)?;
-    places.sort()?;
-    Ok(places)
+/// The messages of the places of a footprint for tools, over the facts of the folder; if they are not asked for, none.
+#[tactic(auto, using(crate::proofs::Answering::tools_asked, crate::proofs::Answering::tools_not_asked))]
+pub(crate) fn tool_places(
+    alloc: Global,
+    cuts: &[CutSource<'_>],
+    facts: &Facts,
+    foot: &Foot,
+    for_tools: bool,
+) -> Result<Row<Message>, Memory>
+    ensures { IfOk result (AreToolPlaces facts.now (map view_cut cuts.now) foot.now for_tools) }
+{
+    if !for_tools {
+        return Ok(Row::new(alloc));
+    }
+    let places = places_of(alloc, facts, foot)?;
+    place_messages(alloc, cuts, &places)
 }

@@ -1,5 +1,11 @@
 //! The messages of sources that are outside the language.
+ghost use Rattle.std.specs.Prelude.{◌≡◌, ◌≢◌, ◌++◌, IfNone, IfOk, IfSome, None, OnOk};
+ghost use Rattle.rotor_base.specs.declared.refusal.LoadError.TheVariants as load_error;
+ghost use Rattle.project_reading.specs.Reads.{IsRefused};
+ghost use Rattle.explain.specs.Sources.{IsNoProject, SaysSource, SaysSources, alone};
+ghost use Rattle.explain.specs.Told.{listed};
 
+use crate::refused::is_memory;
 use messages::Message;
 use project_reading::read_project;
 use refusal_words::{cut_sources, project_message};
@@ -8,43 +14,102 @@ use std::alloc::Global;
 
 /// The message of each source that is outside the language, with its first reason, in order. The one error is want of
 /// memory.
-pub(crate) fn unread_messages(alloc: Global, files: &Files) -> Result<Row<Message>, Memory> {
-    let mut messages = Row::new(alloc);
-    for source in files.entries() {
-        if let Some(message) = source_message(alloc, source)? {
-            messages.push(message)?;
-        }
+pub(crate) fn unread_messages(alloc: Global, sources: &[SourceFile]) -> Result<Row<Message>, Memory>
+    ensures { IfOk result (SaysSources sources.now) }
+{
+    let mut messages = Vec::new(alloc);
+    for source in sources {
+        push_said(&mut messages, source_message(alloc, source)?)?;
     }
-    Ok(messages)
+    Ok(Row::from_vec(messages))
+}
+
+/// Adds a message, if there is one.
+fn push_said(messages: &mut Vec<Message>, said: Option<Message>) -> Result<(), Memory>
+    ensures { OnOk result (messages.new.items ≡ messages.old.items ++ listed said) }
+{
+    if let Some(message) = said {
+        messages.push(message)?;
+    }
+    Ok(())
 }
 
 /// The first reason for which a source is outside the language, if there is one.
-fn source_message(alloc: Global, source: &SourceFile) -> Result<Option<Message>, Memory> {
-    let Some(files) = alone(alloc, source)? else {
-        return Ok(None);
-    };
-    match read_project(alloc, &files) {
-        Ok(_) => Ok(None),
-        Err(Refusal::Memory) => Err(Memory),
-        Err(refusal) => {
-            let cuts = cut_sources(alloc, files.entries())?;
-            project_message(alloc, &cuts, &refusal)
-        }
+fn source_message(alloc: Global, source: &SourceFile) -> Result<Option<Message>, Memory>
+    ensures { IfOk result (SaysSource source.now) }
+{
+    match alone_project(alloc, source)? {
+        Some(files) => alone_message(alloc, source, &files),
+        None => Ok(None),
     }
 }
 
+/// The first reason for which the source of a project is outside the language, if there is one.
+fn alone_message(
+    alloc: Global,
+    source: &SourceFile,
+    files: &Files,
+) -> Result<Option<Message>, Memory>
+    requires { files.now ≡ alone source.now }
+    ensures { IfOk result (SaysSource source.now) }
+{
+    match read_project(alloc, files) {
+        Ok(_) => Ok(None),
+        Err(refusal) => outside_message(alloc, source, files, &refusal),
+    }
+}
+
+/// The message of the source of a project that is not read.
+fn outside_message(
+    alloc: Global,
+    _source: &SourceFile,
+    files: &Files,
+    refusal: &Refusal,
+) -> Result<Option<Message>, Memory>
+    requires alone { files.now ≡ alone _source.now }
+    requires refused { IsRefused files.now refusal.now }
+    ensures { IfOk result (SaysSource _source.now) }
+{
+    if is_memory(refusal) {
+        return Err(Memory);
+    }
+    let cuts = cut_sources(alloc, files.entries())?;
+    project_message(alloc, &cuts, refusal)
+}
+
 /// The project of a source alone.
-fn alone(alloc: Global, source: &SourceFile) -> Result<Option<Files>, Memory> {
-    let name = Text::from_string(String::from_str(alloc, source.name.as_str())?);
-    if !is_source(name.as_str().as_bytes()) {
+fn alone_project(alloc: Global, source: &SourceFile) -> Result<Option<Files>, Memory>
+    ensures project { IfOk result (λ found. IfSome found (λ files. files ≡ alone source.now)) }
+    ensures none { IfOk result (λ found. IfNone found (IsNoProject source.now)) }
+{
+    if !is_source(source.name.as_str().as_bytes()) {
         return Ok(None);
     }
-    let bytes = Row::from_vec(source.bytes.as_slice().to_vec(alloc)?);
     let mut entries = Vec::new(alloc);
-    entries.push(SourceFile { name, bytes })?;
+    entries.push(copy_source(alloc, source)?)?;
     match make_files(alloc, entries, None) {
         Ok(files) => Ok(Some(files)),
-        Err(LoadError::Memory) => Err(Memory),
-        Err(_) => Ok(None),
+        Err(error) => no_project(&error),
+    }
+}
+
+/// A copy of a source.
+fn copy_source(alloc: Global, source: &SourceFile) -> Result<SourceFile, Memory>
+    ensures { IfOk result (λ copy. copy ≡ source.now) }
+{
+    Ok(SourceFile {
+        name: Text::from_string(String::from_str(alloc, source.name.as_str())?),
+        bytes: Row::from_vec(source.bytes.as_slice().to_vec(alloc)?),
+    })
+}
+
+/// No project, if there was memory.
+fn no_project(error: &LoadError) -> Result<Option<Files>, Memory>
+    ensures none { IfOk result (λ found. found ≡ None) }
+    ensures memory { OnOk result (error.now ≢ load_error.Memory) }
+{
+    match error {
+        LoadError::Memory => Err(Memory),
+        _ => Ok(None),
     }
 }

@@ -2,7 +2,7 @@
 ghost use Rattle.std.specs.Prelude.{◌≡◌, ◌++◌, IfOk, OnOk, flat_map};
 ghost use Rattle.messages.specs.Json.{json_of};
 ghost use Rattle.messages.specs.Printed.{message_text};
-ghost use Rattle.explain.specs.Told.{bare_told as bare_told_of, lines_text as lines_text_of, maybe_told as maybe_told_of, told_text as told_text_of};
+ghost use Rattle.explain.specs.Told.{bare_told as bare_told_of, lines_text as lines_text_of, maybe_told as maybe_told_of, messages_told as messages_told_of, told_text as told_text_of};
 
 use crate::ending::Ending;
 use messages::{Message, json_text, push_message};
@@ -19,6 +19,18 @@ pub struct Told {
     pub places: Row<Message>,
 }
 
+/// Messages alone.
+pub(crate) fn messages_told(alloc: Global, ending: Ending, messages: Row<Message>) -> Told
+    ensures { result ≡ messages_told_of ending messages }
+{
+    Told {
+        ending,
+        messages,
+        text: Row::new(alloc),
+        places: Row::new(alloc),
+    }
+}
+
 /// What is said of one message, if there is one.
 pub(crate) fn maybe_told(
     alloc: Global,
@@ -31,12 +43,7 @@ pub(crate) fn maybe_told(
     if let Some(message) = message {
         messages.push(message)?;
     }
-    Ok(Told {
-        ending,
-        messages,
-        text: Row::new(alloc),
-        places: Row::new(alloc),
-    })
+    Ok(messages_told(alloc, ending, messages))
 }
 
 /// What is said of a folder that is not loaded. The one error is want of memory.

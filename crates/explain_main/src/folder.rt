@@ -5,6 +5,7 @@ ghost use Rattle.std.specs.Str.{bytes_eq};
 ghost use Rattle.std.specs.Prelude.{string_bytes};
 ghost use Rattle.std.specs.Option.{ForSome};
 ghost use Rattle.rotor_base.specs.Limits.{max_file_bytes};
+ghost use Rattle.tree_io.specs.Outside.{HasCause};
 
 use messages::Message;
 use refusal_words::{
@@ -26,7 +27,8 @@ pub(crate) fn folder_message<T: Tree>(
     error: &LoadError,
     tree: &mut T,
 ) -> Result<Option<Message>, TreeError>
-    ensures { T.content tree.new ≡ T.content tree.old }
+    ensures content { T.content tree.new ≡ T.content tree.old }
+    ensures cause { HasCause (T.faults tree.old) (T.faults tree.new) result }
 {
     match error {
         LoadError::TooMany { count } => Ok(Some(too_many(alloc, *count)?)),
@@ -39,7 +41,8 @@ pub(crate) fn folder_message<T: Tree>(
 
 /// The message of a file that is too large, or with which all so far are.
 fn large_message<T: Tree>(alloc: Global, file: &Name, tree: &mut T) -> Result<Message, TreeError>
-    ensures { T.content tree.new ≡ T.content tree.old }
+    ensures content { T.content tree.new ≡ T.content tree.old }
+    ensures cause { HasCause (T.faults tree.old) (T.faults tree.new) result }
 {
     let name = file.as_bytes();
     let text = String::from_utf8_lossy(alloc, name)?;
@@ -58,6 +61,7 @@ fn read_listed<T: Tree>(
     tree: &mut T,
 ) -> Result<Option<Vec<u8>>, TreeError>
     ensures content { T.content tree.new ≡ T.content tree.old }
+    ensures cause { HasCause (T.faults tree.old) (T.faults tree.new) result }
     ensures short { IfOk result (λ found. ForSome found (λ bytes. length bytes.items ≤ max_file_bytes + 1)) }
 {
     let listed = tree.list(alloc)?;
@@ -76,7 +80,8 @@ fn has_name(listed: &[String], name: &str) -> bool
 
 /// The names of the sources of a folder, in byte order.
 fn source_names<T: Tree>(alloc: Global, tree: &mut T) -> Result<Vec<String>, TreeError>
-    ensures { T.content tree.new ≡ T.content tree.old }
+    ensures content { T.content tree.new ≡ T.content tree.old }
+    ensures cause { HasCause (T.faults tree.old) (T.faults tree.new) result }
 {
     let mut names = tree.list(alloc)?;
     names.retain(|name| is_source(name.as_bytes()));
@@ -90,7 +95,8 @@ fn double_message<T: Tree>(
     unit: &Name,
     tree: &mut T,
 ) -> Result<Option<Message>, TreeError>
-    ensures { T.content tree.new ≡ T.content tree.old }
+    ensures content { T.content tree.new ≡ T.content tree.old }
+    ensures cause { HasCause (T.faults tree.old) (T.faults tree.new) result }
 {
     let names = source_names(alloc, tree)?;
     for is_body in [true, false] {
@@ -126,7 +132,8 @@ fn manifest_message<T: Tree>(
     line: u32,
     tree: &mut T,
 ) -> Result<Option<Message>, TreeError>
-    ensures { T.content tree.new ≡ T.content tree.old }
+    ensures content { T.content tree.new ≡ T.content tree.old }
+    ensures cause { HasCause (T.faults tree.old) (T.faults tree.new) result }
 {
     let Some(bytes) = read_listed(alloc, MANIFEST, tree)? else {
         return Ok(None);

@@ -1,15 +1,23 @@
 //! The program over any folder and any output.
-ghost use Rattle.std.specs.Prelude.{◌≡◌, None};
+ghost use Rattle.std.specs.Prelude.{◌≡◌, ◌⊎◌, ◌≤◌, IfOk, IfSome, IsErrOf, None, OnOk};
+ghost use Rattle.project_load.specs.Load.{IsOutside, loaded};
+ghost use Rattle.tree_io.specs.Outside.{HasCause, Rose};
+ghost use Rattle.tree_io.specs.declared.outside.TreeError.TheVariants as fault;
 ghost use Rattle.explain_main.specs.Code.{status_of as status_for};
+ghost use Rattle.explain_main.specs.Said.{IsAnswered, IsPrinted, IsSaid, IsStopped, IsUnloaded, SaysBatchIn, SaysFiles, SaysOf, SaysOver};
 ghost use Rattle.explain_main.specs.Words.{asked_in};
 
 use crate::code::ExitStatus;
 use crate::folder::folder_message;
-use crate::words::{Asked, Question, asked_of};
+use crate::words::{Asked, FilesQuestion, Question, asked_of};
 use cli_words::WordsError;
 use explain::{
     Ending, Told, explain_check, explain_footprint, explain_rename, told_text, unloaded_told,
 };
+use explain_at::explain_at;
+use explain_batch::explain_batch;
+use explain_recover::explain_recover;
+use explain_verify::explain_verify;
 use project_load::load;
 use rotor_base::{Files, LoadError, Memory};
 use std::alloc::Global;
@@ -23,8 +31,11 @@ pub fn explain_words<T: Tree, S: Sink>(
     tree: &mut T,
     out: &mut S,
 ) -> ExitStatus
+    ensures said { IsSaid words.now (T.content tree.old) (S.taken out.old) (S.taken out.new) result }
     ensures content { T.content tree.new ≡ T.content tree.old }
     ensures usage { result ≡ ExitStatus.Usage → asked_in words.now ≡ None }
+    ensures tree_fault { result ≡ ExitStatus.TreeFault → Rose (T.faults tree.old) (T.faults tree.new) }
+    ensures sink_fault { result ≡ ExitStatus.SinkFault → Rose (S.faults out.old) (S.faults out.new) }
 {
     match asked_of(alloc, words) {
         Err(WordsError::Usage) => ExitStatus::Usage,
@@ -35,8 +46,11 @@ pub fn explain_words<T: Tree, S: Sink>(
 
 /// Explains the answer to a question.
 fn answer<T: Tree, S: Sink>(alloc: Global, asked: &Asked, tree: &mut T, out: &mut S) -> ExitStatus
+    ensures answered { IsAnswered (T.content tree.old) asked.now (S.taken out.old) (S.taken out.new) result }
     ensures content { T.content tree.new ≡ T.content tree.old }
     ensures usage { result ≡ ExitStatus.Usage → ⊥ }
+    ensures tree_fault { result ≡ ExitStatus.TreeFault → Rose (T.faults tree.old) (T.faults tree.new) }
+    ensures sink_fault { result ≡ ExitStatus.SinkFault → Rose (S.faults out.old) (S.faults out.new) }
 {
     match told_of(alloc, asked, tree) {
         Ok(told) => put_told(alloc, told, asked.as_json, out),
@@ -45,35 +59,113 @@ fn answer<T: Tree, S: Sink>(alloc: Global, asked: &Asked, tree: &mut T, out: &mu
     }
 }
 
-/// What is said over the files of a folder.
+/// What is said of a question.
 fn told_of<T: Tree>(alloc: Global, asked: &Asked, tree: &mut T) -> Result<Told, TreeError>
-    ensures { T.content tree.new ≡ T.content tree.old }
+    ensures said { IfOk result (SaysOf (T.content tree.old) asked.now) }
+    ensures content { T.content tree.new ≡ T.content tree.old }
+    ensures failed { IsErrOf result fault.Failed → Rose (T.faults tree.old) (T.faults tree.new) }
 {
-    match load(alloc, tree) {
-        Ok(files) => Ok(told_over(alloc, asked, &files)?),
-        Err(LoadError::Read) => Err(TreeError::Failed),
-        Err(LoadError::Memory) => Err(TreeError::Memory),
-        Err(error) => {
-            let message = folder_message(alloc, &error, tree)?;
-            Ok(unloaded_told(alloc, message)?)
-        }
+    match &asked.question {
+        Question::Recover => explain_recover(alloc, tree),
+        Question::Verify { old, new } => explain_verify(alloc, old.as_str(), new.as_str(), tree),
+        Question::Batch(file) => batch_told(alloc, file.as_str(), tree),
+        Question::Files(question) => files_told(alloc, question, asked.as_json, tree),
     }
 }
 
-/// What is said over the files of a project.
-fn told_over(alloc: Global, asked: &Asked, files: &Files) -> Result<Told, Memory> {
-    match &asked.question {
-        Question::Check => explain_check(alloc, files),
-        Question::Footprint(target) => explain_footprint(alloc, files, target),
-        Question::Rename { target, name } => {
-            explain_rename(alloc, files, target, name.as_bytes(), asked.as_json)
+/// What is said of the batch in a file, over the files of a folder.
+fn batch_told<T: Tree>(alloc: Global, file: &str, tree: &mut T) -> Result<Told, TreeError>
+    ensures said { IfOk result (SaysFiles (T.content tree.old) (SaysBatchIn (T.content tree.old) file.now)) }
+    ensures content { T.content tree.new ≡ T.content tree.old }
+    ensures failed { IsErrOf result fault.Failed → Rose (T.faults tree.old) (T.faults tree.new) }
+{
+    match files_or_reason(alloc, tree)? {
+        Ok(files) => explain_batch(alloc, file, &files, tree),
+        Err(why) => reason_told(alloc, &why, tree),
+    }
+}
+
+/// What is said of a question over the files of a folder.
+fn files_told<T: Tree>(
+    alloc: Global,
+    question: &FilesQuestion,
+    as_json: bool,
+    tree: &mut T,
+) -> Result<Told, TreeError>
+    ensures said { IfOk result (SaysFiles (T.content tree.old) (SaysOver question.now as_json)) }
+    ensures content { T.content tree.new ≡ T.content tree.old }
+    ensures failed { IsErrOf result fault.Failed → Rose (T.faults tree.old) (T.faults tree.new) }
+{
+    match files_or_reason(alloc, tree)? {
+        Ok(files) => Ok(told_over(alloc, question, as_json, &files)?),
+        Err(why) => reason_told(alloc, &why, tree),
+    }
+}
+
+/// The files that a folder loads as, or the reason that lies in the folder.
+fn files_or_reason<T: Tree>(
+    alloc: Global,
+    tree: &mut T,
+) -> Result<Result<Files, LoadError>, TreeError>
+    ensures loads { IfOk result (λ found. IfSome (T.content tree.old) (λ held. loaded held ≡ found)) }
+    ensures content { T.content tree.new ≡ T.content tree.old }
+    ensures later { T.faults tree.old ≤ T.faults tree.new }
+    ensures failed { IsErrOf result fault.Failed → Rose (T.faults tree.old) (T.faults tree.new) }
+{
+    match load(alloc, tree) {
+        Ok(files) => Ok(Ok(files)),
+        Err(error) => Ok(Err(reason_of(error)?)),
+    }
+}
+
+/// The reason that lies in the folder. A fault and want of memory are none.
+fn reason_of(error: LoadError) -> Result<LoadError, TreeError>
+    ensures same { IfOk result (λ why. why ≡ error) }
+    ensures inside { OnOk result (IsOutside error → ⊥) }
+    ensures failed { IsErrOf result fault.Failed → error ≡ LoadError.Read }
+{
+    match error {
+        LoadError::Read => Err(TreeError::Failed),
+        LoadError::Memory => Err(TreeError::Memory),
+        _ => Ok(error),
+    }
+}
+
+/// What is said of a folder that does not load.
+fn reason_told<T: Tree>(alloc: Global, why: &LoadError, tree: &mut T) -> Result<Told, TreeError>
+    ensures said { IfOk result IsUnloaded }
+    ensures content { T.content tree.new ≡ T.content tree.old }
+    ensures cause { HasCause (T.faults tree.old) (T.faults tree.new) result }
+{
+    let message = folder_message(alloc, why, tree)?;
+    Ok(unloaded_told(alloc, message)?)
+}
+
+/// What is said of a question over the files of a project.
+fn told_over(
+    alloc: Global,
+    question: &FilesQuestion,
+    as_json: bool,
+    files: &Files,
+) -> Result<Told, Memory>
+    ensures { IfOk result (SaysOver question.now as_json files.now) }
+{
+    match question {
+        FilesQuestion::Check => explain_check(alloc, files),
+        FilesQuestion::Footprint(target) => explain_footprint(alloc, files, target),
+        FilesQuestion::Rename { target, name } => {
+            explain_rename(alloc, files, target, name.as_bytes(), as_json)
         }
+        FilesQuestion::At(word) => explain_at(alloc, files, word.as_str()),
     }
 }
 
 /// Puts what is said, and returns how the program ends.
 fn put_told<S: Sink>(alloc: Global, told: Told, as_json: bool, out: &mut S) -> ExitStatus
+    ensures printed { IsPrinted as_json told (S.taken out.old) (S.taken out.new) result ⊎ IsStopped result }
     ensures usage { result ≡ ExitStatus.Usage → ⊥ }
+    ensures tree_fault { result ≡ ExitStatus.TreeFault → ⊥ }
+    ensures sink_fault { result ≡ ExitStatus.SinkFault → Rose (S.faults out.old) (S.faults out.new) }
 {
     let status = status_of(told.ending);
     let Ok(text) = told_text(alloc, told, as_json) else {

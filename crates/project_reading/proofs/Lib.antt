@@ -5,6 +5,7 @@ pub mod ReadSource
 pub mod Putting
 pub mod Gathering
 pub mod Reading
+pub mod Cut
 pub mod TakingOut
 pub mod Ordered
 pub mod Linked

@@ -1,12 +1,24 @@
 //! The calls of renaming.
 
-ghost use Rattle.std.specs.Prelude.{◌≡◌, Err, IfErr, IfOk, Ok};
+ghost use Rattle.std.specs.Prelude.{◌≡◌, Err, IfErr, IfOk, None, Ok, map};
+ghost use Rattle.ml_lexer.specs.Lexed.{view_tokens};
+ghost use Rattle.ml_syntax.specs.Sound.{IsSound};
+ghost use Rattle.ml_syntax.specs.View.{view_project};
+ghost use Rattle.shape_core.specs.Node.{entries_of};
+ghost use Rattle.shape_core.specs.Shape.{none};
+ghost use Rattle.binding_model.specs.Facts.{facts as facts_of};
+ghost use Rattle.binding_model.specs.Scopes.{after_units};
+ghost use Rattle.binding_model.specs.Sums.{heavy};
+ghost use Rattle.project_reading.specs.Reads.{Reads};
+ghost use Rattle.project_reading.specs.Sources.{AreCut};
+ghost use Rattle.rename_model.specs.Project.{refusals_of_project};
+ghost use Rattle.rename_project.specs.Steps.{IsFreeOf, IsRefusedFor};
 ghost use Rattle.rename_files.specs.Answer.{Checks, Renames, Shows};
-ghost use Rattle.rename_project.specs.Steps.{IsRefusedFor};
 
 use crate::judge::judge;
 use dependency_kernel::footprint;
-use project_reading::read_project;
+use mod_shape::Resolved;
+use project_reading::{Read, read_project};
 use rename_parts::{binder_places, count_refs};
 use rename_project::{find_aim, resolve};
 use rename_steps::{changed_files, remake};
@@ -49,7 +61,32 @@ pub fn foot(alloc: Global, files: &Files, target: &Target) -> Result<FootReport,
 {
     let read = read_project(alloc, files)?;
     let resolved = resolve(alloc, &read.project)?;
-    let aim = find_aim(alloc, files, &read, &resolved.top, target)?;
+    foot_in(alloc, files, &read, &resolved, target)
+}
+
+/// The answer of [`foot`] over files that were read and resolved. The caller ensures that the project is that of the files,
+/// that nothing refuses it, and that the tokens, the facts and the scope are its own.
+///
+/// # Errors
+///
+/// `NoTarget`, if the target names no binder. `Memory`.
+pub fn foot_in(
+    alloc: Global,
+    files: &Files,
+    read: &Read,
+    resolved: &Resolved,
+    target: &Target,
+) -> Result<FootReport, Refusal>
+    requires reads { Reads files.now (view_project read.now.project) }
+    requires sound { IsSound (view_project read.now.project) }
+    requires cut { AreCut files.now.entries (map (λ list. view_tokens list.items) read.now.tokens.items) }
+    requires passed { IsFreeOf (refusals_of_project (view_project read.now.project)) }
+    requires facts { resolved.now.facts ≡ facts_of (view_project read.now.project) }
+    requires top { entries_of resolved.now.top ≡ after_units none (view_project read.now.project) }
+    ensures shown { IfOk result (λ shown. Shows files.now target.now (Ok shown)) }
+    ensures refused { IfErr result (IsRefusedFor (λ why. Shows files.now target.now (Err why))) }
+{
+    let aim = find_aim(alloc, files, read, &resolved.top, target)?;
     let foot = footprint(alloc, &resolved.facts, aim.place)?;
     let members = set_of(alloc, foot.decls.as_slice())?;
     let refs = count_refs(resolved.facts.refs.as_slice(), &members);
@@ -83,7 +120,34 @@ pub fn rename(
 {
     let read = read_project(alloc, files)?;
     let resolved = resolve(alloc, &read.project)?;
-    let aim = find_aim(alloc, files, &read, &resolved.top, target)?;
+    rename_in(alloc, files, &read, &resolved, target, name)
+}
+
+/// The answer of [`rename`] over files that were read and resolved. The caller ensures what [`foot_in`] requires, and that
+/// no site is too heavy.
+///
+/// # Errors
+///
+/// `NoTarget`, if the target names no binder, and then those of [`rename`] that follow it. `Memory`.
+pub fn rename_in(
+    alloc: Global,
+    files: &Files,
+    read: &Read,
+    resolved: &Resolved,
+    target: &Target,
+    name: &[u8],
+) -> Result<Renamed, Refusal>
+    requires reads { Reads files.now (view_project read.now.project) }
+    requires sound { IsSound (view_project read.now.project) }
+    requires cut { AreCut files.now.entries (map (λ list. view_tokens list.items) read.now.tokens.items) }
+    requires passed { IsFreeOf (refusals_of_project (view_project read.now.project)) }
+    requires light { heavy (view_project read.now.project) ≡ None }
+    requires facts { resolved.now.facts ≡ facts_of (view_project read.now.project) }
+    requires top { entries_of resolved.now.top ≡ after_units none (view_project read.now.project) }
+    ensures done { IfOk result (λ done. Renames files.now target.now name.now (Ok done)) }
+    ensures refused { IfErr result (IsRefusedFor (λ why. Renames files.now target.now name.now (Err why))) }
+{
+    let aim = find_aim(alloc, files, read, &resolved.top, target)?;
     let facts = &resolved.facts;
     let foot = footprint(alloc, facts, aim.place)?;
     let members = set_of(alloc, foot.decls.as_slice())?;
@@ -94,7 +158,7 @@ pub fn rename(
         new,
         foot,
     };
-    let judged = judge(alloc, files, &read, facts, &watch, &members, aim.place)?;
+    let judged = judge(alloc, files, read, facts, &watch, &members, aim.place)?;
     let changed = changed_files(alloc, &judged.places, files.entries())?;
     let files = remake(alloc, files, judged.sources)?;
     Ok(Renamed {

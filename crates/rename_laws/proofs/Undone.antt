@@ -31,6 +31,7 @@ use Rattle.binding_model.specs.Renaming.{places, at_place, site_name, name_of, I
 use Rattle.capture_check.specs.Fault.{IsMet, IsLeastRepeat, IsFirstDiffering, of_ref, of_link, before}
 use Rattle.project_reading.specs.Reads.{Reads}
 use Rattle.project_reading.specs.Sources.{ReadAll, AreCut}
+use Rattle.project_reading.proofs.Cut.{all_cut}
 use Rattle.respelled_reading.proofs.Back.{renamed_back_are_the_files}
 use Rattle.renamed_sources.proofs.Limits.{nothing_is_over}
 use Rattle.renamed_sources.proofs.Respelling.{sources_can_be_respelled}
@@ -62,31 +63,25 @@ either_true true b h = refl
 either_true false b (inl e) = absurd (true≢false (sym e))
 either_true false b (inr e) = e
 
-fixed_at : (x : Site) (o : Option Site) → o ≡ Some x → (x.operator ≡ true) ⊎ (x.pun ≡ true) → IsFixedSite o
+pub fixed_at : (x : Site) (o : Option Site) → o ≡ Some x → (x.operator ≡ true) ⊎ (x.pun ≡ true) → IsFixedSite o
 fixed_at x o e h = subst IsFixedSite (sym e) (either_true x.operator x.pun h)
 
 not_true : (b : Bool) → ((b ≡ true) → ⊥) → b ≡ false
 not_true true h = absurd (h refl)
 not_true false h = refl
 
-cuts : (n : ℕ) (ss : List SourceFile) (ts : List FileTree) → ReadAll n ss ts → (lists : List (List Lexeme)) × AreCut ss lists
-cuts n [] [] h = ([], tt)
-cuts n [] (t ∷ ts) h = absurd h
-cuts n (s ∷ ss) [] h = absurd h
-cuts n (s ∷ ss) (t ∷ ts) h = let r = cuts (suc n) ss ts h.1 in (h.0.lexemes ∷ r.0, (h.0.plain.cut, r.1))
-
 module _ {A : Type 0} (make : Place → Goal → A) (one : (p : Place) (g k : Goal) → make p g ≡ make p k → g ≡ k) (olds news : List A)
     (same : olds ≡ news) where
-  none_differ : (p : Place) (g k : Goal) → IsFirstDiffering make olds news p g k → ⊥
+  pub none_differ : (p : Place) (g k : Goal) → IsFirstDiffering make olds news p g k → ⊥
   none_differ p g k h =
       let both : Some (make p g) ≡ Some (make p k) = sym h.differs.old_one ∙ (ap (λ l. slice_get l h.number) same ∙ h.differs.new_one) in
       let items : make p g ≡ make p k = cc in
       h.differs.differ (one p g k items)
 
-ref_goal : (p : Place) (g k : Goal) → of_ref p g ≡ of_ref p k → g ≡ k
+pub ref_goal : (p : Place) (g k : Goal) → of_ref p g ≡ of_ref p k → g ≡ k
 ref_goal p g k e = ap (λ (r : Ref). r.goal) e
 
-link_goal : (p : Place) (g k : Goal) → of_link p g ≡ of_link p k → g ≡ k
+pub link_goal : (p : Place) (g k : Goal) → of_link p g ≡ of_link p k → g ≡ k
 link_goal p g k e = ap (λ (l : Link). l.source) e
 
 module _ (files : FileSet) (us : List UnitTree) (d : Place) (foot : Foot) (new : Name) (h : IsRenamable files us d foot new) (out : FileSet)
@@ -141,7 +136,7 @@ module _ (files : FileSet) (us : List UnitTree) (d : Place) (foot : Foot) (new :
 
   sources_back : AreRespelled (in_file (renamed_words vs B)) 0 out.entries files.entries
   sources_back =
-      let cut = cuts 0 out.entries reads.trees reads.read in
+      let cut = all_cut 0 out.entries reads.trees reads.read in
       let made = sources_can_be_respelled (renamed_words vs B) 0 out.entries cut.0 cut.1 in
       subst (AreRespelled (in_file (renamed_words vs B)) 0 out.entries) (undone_is made.0 made.1) made.1
 

@@ -22,6 +22,7 @@ use Rattle.binding_model.specs.Renaming.{IsFree, IsValid}
 use Rattle.binding_model.proofs.LastEntries.{same_is}
 use Rattle.binding_model.proofs.Leasts.{place_in}
 use Rattle.binding_model.proofs.Telltale.{apart_of, no_goal}
+use Rattle.facts_laws.proofs.Unrepeated.{good_repeats_none}
 use Rattle.capture_check.specs.declared.fault.Fault.{Fault}
 use Rattle.capture_check.specs.declared.fault.Fault.TheVariants.{Clash, Capture, Mislink}
 use Rattle.capture_check.specs.Fault.{IsMet, IsClash, IsCapture, IsMislink, IsFirstDiffering, faults, of_ref, of_link}
@@ -45,7 +46,6 @@ use Rattle.rename_verify.proofs.Listing.{entry_is}
 use Rattle.rename_verify.proofs.Reasons.{no_broken, no_bytes, no_fixed, no_reason, no_sources}
 use Rattle.rename_verify.proofs.Respelt.{cut_is, lists_of, word_is}
 use Rattle.rename_verify.proofs.Sources.{sources_are_renamed}
-use Rattle.rename_verify.proofs.Unrepeated.{good_repeats_none}
 use Rattle.rename_steps.proofs.Found.{site_found}
 
 -- ---- lists

@@ -16,7 +16,6 @@ pub mod Unchanged
 pub mod Decided
 pub mod Valid
 pub mod Respelt
-pub mod Unrepeated
 pub mod Complete
 pub mod Trimming
 pub mod Said

@@ -54,7 +54,7 @@ named_word s t (a_sign c x a n q) o = let wrong : true ≡ false = sym q ∙ o i
 named_word s t (a_minus x a n q) o = let wrong : true ≡ false = sym q ∙ o in cc
 
 -- the place with the number of a token is at that token
-stands_at : (ts : List Tok) (ss : List Site) → AreNumberedBy ts 0 ss → (s : Site) → Contains ss s
+pub stands_at : (ts : List Tok) (ss : List Site) → AreNumberedBy ts 0 ss → (s : Site) → Contains ss s
     → (past : List Tok) (here : Tok) (rest : List Tok) (at : ℕ) → ts ≡ past ++ here ∷ rest → suc (length past) ≡ at → s.at ≡ at
     → IsWordOf s here
 stands_at ts ss numbers s c past here rest at whole size is_at =

@@ -33,11 +33,11 @@ ChangesPlaces us w =
 
 -- ---- the file of a tree
 
-abbrev number_of : FileTree → ℕ
+abbrev pub number_of : FileTree → ℕ
 number_of (Body f is) = f
 number_of (Face f is) = f
 
-number_is : (k : FileKind) (n : ℕ) (t : FileTree) → IsOfFile k n t → number_of t ≡ n
+pub number_is : (k : FileKind) (n : ℕ) (t : FileTree) → IsOfFile k n t → number_of t ≡ n
 number_is kind.Body n (Body f is) h = h
 number_is kind.Face n (Face f is) h = h
 number_is kind.Body n (Face f is) h = absurd h
@@ -47,7 +47,7 @@ some_same : (a b : SourceFile) → Some a ≡ Some b → a ≡ b
 some_same a b e = cc
 
 -- a tree is a part of a unit of the project
-abbrev IsIn : List UnitTree → FileTree → Type 0
+abbrev pub IsIn : List UnitTree → FileTree → Type 0
 IsIn us t = (u : UnitTree) × Contains us u × ((u.body ≡ Some t) ⊎ (u.face ≡ Some t))
 
 module _ (fs : FileSet) (us : List UnitTree) (project : IsProject fs) (reads : Reads fs us) where
@@ -93,11 +93,15 @@ module _ (fs : FileSet) (us : List UnitTree) (project : IsProject fs) (reads : R
         (each_joined Own (file_places v.face) (places vs) (own_part v.face (λ q e. (v, here, inr e)))
         (own_places vs (λ q c. inc q (suc c.0, omega (arith, c.1), c.2))))
 
+    -- what is at a place of this tree's file is a place of this tree
+    pub place_is_own : (at : ℕ) (s : Site) → at_place (places us) (here (number_of t) at) ≡ Some s → Contains (sites t) s × (s.at ≡ at)
+    place_is_own at s e = place_in Own (places us) (here (number_of t) at) s (own_places us (λ v k. k)) e refl
+
     changes_tree : (w : Words) → ChangesPlaces us w → ChangesNames (in_file w (number_of t)) (sites t)
     changes_tree w h at x = elim (h (here (number_of t) at) x) [
       | inl same ↦ inl same
       | inr c ↦
-          let own = place_in Own (places us) (here (number_of t) at) c.1 (own_places us (λ v k. k)) c.2 refl in
+          let own = place_is_own at c.1 c.2 in
           inr (c.0, c.1, own.0, own.1, c.3)
     ]
 

@@ -78,7 +78,7 @@ nothing_is_valid us s g = nothing_valid us s g
 
 module _ (us : List UnitTree) where
   -- an entry of the way back
-  back_at : (r : Renaming) (d : Place) (y : Name) → at_place r d ≡ Some y → at_place (back us r) d ≡ Some (name_of us d)
+  pub back_at : (r : Renaming) (d : Place) (y : Name) → at_place r d ≡ Some y → at_place (back us r) d ≡ Some (name_of us d)
   back_at [] d y e = let wrong : None ≡ Some y = e in absurd cc
   back_at (x ∷ r) d y e = by (same_place x.0 d) refl e (back_at r d y) where
     by : (b : Bool) → same_place x.0 d ≡ b → or_else (some_if b x.1) (at_place r d) ≡ Some y
@@ -87,7 +87,7 @@ module _ (us : List UnitTree) where
     by true s f rest = ap (λ p. Some (name_of us p)) (same_is x.0 d s)
     by false s f rest = rest f
 
-  back_none : (r : Renaming) (d : Place) → at_place r d ≡ None → at_place (back us r) d ≡ None
+  pub back_none : (r : Renaming) (d : Place) → at_place r d ≡ None → at_place (back us r) d ≡ None
   back_none [] d e = refl
   back_none (x ∷ r) d e = by (same_place x.0 d) e (back_none r d) where
     by : (b : Bool) → or_else (some_if b x.1) (at_place r d) ≡ None → (at_place r d ≡ None → at_place (back us r) d ≡ None)
@@ -96,7 +96,7 @@ module _ (us : List UnitTree) where
     by false f rest = rest f
 
   -- an entry of the way back is of one of the renaming
-  back_entry : (r : Renaming) (d : Place) (z : Name) → at_place (back us r) d ≡ Some z → (y : Name) × (at_place r d ≡ Some y)
+  pub back_entry : (r : Renaming) (d : Place) (z : Name) → at_place (back us r) d ≡ Some z → (y : Name) × (at_place r d ≡ Some y)
   back_entry r d z e = by (at_place r d) refl where
     by : (o : Option Name) → at_place r d ≡ o → (y : Name) × (at_place r d ≡ Some y)
     by (Some y) f = (y, f)
@@ -114,7 +114,7 @@ module _ (us : List UnitTree) (r : Renaming) (sound : IsSound us) (sound_too : I
   abbrev vs : List UnitTree
   vs = respell us r
 
-  abbrev b : Renaming
+  abbrev pub b : Renaming
   b = back us r
 
   abbrev v : Words
@@ -162,7 +162,7 @@ module _ (us : List UnitTree) (r : Renaming) (sound : IsSound us) (sound_too : I
   goal_back Hidden q x f = refl
   goal_back (Blur by n o) q x f = refl
 
-  site_back : (o : Option Goal) (q : Place) (x : Site) → goal_at (facts us).refs q ≡ o → at_place (places us) q ≡ Some x
+  pub site_back : (o : Option Goal) (q : Place) (x : Site) → goal_at (facts us).refs q ≡ o → at_place (places us) q ≡ Some x
       → new_word b o q (new_word r o q x.name) ≡ x.name
   site_back None q x e h = value_back q x.name (ap site_name h)
   site_back (Some k) q x e h =

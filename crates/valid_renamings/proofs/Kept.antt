@@ -37,7 +37,7 @@ module _ (us : List UnitTree) (r : Renaming) (sound : IsSound us) (valid : IsVal
   pub fixed : KeepsFixed w us
   fixed = keeps us r sound valid.free
 
-  at_as : (d : Place) → at_place (places vs) d ≡ over (spelled_at w d) (at_place (places us) d)
+  pub at_as : (d : Place) → at_place (places vs) d ≡ over (spelled_at w d) (at_place (places us) d)
   at_as d = ap (λ L. at_place L d) (places-spell w us fixed) ∙ at_place-spell w (places us) d
 
   fixed_before : (d : Place) (o : Option Site) → IsFixedSite (over (spelled_at w d) o) → IsFixedSite o
@@ -48,7 +48,7 @@ module _ (us : List UnitTree) (r : Renaming) (sound : IsSound us) (valid : IsVal
   fixed_after d None h = h
   fixed_after d (Some x) h = h
 
-  was_fixed : (d : Place) → IsFixedSite (at_place (places vs) d) → IsFixedSite (at_place (places us) d)
+  pub was_fixed : (d : Place) → IsFixedSite (at_place (places vs) d) → IsFixedSite (at_place (places us) d)
   was_fixed d h = fixed_before d (at_place (places us) d) (subst IsFixedSite (at_as d) h)
 
   pub is_fixed : (d : Place) → IsFixedSite (at_place (places us) d) → IsFixedSite (at_place (places vs) d)

@@ -10,6 +10,7 @@ use Rattle.shape_core.specs.Shape.{Name}
 use Rattle.binding_model.specs.Facts.{facts}
 use Rattle.binding_model.specs.Local.{renaming}
 use Rattle.binding_model.specs.Renaming.{Renaming, name_of, words_of}
+use Rattle.project_reading.proofs.Cut.{all_cut}
 use Rattle.project_reading.proofs.Soundness.{read_is_sound}
 use Rattle.respelled_reading.proofs.Renamed.{changes_places}
 use Rattle.rename_model.specs.Renaming.{watch_of}
@@ -18,7 +19,6 @@ use Rattle.rename_laws.proofs.Accepted.{renamable, renamings_rewrite}
 use Rattle.rename_laws.proofs.Kept as kept
 use Rattle.rename_verify.proofs.Given.{keeps_fixed}
 use Rattle.rename_verify.proofs.Said.{valid_says_yes}
-use Rattle.accepted_renamings.proofs.Allowed.{cuts}
 use Rattle.verified_renamings.specs.Laws.{RenamingsAreVerified, RenamingsSayYes}
 use Rattle.verified_renamings.proofs.Bytes.{renamed_have_bytes}
 
@@ -51,7 +51,7 @@ renamings_are_verified files target new done p a =
     let r : Renaming = renaming (watch_of us a.binder a.foot new) in
     let sound : IsSound us = read_is_sound files us p a.accepts.reads in
     let gives = kept.gives files us a.binder a.foot new h in
-    let cut = cuts 0 files.entries a.accepts.reads.trees a.accepts.reads.read in
+    let cut = all_cut 0 files.entries a.accepts.reads.trees a.accepts.reads.read in
     let watched = (kept.both files us a.binder a.foot new h).0 in
     let whole : changed us r ≡ r = all_changed us new a.foot.decls (λ d c e. watched.other (e ∙ watched.named d c)) in
     let bytes =

@@ -1,10 +1,14 @@
-use Rattle.std.proofs.Common.{Err, IfOk, Ok, Result, inl}
+use Rattle.std.proofs.Common.{inl}
+use Rattle.explain.proofs.Answered.{if_ok_more}
 use Rattle.explain.proofs.renamed.explain_rename.Goals as goal
 
-if_ok_more : {A E : Type 0} (r : Result A E) (P Q : A → Type 0) → ((x : A) → P x → Q x) → IfOk r P → IfOk r Q
-if_ok_more (Ok x) P Q f h = f x h
-if_ok_more (Err e) P Q f h = h
+pub returns-in-Err : goal.returns-in-Err
+returns-in-Err c = if_ok_more c.refused_renaming.result _ _ (λ told says. says c.args.for_tools) c.refused_renaming.ensures
 
-pub returns-in-Ok : goal.returns-in-Ok
-returns-in-Ok c =
-    if_ok_more c.done_told.result _ _ (λ told h. inl (c.in-Ok.done, c.in-Ok.ensures.done, h)) c.done_told.ensures
+pub returns-in-Ok-rename_in : goal.returns-in-Ok-rename_in
+returns-in-Ok-rename_in c =
+    if_ok_more c.done_told.result _ _ (λ told says. inl (c.in-Ok-rename_in.done, c.in-Ok-rename_in.ensures.done, says)) c.done_told.ensures
+
+pub returns : goal.returns
+returns c =
+    if_ok_more c.refused_renaming-in-Err-rename_in.result _ _ (λ told says. says c.args.for_tools) c.refused_renaming-in-Err-rename_in.ensures

@@ -1,0 +1,10 @@
+use Rattle.std.proofs.Common.{sym, ◌∙◌}
+use Rattle.explain.proofs.Answered.{if_ok_more}
+use Rattle.explain.proofs.Answering.{footprint_refused}
+use Rattle.explain.proofs.shown.refused_footprint.Goals as goal
+
+pub returns : goal.returns
+returns c =
+    if_ok_more c.refusal_told.result _ _ (λ told says.
+    footprint_refused c.args.files.now c.args.target.now c.args.refusal.now told c.requires (sym c.is_memory.ensures ∙ c.if-is_memory.false) says)
+    c.refusal_told.ensures

@@ -1,0 +1,133 @@
+//! What is said of a token of a source.
+ghost use Rattle.std.specs.Prelude.{◌≡◌, ◌∷◌, [], IfOk, map};
+ghost use Rattle.ml_syntax.specs.Sound.{IsSound};
+ghost use Rattle.ml_syntax.specs.View.{view_project};
+ghost use Rattle.binding_model.specs.Facts.{facts as facts_of};
+ghost use Rattle.refusal_words.specs.Cut.{view_cut};
+ghost use Rattle.refusal_words.specs.Parts.{placed as placed_of};
+ghost use Rattle.refusal_words.specs.Stretches.{place_spot as place_spot_of};
+ghost use Rattle.explain.specs.Lines.{place_message as place_message_of, place_word};
+ghost use Rattle.messages.specs.declared.kinds.Kind.TheVariants as kind;
+ghost use Rattle.explain_at.specs.At.{SaysPlace, declaration_message as declaration_message_of, refused_at as refused_at_of, target_line as target_line_of, target_told as target_told_of, valueless as valueless_of, valueless_text as valueless_text_of};
+
+use explain::{Ending, Told};
+use messages::{Kind, Message, Severity, joined};
+use ml_syntax::Project;
+use refusal_words::{CutSource, place_spot, word_at};
+use report::number_text;
+use rotor_base::{Facts, Memory, Place, Row};
+use std::alloc::Global;
+use value_at::{ValueAt, value_at};
+
+/// What is said of a token: the target of the value that it declares or uses, or that there is none.
+pub(crate) fn place_told(
+    alloc: Global,
+    project: &Project,
+    facts: &Facts,
+    cuts: &[CutSource<'_>],
+    place: Place,
+) -> Result<Told, Memory>
+    requires sound { IsSound (view_project project.now) }
+    requires facts { facts.now ≡ facts_of (view_project project.now) }
+    ensures { IfOk result (SaysPlace (view_project project.now) (map view_cut cuts.now) place) }
+{
+    match value_at(alloc, project, facts, place)? {
+        ValueAt::Value(declared) => target_told(alloc, cuts, declared),
+        found => refused_at(alloc, valueless(alloc, cuts, place, found)?),
+    }
+}
+
+/// What is said of a place that has no target.
+pub(crate) fn refused_at(alloc: Global, message: Message) -> Result<Told, Memory>
+    ensures { IfOk result (λ told. told ≡ refused_at_of message) }
+{
+    let mut messages = Row::new(alloc);
+    messages.push(message)?;
+    Ok(Told {
+        ending: Ending::Refused,
+        messages,
+        text: Row::new(alloc),
+        places: Row::new(alloc),
+    })
+}
+
+/// The target of a declaration, on a line.
+fn target_told(alloc: Global, cuts: &[CutSource<'_>], declared: Place) -> Result<Told, Memory>
+    ensures { IfOk result (λ told. told ≡ target_told_of (map view_cut cuts.now) declared) }
+{
+    let text = target_line(alloc, cuts, declared)?;
+    let mut places = Row::new(alloc);
+    places.push(declaration_message(alloc, cuts, declared)?)?;
+    Ok(Told {
+        ending: Ending::Done,
+        messages: Row::new(alloc),
+        text,
+        places,
+    })
+}
+
+/// The line of the target of a declaration, `FILE#N`.
+fn target_line(alloc: Global, cuts: &[CutSource<'_>], declared: Place) -> Result<Row<u8>, Memory>
+    ensures { IfOk result (λ line. line ≡ target_line_of (map view_cut cuts.now) declared) }
+{
+    let spot = place_spot(alloc, cuts, declared)?;
+    let number = number_text(alloc, u64::from(declared.token))?;
+    joined(
+        alloc,
+        &[spot.file.as_slice(), b"#", number.as_slice(), b"\n"],
+    )
+}
+
+/// The place of a declaration, for tools.
+fn declaration_message(
+    alloc: Global,
+    cuts: &[CutSource<'_>],
+    declared: Place,
+) -> Result<Message, Memory>
+    ensures { IfOk result (λ message. message ≡ declaration_message_of (map view_cut cuts.now) declared) }
+{
+    let text = Row::from_vec(b"declaration".to_vec(alloc)?);
+    let spot = place_spot(alloc, cuts, declared)?;
+    Ok(Message {
+        severity: Severity::Info,
+        kind: Kind::Place,
+        text,
+        at: Some(spot),
+        notes: Row::new(alloc),
+        help: None,
+    })
+}
+
+/// The message of a token that declares and uses no value of the folder.
+fn valueless(
+    alloc: Global,
+    cuts: &[CutSource<'_>],
+    place: Place,
+    found: ValueAt,
+) -> Result<Message, Memory>
+    ensures { IfOk result (λ message. message ≡ valueless_of (map view_cut cuts.now) place found) }
+{
+    let text = valueless_text(alloc, word_at(cuts, place), found)?;
+    let spot = place_spot(alloc, cuts, place)?;
+    Ok(Message {
+        severity: Severity::Error,
+        kind: Kind::NoTarget,
+        text,
+        at: Some(spot),
+        notes: Row::new(alloc),
+        help: None,
+    })
+}
+
+/// The sentence of a token that declares and uses no value of the folder.
+fn valueless_text(alloc: Global, word: &[u8], found: ValueAt) -> Result<Row<u8>, Memory>
+    ensures { IfOk result (λ text. text ≡ valueless_text_of word.now found) }
+{
+    match found {
+        ValueAt::NoValue => Ok(Row::from_vec(b"no value stands here".to_vec(alloc)?)),
+        ValueAt::Outside | ValueAt::Blurred | ValueAt::Value(_) => joined(
+            alloc,
+            &[b"`", word, b"` is no value that this folder declares"],
+        ),
+    }
+}

@@ -1,0 +1,76 @@
+-- What is said of a step that is refused.
+use Rattle.std.proofs.Common.{◌≡◌, ℕ, ◌-◌, ◌<◌, ◌≤◌, List, [], ◌∷◌, Option, Some, None, Result, Ok, Err, IfOk, length, take, slice_get, map}
+use Rattle.std.proofs.Common.{false, inl, inr, ap, sym, subst, ◌∙◌, arith, ◌⊎◌}
+use Rattle.rotor_base.specs.Files.{FileSet}
+use Rattle.rotor_base.specs.declared.refusal.Refusal.{Refusal}
+use Rattle.rotor_base.specs.declared.source.SourceFile.{SourceFile}
+use Rattle.rename_batch.specs.declared.error.BatchError.{BatchError}
+use Rattle.rename_batch.specs.declared.error.BatchError.TheVariants.{At, Memory as NoMemory}
+use Rattle.rename_batch.specs.declared.step.Batched.{Batched}
+use Rattle.rename_batch.specs.declared.step.Step.{Step}
+use Rattle.rename_batch.specs.Batch.{Batches, IsFailedFor, Stops}
+use Rattle.messages.specs.declared.parts.Message.{Message}
+use Rattle.refusal_words.specs.Cut.{AreCuts, view_cut}
+use Rattle.refusal_words.specs.declared.cut.CutSource.{CutSource}
+use Rattle.refusal_words.specs.Refused.{project_message}
+use Rattle.explain.specs.Says.{SaysRename}
+use Rattle.explain.specs.declared.told.Told.{Told}
+use Rattle.explain_batch.specs.Steps.{IsStopped, SaysDone, SaysStep, SaysStepAfter, SaysSteps, batched, in_steps, stopped}
+
+-- the number of a step that is refused is that of a step
+pub within : (files : FileSet) (steps : List Step) (number : ℕ) (why : Refusal) → Stops files steps number why
+    → (0 < number) × (number ≤ length steps)
+within files [] number why h = absurd h
+within files (step ∷ steps) number why (inl h) = (omega (arith, h.0), omega (arith, h.0))
+within files (step ∷ steps) number why (inr h) =
+    let more = within h.0.files steps h.1 why h.4 in
+    (omega (arith, h.3), omega (arith, h.3, more.1))
+
+pub said_done : {E : Type 0} (files : FileSet) (steps : List Step) (done : Batched) (result : Result Told E) → Batches files steps (Ok done)
+    → IfOk result (SaysDone files steps done) → IfOk result (SaysSteps files steps)
+said_done files steps done (Err m) b h = tt
+said_done files steps done (Ok told) b h = batched done b h
+
+pub said_stop : {E : Type 0} (files : FileSet) (steps : List Step) (number : ℕ) (why : Refusal) (result : Result Told E)
+    → IfOk result (IsStopped files steps number why) → IfOk result (SaysSteps files steps)
+said_stop files steps number why (Err m) h = tt
+said_stop files steps number why (Ok told) h = stopped number why h
+
+pub stops_at : (files : FileSet) (steps : List Step) (number : ℕ) (why : Refusal) (error : BatchError) → error ≡ At number why
+    → IsFailedFor (λ e. Batches files steps (Err e)) error → Batches files steps (Err (At number why))
+stops_at files steps number why error e h = by (subst (IsFailedFor (λ f. Batches files steps (Err f))) e h) where
+  by : Batches files steps (Err (At number why)) ⊎ (At number why ≡ NoMemory) → Batches files steps (Err (At number why))
+  by (inl b) = b
+  by (inr m) = cc
+
+pub said_stopped : {E : Type 0} (files : FileSet) (steps : List Step) (number front : ℕ) (why : Refusal) (before : Batched) (step : Step)
+    (result : Result Told E) → front ≡ number - 1 → Batches files steps (Err (At number why)) → Batches files (take front steps) (Ok before)
+    → slice_get steps front ≡ Some step → IfOk result (SaysStepAfter before.files step number why)
+    → IfOk result (IsStopped files steps number why)
+said_stopped files steps number front why before step (Err m) e stops done here says = tt
+said_stopped files steps number front why before step (Ok told) e stops done here says =
+    record {
+      before = before;
+      step = step;
+      stops = stops;
+      done = subst (λ (n : ℕ). Batches files (take n steps) (Ok before)) e done;
+      here = subst (λ (n : ℕ). slice_get steps n ≡ Some step) e here;
+      says = says;
+    }
+
+-- what is said of a renaming is said of its step, if no message of a project is
+pub said_renaming : {E : Type 0} (files : FileSet) (step : Step) (number : ℕ) (why : Refusal) (sources : List SourceFile)
+    (cuts these : List CutSource) (found : Option Message) (name : List ℕ) (said : Told) (result : Result Told E) → sources ≡ files.entries
+    → AreCuts sources (map view_cut cuts) → these ≡ cuts → found ≡ project_message (map view_cut these) why → found ≡ None → name ≡ step.name
+    → SaysRename files step.target name false said → IfOk result (λ told. told ≡ in_steps number said)
+    → IfOk result (SaysStepAfter files step number why)
+said_renaming files step number why sources cuts these found name said (Err m) is cut same at none e says h = tt
+said_renaming files step number why sources cuts these found name said (Ok told) is cut same at none e says h =
+    let no_message : project_message (map view_cut cuts) why ≡ None
+    = ap (λ (l : List CutSource). project_message (map view_cut l) why) (sym same) ∙ sym at ∙ none in
+    let renamed : SaysStep None files step number told
+    = (said, subst (λ (n : List ℕ). SaysRename files step.target n false said) e says, h) in (
+      map view_cut cuts,
+      subst (λ (l : List SourceFile). AreCuts l (map view_cut cuts)) is cut,
+      subst (λ (m : Option Message). SaysStep m files step number told) (sym no_message) renamed,
+    )

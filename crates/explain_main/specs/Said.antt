@@ -1,0 +1,77 @@
+-- What the program says (own).
+use Rattle.std.specs.Prelude.{◌≡◌, ◌⊎◌, ℕ, List, Bool, Option, None, Some, Ok, Err, IfSome, String}
+use Rattle.std.specs.declared.alloc.Global.{Global}
+use Rattle.rotor_base.specs.Files.{FileSet}
+use Rattle.rotor_base.specs.declared.refusal.LoadError.{LoadError}
+use Rattle.tree_io.specs.Outside.{FileMap, Takes}
+use Rattle.project_load.specs.Load.{loaded}
+use Rattle.messages.specs.declared.parts.Message.{Message}
+use Rattle.report.specs.Pieces.{Word}
+use Rattle.explain.specs.declared.ending.Ending.TheVariants.{Project}
+use Rattle.explain.specs.declared.told.Told.{Told}
+use Rattle.explain.specs.Says.{SaysCheck, SaysFootprint, SaysRename}
+use Rattle.explain.specs.Told.{maybe_told, told_text}
+use Rattle.explain_at.specs.At.{SaysAt}
+use Rattle.explain_batch.specs.File.{SaysBatch, batch_in}
+use Rattle.explain_recover.specs.Recovery.{SaysRecovery}
+use Rattle.explain_verify.specs.Verified.{SaysVerify}
+use Rattle.explain_main.specs.declared.code.ExitStatus.{ExitStatus}
+use Rattle.explain_main.specs.declared.code.ExitStatus.TheVariants as status
+use Rattle.explain_main.specs.declared.words.Asked.{Asked}
+use Rattle.explain_main.specs.declared.words.Question.{Question}
+use Rattle.explain_main.specs.declared.words.Question.TheVariants as question
+use Rattle.explain_main.specs.declared.words.FilesQuestion.{FilesQuestion}
+use Rattle.explain_main.specs.declared.words.FilesQuestion.TheVariants as over
+use Rattle.explain_main.specs.Code.{status_of}
+use Rattle.explain_main.specs.Words.{asked_in}
+
+-- what is said of a question over the files of a project, for people or for tools
+abbrev pub SaysOver : FilesQuestion → Bool → FileSet → Told → Type 0
+SaysOver over.Check for_tools files told = SaysCheck files told
+SaysOver (over.Footprint target) for_tools files told = SaysFootprint files target told
+SaysOver (over.Rename target name) for_tools files told = SaysRename files target name for_tools told
+SaysOver (over.At word) for_tools files told = SaysAt files word told
+
+-- what is said of the batch in a file of a folder, over the files of a project
+abbrev pub SaysBatchIn : Option FileMap → Word → FileSet → Told → Type 0
+SaysBatchIn content file files told = IfSome content (λ held. SaysBatch file (batch_in held file) files told)
+
+-- what is said of a folder that does not load: a message, or none
+abbrev pub IsUnloaded : Told → Type 0
+IsUnloaded told = (message : Option Message) × (told ≡ maybe_told Project message)
+
+-- what is said over a folder: of the files that it loads as; or of the folder, if it does not load
+abbrev pub SaysFiles : Option FileMap → (FileSet → Told → Type 0) → Told → Type 0
+SaysFiles content says told =
+    ((files : FileSet) × IfSome content (λ held. loaded held ≡ Ok files) × says files told)
+    ⊎ ((why : LoadError) × IfSome content (λ held. loaded held ≡ Err why) × IsUnloaded told)
+
+-- what is said of a question: `verify` and `recover` load no folder
+abbrev pub SaysTo : Option FileMap → Question → Bool → Told → Type 0
+SaysTo content (question.Files asked) for_tools told = SaysFiles content (SaysOver asked for_tools) told
+SaysTo content (question.Verify old new) for_tools told = IfSome content (λ held. SaysVerify old new held told)
+SaysTo content (question.Batch file) for_tools told = SaysFiles content (SaysBatchIn content file) told
+SaysTo content question.Recover for_tools told = IfSome content (λ held. SaysRecovery held told)
+
+abbrev pub SaysOf : Option FileMap → Asked → Told → Type 0
+SaysOf content asked told = SaysTo content asked.question asked.as_json told
+
+-- the output has taken what is said, and the program ends so
+pub record IsPrinted (as_json : Bool) (told : Told) (before now : Option (List ℕ)) (ended : ExitStatus) : Type 0 where
+  pub status : ended ≡ status_of told.ending
+  pub text : Takes (told_text as_json told) before now
+
+-- the folder or the output failed, or there was no memory
+abbrev pub IsStopped : ExitStatus → Type 0
+IsStopped ended = (ended ≡ status.TreeFault) ⊎ ((ended ≡ status.SinkFault) ⊎ (ended ≡ status.Memory))
+
+-- what is asked is answered: what is said of it is printed; or the program stopped
+abbrev pub IsAnswered : Option FileMap → Asked → Option (List ℕ) → Option (List ℕ) → ExitStatus → Type 0
+IsAnswered content asked before now ended =
+    ((told : Told) × SaysOf content asked told × IsPrinted asked.as_json told before now ended) ⊎ IsStopped ended
+
+-- the words are answered; or they have none of the forms
+abbrev pub IsSaid : List (String Global) → Option FileMap → Option (List ℕ) → Option (List ℕ) → ExitStatus → Type 0
+IsSaid words content before now ended =
+    ((asked : Asked) × (asked_in words ≡ Some asked) × IsAnswered content asked before now ended)
+    ⊎ (((asked_in words ≡ None) × (ended ≡ status.Usage)) ⊎ IsStopped ended)

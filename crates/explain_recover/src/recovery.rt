@@ -1,0 +1,99 @@
+//! What is said of a recovery.
+ghost use Rattle.std.specs.Prelude.{◌≡◌, ◌++◌, ◌∷◌, [], IfOk, IfSome, List, OnOk, flat_map};
+ghost use Rattle.tree_io.specs.Outside.{HasCause};
+ghost use Rattle.refusal_words.specs.Commands.{bad_plan as bad_plan_of};
+ghost use Rattle.rotor_base.specs.declared.source.SourceFile.{SourceFile};
+ghost use Rattle.apply_journal.specs.Recovered.{plan_writes};
+ghost use Rattle.explain.specs.Told.{bare_told as bare_told_of, maybe_told};
+ghost use Rattle.explain_recover.specs.Recovery.{SaysRecovery, name_line, recovery_text as recovery_text_of};
+
+use apply_journal::{RecoverError, read_recovery};
+use explain::{Ending, Told, unloaded_told};
+use messages::{counted, joined};
+use refusal_words::bad_plan;
+use rotor_base::{Memory, Row, SourceFile};
+use std::alloc::Global;
+use tree_io::{Tree, TreeError};
+
+/// What is said of a recovery of a folder: the files that it would write, or that there is none to write; or, if the gate
+/// is open and there is no plan, the message of that. It writes nothing.
+///
+/// # Errors
+///
+/// `Failed` after a counted fault, and `Memory`.
+pub fn explain_recover<T: Tree>(alloc: Global, tree: &mut T) -> Result<Told, TreeError>
+    ensures said { IfOk result (λ told. IfSome (T.content tree.old) (λ held. SaysRecovery held told)) }
+    ensures content { T.content tree.new ≡ T.content tree.old }
+    ensures cause { HasCause (T.faults tree.old) (T.faults tree.new) result }
+{
+    match read_recovery(alloc, tree) {
+        Ok(None) => Ok(bare_told(alloc, Row::from_vec(b"nothing to recover\n".to_vec(alloc)?))),
+        Ok(Some(writes)) => Ok(recovered_told(alloc, &writes)?),
+        Err(RecoverError::BadPlan) => Ok(lost_told(alloc)?),
+        Err(RecoverError::Read) => Err(TreeError::Failed),
+        Err(RecoverError::Write | RecoverError::Memory) => Err(TreeError::Memory),
+    }
+}
+
+/// What is said of an open gate without a plan.
+fn lost_told(alloc: Global) -> Result<Told, Memory>
+    ensures { IfOk result (λ told. told ≡ maybe_told Ending.Project (Some bad_plan_of)) }
+{
+    unloaded_told(alloc, Some(bad_plan(alloc)?))
+}
+
+/// A text for people alone, of what would be done.
+fn bare_told(alloc: Global, text: Row<u8>) -> Told
+    ensures { result ≡ bare_told_of Ending.Done text }
+{
+    Told {
+        ending: Ending::Done,
+        messages: Row::new(alloc),
+        text,
+        places: Row::new(alloc),
+    }
+}
+
+/// What is said of a recovery of these writes, the last of which closes the gate.
+fn recovered_told(alloc: Global, writes: &[SourceFile]) -> Result<Told, Memory>
+    ensures { IfOk result (λ told. (files : List SourceFile) → writes.now ≡ plan_writes files → told ≡ bare_told_of Ending.Done (recovery_text_of files)) }
+{
+    let files = without_last(writes);
+    let text = recovery_text(alloc, files)?;
+    Ok(bare_told(alloc, text))
+}
+
+/// All files but the last.
+fn without_last(files: &[SourceFile]) -> &[SourceFile]
+    ensures { (front : List SourceFile) → (last : SourceFile) → files.now ≡ front ++ last ∷ [] → result.now ≡ front }
+{
+    match files {
+        [front @ .., _] => front,
+        [] => files,
+    }
+}
+
+/// The number of files, and the name of each.
+fn recovery_text(alloc: Global, files: &[SourceFile]) -> Result<Row<u8>, Memory>
+    ensures { IfOk result (λ text. text ≡ recovery_text_of files.now) }
+{
+    let count = counted(alloc, files.len() as u64, "file")?;
+    let head = joined(
+        alloc,
+        &[b"`rotor recover` would write ", count.as_slice(), b"\n"],
+    )?;
+    let mut text = head.into_vec();
+    push_names(&mut text, files)?;
+    Ok(Row::from_vec(text))
+}
+
+/// Adds the names of files, each on a line.
+fn push_names(text: &mut Vec<u8>, files: &[SourceFile]) -> Result<(), Memory>
+    ensures { OnOk result (text.new.items ≡ text.old.items ++ flat_map name_line files.now) }
+{
+    for file in files {
+        text.extend_from_slice(file.name.as_str().as_bytes())?;
+        text.push(b'\n')?;
+    }
+    Ok(())
+}

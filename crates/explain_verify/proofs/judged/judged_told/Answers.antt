@@ -1,0 +1,15 @@
+use Rattle.explain_verify.proofs.Judging.{judged_ok, judged_err}
+use Rattle.explain_verify.proofs.judged.judged_told.Goals as goal
+
+pub returns-in-Ok : goal.returns-in-Ok
+returns-in-Ok c =
+    judged_ok c.args.old.now c.args.new.now c.entries.result.now c.entries-2.result.now c.in_ok-olds.olds.items c.in_ok-news.news.items
+    c.entries.ensures.entries c.entries-2.ensures.entries c.in_ok-olds.ensures c.in_ok-news.ensures c.deref.result.now c.deref-in-Ok.result.now
+    c.in-Ok.verdict c.verdict_told.result c.deref.ensures.value c.deref-in-Ok.ensures.value c.in-Ok.ensures.verdict c.verdict_told.ensures
+
+pub returns : goal.returns
+returns c =
+    judged_err c.args.old.now c.args.new.now c.entries.result.now c.entries-2.result.now c.in_ok-olds.olds.items c.in_ok-news.news.items
+    c.entries.ensures.entries c.entries-2.ensures.entries c.in_ok-olds.ensures c.in_ok-news.ensures c.deref-in-Err.result.now c.in-Err.refusal
+    c.verify.result c.refused_told.result c.deref-in-Err.ensures.value c.in-Err.is c.verify.ensures.refused c.refused_told.ensures.other
+    c.refused_told.ensures.told

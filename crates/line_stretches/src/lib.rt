@@ -1,0 +1,6 @@
+//! Where a line of a file begins and ends.
+#![tactic(auto)]
+
+mod line;
+
+pub use line::line_stretch;

@@ -1,0 +1,4 @@
+pub mod Texts
+pub mod Does
+pub mod Follows
+pub mod Serves

@@ -1,0 +1,9 @@
+pub mod Firsts
+pub mod OwnWords
+pub mod OwnFiles
+pub mod OwnNames
+pub mod Same
+pub mod Turned
+pub mod WayBack
+pub mod Itself
+pub mod Verified
