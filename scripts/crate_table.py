@@ -19,8 +19,8 @@ LIST_MARKS = ("<!-- crates: written by scripts/crate_table.py -->\n", "<!-- end 
 TABLE_MARKS = ("<!-- laws: written by scripts/crate_table.py -->\n", "<!-- end of laws -->\n")
 # The crates whose laws the table has, in its order.
 LAW_CRATES = [
-    "rename_laws", "answer_laws", "accepted_renamings", "verified_renamings", "verified_respellings", "batch_laws", "valid_renamings",
-    "ladder_laws", "facts_laws", "run_laws",
+    "rename_laws", "reply_laws", "answer_laws", "command_answers", "accepted_renamings", "verified_renamings",
+    "verified_respellings", "verified_refusals", "unused_names", "token_laws", "batch_laws", "facts_laws", "run_laws",
 ]
 
 

@@ -29,15 +29,20 @@ use Rattle.rename_model.specs.Renaming.{HasNoTarget, refusals_of_binder, renamed
 use Rattle.rename_model.specs.Report.{hit_files, shown_of}
 use Rattle.rename_model.specs.Target.{Aims}
 use Rattle.rename_files.specs.Answer.{Accepts, Checks, Renames, Shows}
+use Rattle.decided_readings.specs.Laws.{HasReading}
+use Rattle.decided_readings.proofs.Files.{files_are_decided}
 use Rattle.answer_laws.specs.Laws.{ChecksAreAnswered, FootprintsAreAnswered, RenamingsAreAnswered}
 use Rattle.answer_laws.proofs.Targets.{IsFound, target_decided}
 
 pub checks_are_answered : ChecksAreAnswered
-checks_are_answered files (inr unread) = (Err unread.0, inl unread.1)
-checks_are_answered files (inl read) = by (project_decided read.0) where
-  by : IsDecided (refusals_of_project read.0) → (answer : Result Counts Refusal) × Checks files answer
-  by (inl met) = (Err met.0, inr (read.0, read.1, met.1))
-  by (inr none) = (Ok (counts_of files.entries read.0), (read.0, record { reads = read.1; none = none }, refl))
+checks_are_answered files = by (files_are_decided files) where
+  in_project : (us : List UnitTree) → Reads files us → IsDecided (refusals_of_project us) → (answer : Result Counts Refusal) × Checks files answer
+  in_project us reads (inl met) = (Err met.0, inr (us, reads, met.1))
+  in_project us reads (inr none) = (Ok (counts_of files.entries us), (us, record { reads = reads; none = none }, refl))
+
+  by : HasReading files → (answer : Result Counts Refusal) × Checks files answer
+  by (inr unread) = (Err unread.0, inl unread.1)
+  by (inl read) = in_project read.0 read.1 (project_decided read.0)
 
 module _ (files : FileSet) (us : List UnitTree) (reads : Reads files us) (target : Target) where
   cuts : HaveCuts files.entries
@@ -121,9 +126,13 @@ module _ (files : FileSet) (us : List UnitTree) (reads : Reads files us) (target
     by (inr none) = renamed new (record { reads = reads; none = none }) (target_decided files us target cuts)
 
 pub footprints_are_answered : FootprintsAreAnswered
-footprints_are_answered files target (inr unread) = (Err unread.0, inl (inl unread.1))
-footprints_are_answered files target (inl read) = footprint_answered files read.0 read.1 target
+footprints_are_answered files target = by (files_are_decided files) where
+  by : HasReading files → (answer : Result FootReport Refusal) × Shows files target answer
+  by (inr unread) = (Err unread.0, inl (inl unread.1))
+  by (inl read) = footprint_answered files read.0 read.1 target
 
 pub renamings_are_answered : RenamingsAreAnswered
-renamings_are_answered files target new (inr unread) = (Err unread.0, inl (inl unread.1))
-renamings_are_answered files target new (inl read) = renaming_answered files read.0 read.1 target new
+renamings_are_answered files target new = by (files_are_decided files) where
+  by : HasReading files → (answer : Result Renamed Refusal) × Renames files target new answer
+  by (inr unread) = (Err unread.0, inl (inl unread.1))
+  by (inl read) = renaming_answered files read.0 read.1 target new

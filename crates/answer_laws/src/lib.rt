@@ -3,6 +3,4 @@
 
 mod laws;
 
-pub use laws::{
-    checks_are_answered, files_are_cut, footprints_are_answered, renamings_are_answered,
-};
+pub use laws::{checks_are_answered, footprints_are_answered, renamings_are_answered};

@@ -18,7 +18,7 @@ use Rattle.lexeme_laws.specs.Trivia.{AttributeEnds, CommentEnds, TriviaBegins, T
 use Rattle.lexeme_laws.specs.Trivia as ends
 use Rattle.lexeme_laws.proofs.Taken.{lexemes_begin}
 use Rattle.lexeme_laws.proofs.TriviaSound.{trivia_begin}
-use Rattle.answer_laws.specs.Laws.{FilesAreCut}
+use Rattle.decided_readings.specs.Laws.{FilesAreCut}
 
 -- ---- a lexeme has a byte
 
