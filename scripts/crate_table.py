@@ -20,7 +20,7 @@ TABLE_MARKS = ("<!-- laws: written by scripts/crate_table.py -->\n", "<!-- end o
 # The crates whose laws the table has, in its order.
 LAW_CRATES = [
     "rename_laws", "answer_laws", "accepted_renamings", "verified_renamings", "verified_respellings", "batch_laws", "valid_renamings",
-    "ladder_laws", "facts_laws", "run_laws",
+    "ladder_laws", "unused_names", "facts_laws", "run_laws",
 ]
 
 
