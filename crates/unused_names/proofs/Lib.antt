@@ -1,0 +1,5 @@
+pub mod Fresh
+pub mod Refs
+pub mod Links
+pub mod Trees
+pub mod Faults
