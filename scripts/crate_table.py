@@ -14,6 +14,8 @@ import sys
 
 # The most laws of a crate that a line of the list names.
 MOST_LAWS = 3
+# Laws of these crates that only other laws rest on: the table has no row for them.
+LESSER_LAWS = {"changes_are_listed", "kept_runs_go_on", "undos_have_places", "good_repeats_none", "unused_names_are_apart"}
 LIST_PAGE, TABLE_PAGE = "docs/CRATES.md", "docs/PROVED.md"
 LIST_MARKS = ("<!-- crates: written by scripts/crate_table.py -->\n", "<!-- end of crates -->\n")
 TABLE_MARKS = ("<!-- laws: written by scripts/crate_table.py -->\n", "<!-- end of laws -->\n")
@@ -70,6 +72,8 @@ def law_table():
         if not os.path.exists(path):
             continue
         for comment, name in re.findall(r"((?:^///.*\n)+)pub fn (\w+)", read(path), re.M):
+            if name in LESSER_LAWS:
+                continue
             said = " ".join(it[3:].strip() for it in comment.splitlines())
             rows.append(f"| `{name}` | {crate} | {said} |")
     return "\n".join(rows) + "\n"

@@ -2,8 +2,8 @@
 
 ghost use Rattle.unused_names.specs.Laws.{NothingHiddenStays, UnusedTakesNothing};
 
-/// If a footprint takes a name that no value and no use has, the renamed project has no Clash and no Capture, and a
-/// Mislink only of an item that was hidden. If nothing is hidden, it has the facts of the old one.
+/// If a footprint takes a name that nothing has, the renamed project has no fault but a Mislink of a hidden item. If
+/// nothing is hidden, it has the old facts.
 pub fn unused_names_are_apart()
     ensures fault { UnusedTakesNothing }
     ensures facts { NothingHiddenStays }

@@ -2,9 +2,8 @@
 
 ghost use Rattle.unused_renamings.specs.Laws.{NothingIsHidden, UnusedIsAccepted, UnusedIsRefusedSo};
 
-/// In a project that `check` accepts, a renaming to a name that no value and no use has is no Clash and no Capture, and a
-/// Mislink only of an item that was hidden. If no item of a signature or target is hidden, it is refused only for its
-/// target, its new name or the size of a new source, and accepted if none of this holds.
+/// In an accepted project, a renaming to a name that nothing has is no Clash, no Capture, and a Mislink only of a hidden
+/// item. If nothing is hidden, it is refused only for its target, its name or a size, and else accepted.
 pub fn unused_names_are_free()
     ensures refused { UnusedIsRefusedSo }
     ensures shown { NothingIsHidden }

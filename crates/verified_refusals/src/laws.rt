@@ -2,8 +2,8 @@
 
 ghost use Rattle.verified_refusals.specs.Laws.{FaultsAreVerdicts, FaultsAreTheOnlyVerdicts, FaultsHaveFiles};
 
-/// A Clash, Capture or Mislink that `rename` refuses is the verdict of `verify` on the files in which the footprint and
-/// the references to it have the new name, and the only one. There are such files.
+/// A Clash, Capture or Mislink of `rename` is the one verdict of `verify` on the files that the renaming would make.
+/// There are such files.
 pub fn faults_are_verdicts()
     ensures verdict { FaultsAreVerdicts }
     ensures only { FaultsAreTheOnlyVerdicts }
