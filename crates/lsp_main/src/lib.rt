@@ -1,0 +1,8 @@
+//! The program `rotor-lsp` over any answers, any input and any output: it serves an editor, and writes no file.
+#![tactic(auto)]
+
+mod ended;
+mod served;
+
+pub use ended::Ended;
+pub use served::serve_words;
