@@ -1,9 +1,9 @@
 -- The nesting is over the limit after a first token, or after none.
-use Rattle.std.proofs.Common.{◌≡◌, ◌⊎◌, inl, inr, ℕ, zero, suc, ◌+◌, ◌<◌, ◌≤◌, List, Option, Some, None, length, refl, ap, subst, arith}
+use Rattle.std.proofs.Common.{◌≡◌, ◌⊎◌, inl, inr, ℕ, zero, suc, ◌+◌, ◌<◌, ◌≤◌, List, Option, Some, None, length, subst, arith}
 use Rattle.std.proofs.lemmas.Bool.{cases_order}
 use Rattle.rotor_base.specs.Limits.{max_nesting}
 use Rattle.rotor_base.specs.declared.token.Token.{Token}
-use Rattle.parse_base.specs.Nesting.{DeepIs, IsFirstDeep, nesting}
+use Rattle.parse_base.specs.Nesting.{DeepIs, nesting}
 
 -- the nesting is not over the limit after fewer tokens than these
 abbrev IsShallow : List Token → ℕ → Type 0

@@ -6,7 +6,6 @@ use Rattle.rotor_base.specs.declared.refusal.Refusal.TheVariants as refusal
 use Rattle.rotor_base.specs.Files.{FileSet}
 use Rattle.ml_syntax.specs.Tree.{FileTree, UnitTree}
 use Rattle.unit_order.specs.Order.{IsStuck, order_of, takes_all}
-use Rattle.project_reading.specs.Reads.{Reads, Unread}
 use Rattle.project_reading.specs.Sources.{FirstUnread, ReadAll}
 use Rattle.project_reading.specs.Units.{in_order, units_of}
 use Rattle.project_reading.proofs.Linked.{units_apart}

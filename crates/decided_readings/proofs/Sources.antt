@@ -55,4 +55,4 @@ all_decided number (file ∷ files) = by (source_decided number file) (all_decid
       → ((trees : List FileTree) × ReadAll number (file ∷ files) trees) ⊎ ((why : Refusal) × FirstUnread number (file ∷ files) why)
   by (inr unread) rest = inr (unread.0, inl unread.1)
   by (inl tree) (inl trees) = inl (tree.0 ∷ trees.0, (tree.1, trees.1))
-  by (inl tree) (inr unread) = inr (unread.0, inr (tree.0, (tree.1, unread.1)))
+  by (inl tree) (inr unread) = inr (unread.0, inr (tree.0, tree.1, unread.1))
