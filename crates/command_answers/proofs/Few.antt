@@ -1,5 +1,5 @@
 -- A project that the files of a folder are read as has few binders.
-use Rattle.std.proofs.Common.{◌≡◌, ◌≢◌, ◌⊎◌, inl, inr, ℕ, suc, ◌+◌, ◌*◌, ◌<◌, ◌≤◌, List, [], ◌∷◌, ◌++◌, All, Bool, true, false, ◌||◌, not, Option, Some, None}
+use Rattle.std.proofs.Common.{◌≡◌, ◌≢◌, ◌⊎◌, inl, inr, ℕ, suc, ◌+◌, ◌*◌, ◌<◌, ◌≤◌, List, [], ◌∷◌, ◌++◌, All, Bool, true, false, ◌||◌, if◌then◌else◌, not, Option, Some, None}
 use Rattle.std.proofs.Common.{Contains, filter, map, length, refl, sym, ap, subst, ◌∙◌, length-append, arith}
 use Rattle.std.proofs.Math.Dec.{eqb}
 use Rattle.std.proofs.lemmas.Bool.{eqb-true, false_from_ne_true}
@@ -94,7 +94,7 @@ as_many_placed file (s ∷ ss) = ap suc (as_many_placed file ss)
 few_sites : (t : FileTree) → IsSoundFile t → length (sites t) ≤ 1048576
 few_sites t h =
     let stand = few_from (words t) 0 (sites t) (omega arith) (sites_stand t h.0) in
-    omega (arith, stand, h.1.1)
+    omega (arith, stand, h.2)
 
 few_in_body : (part : Option FileTree) → IsBodyPart part → length (file_places part) ≤ length (part_files part) * 1048576
 few_in_body None h = omega arith
@@ -113,7 +113,7 @@ few_places (u ∷ us) h =
     omega (
       arith,
       few_in_body u.body sound.0,
-      few_in_face u.face sound.1.0,
+      few_in_face u.face sound.1,
       few_places us (All-tail IsSoundUnit u us h),
       length-append (file_places u.body) (file_places u.face ++ places us),
       length-append (file_places u.face) (places us),
@@ -156,7 +156,7 @@ module _ (files : FileSet) (us : List UnitTree) (project : IsProject files) (rea
   unfolding IsBelow
   few_parts =
       let sound = read_is_sound files us project reads in
-      length-le_from_distinct_below (unit_files us) (length files.entries) (distinct_is (unit_files us) sound.1.0)
+      length-le_from_distinct_below (unit_files us) (length files.entries) (distinct_is (unit_files us) sound.1)
       (among_below (length files.entries) (unit_files us) (all_below us (λ u c. c)))
 
   -- 2,000 files of 1,048,576 words at most

@@ -11,6 +11,7 @@ use Rattle.ml_syntax.specs.Places.{Site}
 use Rattle.ml_syntax.specs.Tree.{UnitTree}
 use Rattle.binding_model.specs.Facts.{facts}
 use Rattle.binding_model.specs.Renaming.{IsBlur, IsFixedSite, IsFree, HasBehind, at_place, places}
+use Rattle.capture_check.proofs.Before.{not_before}
 use Rattle.facts_laws.proofs.Sorted.{before_all}
 use Rattle.ladder_laws.proofs.Least.{Decides, Ranked, Some_of, before, behind, decides_as, decides_one, decides_some, same}
 use Rattle.ladder_laws.proofs.Repeats.{contained_some, place_rank, some_contained}
@@ -23,15 +24,12 @@ Known A = A ⊎ (A → ⊥)
 
 -- ---- places, sites and goals
 
-never_before : (p : Place) → IsBefore p p → ⊥
-never_before p h = cc
-
 place_known : (p q : Place) → Known (p ≡ q)
 place_known p q = by (place_rank p q) where
   by : Ranked (IsBefore p q) (p ≡ q) (IsBefore q p) → Known (p ≡ q)
-  by (before h) = inr (λ e. never_before q (subst (λ z. IsBefore z q) e h))
+  by (before h) = inr (λ e. not_before q (subst (λ z. IsBefore z q) e h))
   by (same e) = inl e
-  by (behind h) = inr (λ e. never_before q (subst (λ z. IsBefore q z) e h))
+  by (behind h) = inr (λ e. not_before q (subst (λ z. IsBefore q z) e h))
 
 fixed_known : (o : Option Site) → Known (IsFixedSite o)
 fixed_known None = inr (λ k. k)

@@ -133,7 +133,7 @@ module _ (old new : FileSet) (p : IsProject old) (us : List UnitTree) (accepts :
       reads : Reads new vs
       reads = still old new us lists respelling
 
-      faulted : (o : Option fault.Fault.Fault) → IsFirstFault (name_of vs) (facts us) (facts vs) o → HasVerdict old new us
+      faulted : (o : Option fault.Fault) → IsFirstFault (name_of vs) (facts us) (facts vs) o → HasVerdict old new us
       faulted (Some f) h =
           inl (why.Broken f, then_broken us old new lists cut no_other (no_bytes us r old new bytes) (no_fixed us r old new free) f (vs, reads, h))
       faulted None h = inr (record {
@@ -176,7 +176,7 @@ module _ (old new : FileSet) (p : IsProject old) (us : List UnitTree) (accepts :
 -- ---- the answer
 
 -- a vector of these elements
-vector : (list : List Changed) → length list ≤ 2097152000 → Vec Changed
+abbrev vector : (list : List Changed) → length list ≤ 2097152000 → Vec Changed
 vector list few = record {
   ptr = null_ptr;
   len = length list;
@@ -187,28 +187,29 @@ vector list few = record {
   small = omega (arith, few);
 }
 
+-- there is an answer
+abbrev HasAnswer : FileSet → FileSet → Type 0
+HasAnswer old new = (answer : Result Verdict Refusal) × Verdicts old new answer
+
 pub verdicts_are_answered : VerdictsAreAnswered
 verdicts_are_answered old new p q = by (files_are_decided old) where
-  abbrev IsAnswered : Type 0
-  IsAnswered = (answer : Result Verdict Refusal) × Verdicts old new answer
-
-  said : (us : List UnitTree) → Accepts old us → HasVerdict old new us → IsAnswered
+  said : (us : List UnitTree) → Accepts old us → HasVerdict old new us → HasAnswer old new
   said us accepts (inl reason) = (Ok (No reason.0), (us, accepts, reason.1))
   said us accepts (inr h) =
       let lists = h.changes.0 in
       let few = few_changes old us p accepts.reads lists in
       (Ok (Yes (vector (changes lists (binders_of us)) few)), (us, accepts, (h.none, (lists, h.changes.1, refl))))
 
-  accepted : (us : List UnitTree) → Accepts old us → IsCompared old new → IsAnswered
+  accepted : (us : List UnitTree) → Accepts old us → IsCompared old new → HasAnswer old new
   accepted us accepts (inl other) = said us accepts (inl (why.Sources other.0, inl other.1))
   accepted us accepts (inr same) =
       let lexemes = lexemes_exist new.entries in
       said us accepts (judged old new p us accepts same.0 same.1 lexemes.0 lexemes.1)
 
-  read : (us : List UnitTree) → Reads old us → IsDecided (refusals_of_project us) → IsAnswered
+  read : (us : List UnitTree) → Reads old us → IsDecided (refusals_of_project us) → HasAnswer old new
   read us reads (inl met) = (Err met.0, inr (us, reads, met.1))
   read us reads (inr none) = accepted us (record { reads = reads; none = none }) (compared old new p q)
 
-  by : HasReading old → IsAnswered
+  by : HasReading old → HasAnswer old new
   by (inr unread) = (Err unread.0, inl unread.1)
   by (inl reading) = read reading.0 reading.1 (project_decided reading.0)
