@@ -1,4 +1,0 @@
-pub mod Late
-pub mod Refused
-pub mod Suggested
-pub mod Verdicts
