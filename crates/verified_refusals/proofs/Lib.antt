@@ -1,0 +1,4 @@
+pub mod Late
+pub mod Refused
+pub mod Suggested
+pub mod Verdicts
