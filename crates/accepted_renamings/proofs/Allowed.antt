@@ -29,8 +29,9 @@ use Rattle.dependency_kernel.specs.Foot.{IsFoot, IsFixedBy, IsLeastFixed}
 use Rattle.dependency_kernel.specs.Foot as links
 use Rattle.dependency_kernel.proofs.Laws.{has_one_name}
 use Rattle.binding_model.specs.Facts.{facts}
-use Rattle.binding_model.specs.Least.{IsBinder}
-use Rattle.binding_model.specs.Local.{renaming, IsWatched}
+use Rattle.binding_model.specs.Renaming.{IsBinder}
+use Rattle.binding_model.specs.Local.{IsWatched}
+use Rattle.binding_model.specs.Renaming.{renaming}
 use Rattle.binding_model.specs.Renaming.{places, at_place, name_of, in_file, Changes, IsFixedSite, IsFree as MayChange}
 use Rattle.binding_model.specs.Steps.{a_ref}
 use Rattle.binding_model.proofs.Sounds.{links_join_one_name, same_self}

@@ -11,7 +11,7 @@ use Rattle.ml_syntax.specs.Sound.{IsSound}
 use Rattle.ml_syntax.specs.Tree.{UnitTree}
 use Rattle.shape_core.specs.Shape.{Name, or_else}
 use Rattle.binding_model.specs.Facts.{facts}
-use Rattle.binding_model.specs.Local.{renaming}
+use Rattle.binding_model.specs.Renaming.{renaming}
 use Rattle.binding_model.specs.Renaming.{Renaming, places, at_place, in_file, words_of, respell, IsFixedSite, IsValid}
 use Rattle.project_reading.specs.Reads.{Reads}
 use Rattle.project_reading.proofs.Cut.{all_cut}

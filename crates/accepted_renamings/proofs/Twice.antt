@@ -23,8 +23,8 @@ use Rattle.shape_core.specs.Shape.{Name, or_value, some_if}
 use Rattle.dependency_kernel.specs.Foot.{IsFoot}
 use Rattle.dependency_kernel.proofs.Only.{is_the_only}
 use Rattle.binding_model.specs.Facts.{facts, facts_of}
-use Rattle.binding_model.specs.Least.{IsBinder}
-use Rattle.binding_model.specs.Local.{renaming}
+use Rattle.binding_model.specs.Renaming.{IsBinder}
+use Rattle.binding_model.specs.Renaming.{renaming}
 use Rattle.binding_model.specs.Renaming.{Renaming, at_place, goal_at, in_file, name_of, new_word, words_of, respell, Changes, IsFree, IsValid}
 use Rattle.binding_model.specs.Steps.{spell_steps}
 use Rattle.binding_model.specs.Walk.{steps}

@@ -7,7 +7,7 @@ use Rattle.rotor_base.specs.declared.target.Target.{Target}
 use Rattle.rotor_base.specs.Files.{FileSet, IsProject}
 use Rattle.ml_syntax.specs.Tree.{UnitTree}
 use Rattle.shape_core.specs.Shape.{Name}
-use Rattle.binding_model.specs.Local.{renaming}
+use Rattle.binding_model.specs.Renaming.{renaming}
 use Rattle.binding_model.specs.Renaming.{Renaming, IsValid, name_of}
 use Rattle.capture_check.specs.Fault.{IsMet}
 use Rattle.project_reading.specs.Reads.{Reads}

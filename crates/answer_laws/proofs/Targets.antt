@@ -10,7 +10,7 @@ use Rattle.ml_lexer.proofs.OneCutting.{one_lexed}
 use Rattle.ml_syntax.specs.Places.{Site}
 use Rattle.ml_syntax.specs.Tree.{UnitTree}
 use Rattle.shape_core.specs.Shape.{Name, none}
-use Rattle.binding_model.specs.Least.{IsBinder}
+use Rattle.binding_model.specs.Renaming.{IsBinder}
 use Rattle.binding_model.specs.Renaming.{at_place, places}
 use Rattle.binding_model.specs.Scopes.{after_units}
 use Rattle.project_reading.proofs.Cut.{HaveCuts, cut_at}

@@ -9,7 +9,7 @@ use Rattle.ml_syntax.specs.Words.{expr_words}
 use Rattle.ml_syntax.specs.Sound.{AreNumbered, IsWithinFile}
 use Rattle.ml_syntax.proofs.RespelledNames.{lexemes_are_numbered}
 use Rattle.ml_syntax.proofs.SoundFiles.{parts_are_numbered}
-use Rattle.parse_base.specs.Gives.{from}
+use Rattle.parse_base.specs.Tokens.{from}
 use Rattle.parse_base.proofs.Ends.{from_length}
 use Rattle.parse_base.proofs.Places.{from_drop}
 use Rattle.project_reading.proofs.Tokens.{toks_same}

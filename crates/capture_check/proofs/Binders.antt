@@ -16,7 +16,7 @@ use Rattle.binding_model.specs.Steps.{groups_of}
 use Rattle.binding_model.specs.Walk.{steps}
 use Rattle.binding_model.specs.Facts.{facts, decls}
 use Rattle.binding_model.specs.Renaming.{places, at_place, name_of}
-use Rattle.binding_model.specs.Least.{IsBinder}
+use Rattle.binding_model.specs.Renaming.{IsBinder}
 use Rattle.binding_model.proofs.Named.{IsNamed, Named, NamedSteps}
 use Rattle.binding_model.proofs.Naming.{PlaceNamed, units_named, each_in}
 use Rattle.binding_model.proofs.Sounds.{each_map, found_all, sound_named}

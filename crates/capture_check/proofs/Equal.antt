@@ -24,7 +24,8 @@ use Rattle.rotor_base.specs.declared.looks.LinkLook.{LinkLook}
 use Rattle.shape_core.specs.Shape.{Name, none}
 use Rattle.binding_model.specs.Steps.{trace}
 use Rattle.binding_model.specs.Walk.{steps}
-use Rattle.binding_model.specs.Local.{renaming, link_look_at, would_come, would_facts, would_be, would_links, IsWatched}
+use Rattle.binding_model.specs.Local.{link_look_at, would_come, would_facts, would_be, would_links, IsWatched}
+use Rattle.binding_model.specs.Renaming.{renaming}
 use Rattle.binding_model.proofs.LastEntries.{same_is}
 use Rattle.binding_model.proofs.Telltale.{apart_of, looks_tell_facts}
 use Rattle.capture_check.specs.declared.fault.Change.{Change}

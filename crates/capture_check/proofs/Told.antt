@@ -10,9 +10,10 @@ use Rattle.shape_core.specs.Shape.{Name, or_value, some_if}
 use Rattle.shape_core.specs.Looks.{is_member}
 use Rattle.binding_model.specs.Facts.{facts}
 use Rattle.binding_model.specs.Looks.{looks}
-use Rattle.binding_model.specs.Least.{IsBinder}
+use Rattle.binding_model.specs.Renaming.{IsBinder}
 use Rattle.binding_model.specs.Renaming.{name_of, respell, Changes, IsFree}
-use Rattle.binding_model.specs.Local.{renaming, would_facts, IsWatched}
+use Rattle.binding_model.specs.Local.{would_facts, IsWatched}
+use Rattle.binding_model.specs.Renaming.{renaming}
 use Rattle.binding_model.proofs.Standing.{member_in, given}
 use Rattle.binding_model.proofs.Leasts.{binder_name}
 use Rattle.binding_model.proofs.Telltale.{looks_tell_facts}

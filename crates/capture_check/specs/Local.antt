@@ -9,7 +9,8 @@ use Rattle.shape_core.specs.Looks.{is_member}
 use Rattle.binding_model.specs.Facts.{facts}
 use Rattle.binding_model.specs.Looks.{looks}
 use Rattle.binding_model.specs.Renaming.{name_of, respell}
-use Rattle.binding_model.specs.Local.{renaming, would_facts, IsWatched}
+use Rattle.binding_model.specs.Local.{would_facts, IsWatched}
+use Rattle.binding_model.specs.Renaming.{renaming}
 use Rattle.capture_check.specs.declared.fault.Fault.{Fault}
 use Rattle.capture_check.specs.Fault.{Names, IsFirstFault}
 

@@ -9,7 +9,7 @@ use Rattle.rotor_base.specs.declared.target.Target.{Target}
 use Rattle.rotor_base.specs.Files.{FileSet, IsProject}
 use Rattle.ml_syntax.specs.Tree.{UnitTree}
 use Rattle.binding_model.specs.Facts.{facts as facts_of}
-use Rattle.binding_model.specs.Least.{IsBinder}
+use Rattle.binding_model.specs.Renaming.{IsBinder}
 use Rattle.project_reading.specs.Reads.{Reads}
 use Rattle.project_reading.proofs.OneReading.{one_project}
 use Rattle.project_reading.proofs.Soundness.{read_is_sound}

@@ -8,7 +8,8 @@ use Rattle.rotor_base.specs.declared.token.Token.{Token}
 use Rattle.ml_syntax.specs.declared.expression.Expr.{Expr as Source}
 use Rattle.ml_syntax.specs.View.{view}
 use Rattle.parse_base.specs.declared.error.ReadError.{ReadError}
-use Rattle.parse_base.specs.Gives.{from, Gives}
+use Rattle.parse_base.specs.Gives.{Gives}
+use Rattle.parse_base.specs.Tokens.{from}
 use Rattle.expr_reading.specs.declared.wanted.Wanted.{Wanted}
 use Rattle.expr_reading.specs.ExprReading.{read_expr}
 

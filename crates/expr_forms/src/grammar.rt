@@ -3,7 +3,8 @@
 ghost use Rattle.std.specs.Prelude.{IfOk, IfErr, ◌≡◌, ◌≤◌, length};
 ghost use Rattle.rotor_base.specs.Limits.{max_file_bytes};
 ghost use Rattle.ml_syntax.specs.View.{view};
-ghost use Rattle.parse_base.specs.Gives.{from, Gives};
+ghost use Rattle.parse_base.specs.Gives.{Gives};
+ghost use Rattle.parse_base.specs.Tokens.{from};
 ghost use Rattle.expr_reading.specs.ExprReading.{read_expr};
 ghost use Rattle.expr_forms.specs.Reads.{Nests};
 ghost use Rattle.parse_base.specs.declared.error.ReadError.TheVariants as unread;

@@ -2,7 +2,7 @@
 
 ghost use Rattle.std.specs.Prelude.{◌≡◌};
 ghost use Rattle.ml_syntax.specs.View.{view, view_field, links, fields};
-ghost use Rattle.parse_base.specs.Gives.{from};
+ghost use Rattle.parse_base.specs.Tokens.{from};
 ghost use Rattle.expr_reading.specs.ExprReading as r;
 ghost use Rattle.ml_syntax.specs.WellFormed.{is_constr, is_bare, is_postfix};
 

@@ -1,7 +1,7 @@
 //! The levels of operators.
 
 ghost use Rattle.std.specs.Prelude.{◌≡◌};
-ghost use Rattle.parse_base.specs.Gives.{from};
+ghost use Rattle.parse_base.specs.Tokens.{from};
 ghost use Rattle.ml_syntax.specs.WellFormed.{keyword_level, infix_level};
 ghost use Rattle.expr_parts.specs.Rows.{first_level};
 

@@ -4,7 +4,8 @@ ghost use Rattle.std.specs.Prelude.{◌≡◌, ◌≤◌, ◌<◌, ◌+◌, fals
 ghost use Rattle.rotor_base.specs.Limits.{max_file_bytes};
 ghost use Rattle.ml_syntax.specs.View.{view, view_word, view_path, view_run, view_bang, view_variable};
 ghost use Rattle.parse_base.specs.Rows.{path_from};
-ghost use Rattle.parse_base.specs.Gives.{from, name_at, Gives};
+ghost use Rattle.parse_base.specs.Gives.{name_at, Gives};
+ghost use Rattle.parse_base.specs.Tokens.{from};
 ghost use Rattle.expr_reading.specs.ExprReading as r;
 ghost use Rattle.ml_syntax.specs.WellFormed.{is_literal};
 ghost use Rattle.ml_syntax.specs.Words.{closing};

@@ -8,7 +8,7 @@ use Rattle.ml_syntax.specs.Tok.{Tok, toks_from}
 use Rattle.ml_syntax.specs.Tree.{Pat}
 use Rattle.parse_base.specs.PatReading.{read_pat}
 use Rattle.parse_base.specs.Longest.{IsLongestPat, BeginsNoPat}
-use Rattle.parse_base.specs.Gives.{lexeme, from}
+use Rattle.parse_base.specs.Tokens.{lexeme, from}
 use Rattle.parse_base.proofs.LawsPat.{pat_longest, pat_none}
 use Rattle.parse_base.proofs.Places.{from_end}
 

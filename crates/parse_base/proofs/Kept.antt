@@ -4,7 +4,7 @@ use Rattle.rotor_base.specs.declared.token.Class.TheVariants as class
 use Rattle.rotor_base.specs.declared.token.Token.{Token}
 use Rattle.ml_syntax.specs.Tok.{Tok, fixed, placed, word}
 use Rattle.ml_syntax.specs.Respelled.{Spelling, spell_tok}
-use Rattle.parse_base.specs.Gives.{from}
+use Rattle.parse_base.specs.Tokens.{from}
 use Rattle.parse_base.specs.Nesting.{role_of, first_role, role_at, role_before, after, marks, nesting, DeepIs}
 use Rattle.parse_base.specs.Kept.{AreRespelled, NestingIsKept}
 

@@ -11,7 +11,8 @@ use Rattle.ml_syntax.specs.Tok.{Name, Tok, fixed, placed, word, same, code, fixe
 use Rattle.parse_base.specs.declared.tokens.Kind.{Kind}
 use Rattle.parse_base.specs.declared.tokens.Kind.TheVariants as kind
 use Rattle.parse_base.specs.Steps.{expect, expect_at}
-use Rattle.parse_base.specs.Gives.{lexeme, from, text_at, head_text, name_at, kind_or, kind_of, Sees, IsThere, starts}
+use Rattle.parse_base.specs.Gives.{text_at, head_text, name_at, kind_or, kind_of, Sees, IsThere, starts}
+use Rattle.parse_base.specs.Tokens.{lexeme, from}
 use Rattle.parse_base.proofs.Stepping.{same_is}
 
 -- the tokens from a place on, if there is a token at it

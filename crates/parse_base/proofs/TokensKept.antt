@@ -14,7 +14,7 @@ use Rattle.ml_syntax.specs.Tok.{Name, toks_from}
 use Rattle.ml_syntax.specs.Respelled.{Spelling, spelled, spell_tok}
 use Rattle.ml_syntax.specs.RespelledFile.{lexeme_toks, new_words}
 use Rattle.ml_syntax.proofs.RespelledFile.{respelled_tokens}
-use Rattle.parse_base.specs.Gives.{lexeme, from}
+use Rattle.parse_base.specs.Tokens.{lexeme, from}
 use Rattle.parse_base.specs.Kept.{touches, IsAlike, AreAlike, RespelledTokensAreKept, RespellingKeepsTheReading}
 use Rattle.parse_base.proofs.Kept.{nesting_is_kept}
 use Rattle.parse_base.proofs.FormsKept.{forms_are_kept}

@@ -1,11 +1,11 @@
 -- What a function that reads ensures: it gives what the reading on lists gives, unless memory runs
 -- out (own).
-use Rattle.std.specs.Prelude.{◌≡◌, ℕ, ◌+◌, ◌<◌, ◌≤◌, Bool, true, false, length, List, [], ◌∷◌, drop, map, Option, Some, None, Result, Ok, Err}
+use Rattle.std.specs.Prelude.{◌≡◌, ℕ, ◌+◌, ◌<◌, ◌≤◌, Bool, false, length, List, [], ◌∷◌, drop, Option, Some, None, Result, Ok, Err}
 use Rattle.rotor_base.specs.declared.token.Class.{Class}
 use Rattle.rotor_base.specs.declared.token.Class.TheVariants as class
 use Rattle.rotor_base.specs.declared.token.Token.{Token}
 use Rattle.ml_syntax.specs.declared.fixed.Fixed.{Fixed}
-use Rattle.ml_syntax.specs.Tok.{Name, Tok, fixed, placed, word, same, fixed_of, fixed_at, toks_from}
+use Rattle.ml_syntax.specs.Tok.{Name, Tok, fixed, placed, word, same, fixed_of, fixed_at}
 use Rattle.parse_base.specs.declared.tokens.Kind.{Kind}
 use Rattle.parse_base.specs.declared.tokens.Kind.TheVariants as kind
 use Rattle.parse_base.specs.declared.error.ReadError.{ReadError}
@@ -18,15 +18,9 @@ use denote.Ref.{Bor}
 use Rattle.ml_syntax.specs.declared.pattern.Pat.{Pat as Source}
 use Rattle.ml_syntax.specs.View.{view_pat}
 use Rattle.parse_base.specs.PatReading.{read_pat}
+use Rattle.parse_base.specs.Tokens.{from}
 
 -- ---- the tokens of the code
-
-abbrev pub lexeme : Token → Class × List ℕ
-lexeme t = (t.class, t.bytes.now)
-
--- the tokens from a place on; they are numbered from 1
-unfoldable pub from : List Token → ℕ → List Tok
-from ts at = toks_from (at + 1) (map lexeme (drop at ts))
 
 abbrev pub head_text : List Token → List ℕ
 head_text [] = []

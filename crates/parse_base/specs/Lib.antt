@@ -2,6 +2,7 @@ pub mod Steps
 pub mod Pieces
 pub mod PatReading
 pub mod Longest
+pub mod Tokens
 pub mod Gives
 pub mod Rows
 pub mod RunRows

@@ -6,7 +6,8 @@ ghost use Rattle.rotor_base.specs.Limits.{max_file_bytes};
 ghost use Rattle.ml_syntax.specs.View.{view_word, view_words, view_name};
 ghost use Rattle.ml_syntax.specs.WellFormed.{is_minus, is_operator as is_operator_token};
 ghost use Rattle.parse_base.specs.Pieces.{dot_upper, more_uppers, upper_dot, qualifiers, lower_word, operator_at, value_name};
-ghost use Rattle.parse_base.specs.Gives.{from, text_at, Gives};
+ghost use Rattle.parse_base.specs.Gives.{text_at, Gives};
+ghost use Rattle.parse_base.specs.Tokens.{from};
 ghost use Rattle.parse_base.specs.Rows.{first_is, keyword_operator};
 
 use crate::error::ReadError;

@@ -4,7 +4,8 @@ ghost use Rattle.std.specs.Prelude.{◌≡◌, ◌≤◌, length, Err, IfOk, IfE
 ghost use Rattle.rotor_base.specs.Limits.{max_file_bytes};
 ghost use Rattle.ml_syntax.specs.View.{view_pat};
 ghost use Rattle.parse_base.specs.Longest.{IsLongestPat, BeginsNoPat};
-ghost use Rattle.parse_base.specs.Gives.{from, IsPlain};
+ghost use Rattle.parse_base.specs.Gives.{IsPlain};
+ghost use Rattle.parse_base.specs.Tokens.{from};
 ghost use Rattle.parse_base.specs.declared.error.ParseError.TheVariants as refused;
 
 use crate::error::{ParseError, ReadError};

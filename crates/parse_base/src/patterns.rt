@@ -19,7 +19,8 @@ ghost use Rattle.ml_syntax.specs.Words.{closing};
 ghost use Rattle.ml_syntax.specs.WellFormed.{is_minus, is_number, is_literal};
 ghost use Rattle.parse_base.specs.Rows.{path_from, inner_pat};
 ghost use Rattle.parse_base.specs.PatReading.{read_pat};
-ghost use Rattle.parse_base.specs.Gives.{from, name_at, text_at, Gives, Nests};
+ghost use Rattle.parse_base.specs.Gives.{name_at, text_at, Gives, Nests};
+ghost use Rattle.parse_base.specs.Tokens.{from};
 
 use crate::error::ReadError;
 use crate::grown::{grown_as, grown_cons, grown_or, grown_tuple};

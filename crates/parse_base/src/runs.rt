@@ -7,7 +7,8 @@ ghost use Rattle.ml_syntax.specs.View.{view_run, view_type};
 ghost use Rattle.parse_base.specs.Pieces.{type_run as read_type, declaration_run as read_declaration, optional_type as read_optional_type};
 ghost use Rattle.parse_base.specs.RunRows.{is_inside, is_beside, is_first, bracket_of, first_bracketing, first_after, shape_outside, run_length, counted, count_after, StepsTo};
 ghost use Rattle.parse_base.specs.Rows.{first_is};
-ghost use Rattle.parse_base.specs.Gives.{from, Gives};
+ghost use Rattle.parse_base.specs.Gives.{Gives};
+ghost use Rattle.parse_base.specs.Tokens.{from};
 
 use crate::error::ReadError;
 use crate::tokens::{Kind, is, is_same, kind_at, text, token_word};

@@ -5,7 +5,8 @@ ghost use Rattle.std.specs.Prelude.{List, ◌≡◌, ◌≤◌, ◌<◌, ◌+◌
 ghost use Rattle.rotor_base.specs.Limits.{max_file_bytes};
 ghost use Rattle.ml_syntax.specs.Tree as pure;
 ghost use Rattle.ml_syntax.specs.View.{view, view_path, view_name};
-ghost use Rattle.parse_base.specs.Gives.{from, name_at, Gives};
+ghost use Rattle.parse_base.specs.Gives.{name_at, Gives};
+ghost use Rattle.parse_base.specs.Tokens.{from};
 ghost use Rattle.expr_reading.specs.declared.wanted.Wanted.TheVariants as wanted;
 ghost use Rattle.expr_reading.specs.ExprReading as r;
 ghost use Rattle.expr_reading.specs.ExprReading.{read_expr};

@@ -3,7 +3,8 @@
 ghost use Rattle.std.specs.Prelude.{◌≡◌, ◌≤◌, length, Err, IfOk, IfErr};
 ghost use Rattle.rotor_base.specs.Limits.{max_file_bytes};
 ghost use Rattle.ml_syntax.specs.View.{view};
-ghost use Rattle.parse_base.specs.Gives.{from, IsPlain};
+ghost use Rattle.parse_base.specs.Gives.{IsPlain};
+ghost use Rattle.parse_base.specs.Tokens.{from};
 ghost use Rattle.parse_base.specs.declared.error.ParseError.TheVariants as refused;
 ghost use Rattle.expr_reading.specs.Longest.{IsLongestExpr, BeginsNoExpr};
 ghost use Rattle.expr_levels.specs.Height.{height};

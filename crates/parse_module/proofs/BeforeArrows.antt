@@ -3,7 +3,7 @@ use Rattle.std.proofs.Common.{◌≡◌, ◌∙◌, refl, sym, ap, ℕ, suc, ◌
 use Rattle.rotor_base.specs.declared.token.Token.{Token}
 use Rattle.ml_syntax.specs.Tok.{Tok}
 use Rattle.ml_syntax.specs.Tree.{ModType}
-use Rattle.parse_base.specs.Gives.{from}
+use Rattle.parse_base.specs.Tokens.{from}
 use Rattle.parse_module.specs.declared.arrows.Domain.{Domain}
 use Rattle.parse_module.specs.ModReading.{read_mod, read_type, mod_type}
 use Rattle.parse_module.specs.Arrows.{before_arrow, before_arrows}

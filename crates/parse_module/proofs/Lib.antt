@@ -5,4 +5,4 @@ pub mod ReachMod
 pub mod LawsMod
 mod Rows
 mod ItemTurns
-mod Whole
+pub mod Whole

@@ -5,7 +5,7 @@ use Rattle.ml_syntax.specs.Tok.{Tok}
 use Rattle.ml_syntax.specs.Tree.{Items, SigItems, FileTree, Body, Face}
 use Rattle.ml_syntax.specs.Words.{words}
 use Rattle.ml_syntax.specs.WellFormed.{WfFile}
-use Rattle.parse_base.specs.Gives.{from}
+use Rattle.parse_base.specs.Tokens.{from}
 use Rattle.parse_base.proofs.Ends.{from_length}
 use Rattle.parse_base.proofs.Places.{from_end, from_next}
 use Rattle.parse_base.proofs.Stepping.{from_some, some_is}

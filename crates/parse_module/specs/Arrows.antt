@@ -7,7 +7,8 @@ use Rattle.ml_syntax.specs.Tok.{Tok}
 use Rattle.ml_syntax.specs.Tree.{ModType, FunctorType, ParamArrow, Arrow}
 use Rattle.ml_syntax.specs.View.{view_mod_type, view_functor_param, functor_params}
 use Rattle.parse_base.specs.declared.error.ReadError.{ReadError}
-use Rattle.parse_base.specs.Gives.{from, Fails}
+use Rattle.parse_base.specs.Gives.{Fails}
+use Rattle.parse_base.specs.Tokens.{from}
 use Rattle.parse_base.specs.Steps.{◌>>=◌}
 use Rattle.parse_module.specs.declared.arrows.Domain.{Domain}
 use Rattle.parse_module.specs.declared.arrows.Domain.TheVariants as domain

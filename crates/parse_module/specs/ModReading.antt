@@ -298,8 +298,15 @@ abbrev pub whole_face : ℕ → SigItems × List Tok → Option FileTree
 whole_face file (is, []) = Some (Face file is)
 whole_face file (is, t ∷ ts) = None
 
+-- the items with which tokens begin, and the tokens behind the last one
+abbrev pub body_start : ℕ → List Tok → Items × List Tok
+body_start n ts = items_of (read_mod n) (read_type n) n n true ts
+
+abbrev pub face_start : ℕ → List Tok → SigItems × List Tok
+face_start n ts = sig_items (read_mod n) (read_type n) n ts
+
 unfoldable pub read_body : ℕ → ℕ → List Tok → Option FileTree
-read_body file n ts = whole_body file (items_of (read_mod n) (read_type n) n n true ts)
+read_body file n ts = whole_body file (body_start n ts)
 
 unfoldable pub read_face : ℕ → ℕ → List Tok → Option FileTree
-read_face file n ts = whole_face file (sig_items (read_mod n) (read_type n) n ts)
+read_face file n ts = whole_face file (face_start n ts)

@@ -8,7 +8,8 @@ use Rattle.ml_syntax.specs.declared.module.ModExpr.{ModExpr}
 use Rattle.ml_syntax.specs.declared.module.ModType.{ModType}
 use Rattle.ml_syntax.specs.View.{view_mod, view_mod_type}
 use Rattle.parse_base.specs.declared.error.ReadError.{ReadError}
-use Rattle.parse_base.specs.Gives.{from, Gives}
+use Rattle.parse_base.specs.Gives.{Gives}
+use Rattle.parse_base.specs.Tokens.{from}
 use Rattle.parse_module.specs.ModReading.{read_mod, read_type}
 
 pub record ReadsModules (depth : ℕ) (pre : Global → Bor (List Token) → ℕ → ℕ → ℕ → Type 0)

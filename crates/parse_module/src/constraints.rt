@@ -4,7 +4,8 @@ ghost use Rattle.std.specs.Prelude.{◌≡◌, ◌≤◌, ◌<◌, true, length,
 ghost use Rattle.rotor_base.specs.Limits.{max_file_bytes};
 ghost use Rattle.ml_syntax.specs.View.{view_tok, view_constraint, view_with};
 ghost use Rattle.ml_syntax.specs.WellFormed.{is_constraint_sign};
-ghost use Rattle.parse_base.specs.Gives.{from, Gives};
+ghost use Rattle.parse_base.specs.Gives.{Gives};
+ghost use Rattle.parse_base.specs.Tokens.{from};
 ghost use Rattle.parse_base.specs.Rows.{first_is};
 ghost use Rattle.parse_module.specs.ModReading as r;
 

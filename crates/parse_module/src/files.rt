@@ -1,19 +1,21 @@
 //! A file's tokens as its tree.
 
-ghost use Rattle.std.specs.Prelude.{◌≡◌, ◌≢◌, ◌≤◌, ◌+◌, length, Err, None, IfOk};
+ghost use Rattle.std.specs.Prelude.{◌≡◌, ◌≢◌, ◌≤◌, ◌+◌, length, Err, None, Some, IfOk};
 ghost use Rattle.rotor_base.specs.Limits.{max_file_bytes};
+ghost use Rattle.ml_syntax.specs.View as v;
 ghost use Rattle.ml_syntax.specs.View.{view_file};
 ghost use Rattle.parse_base.specs.Forms.{first_form};
-ghost use Rattle.parse_base.specs.Gives.{from, Gives};
+ghost use Rattle.parse_base.specs.Gives.{Gives};
+ghost use Rattle.parse_base.specs.Tokens.{from};
 ghost use Rattle.parse_base.specs.Nesting.{DeepIs};
 ghost use Rattle.parse_base.specs.declared.error.ParseError.TheVariants as refused;
-ghost use Rattle.parse_module.specs.ModReading.{read_body, read_face};
+ghost use Rattle.parse_module.specs.ModReading.{body_start, face_start, read_body, read_face};
 ghost use Rattle.parse_module.specs.Parts.{read_file};
 ghost use Rattle.parse_module.specs.Whole.{IsTreeOf, HasNoTree, told_form, told_deep};
 
 use crate::modules::Modules;
 use crate::reading::{read_module, read_module_type};
-use ml_syntax::FileTree;
+use ml_syntax::{FileTree, Item, SigItem};
 use parse_base::{ParseError, ReadError, scan_depth, scan_forms};
 use parse_expr::MAX_DEEPER;
 use rotor_base::{Memory, Token};
@@ -26,10 +28,15 @@ pub enum FileKind {
     Face,
 }
 
-/// The tree of a body, with the number of its file.
-fn body(alloc: Global, tokens: &[Token<'_>], file: u32) -> Result<FileTree, ReadError>
-    requires { length tokens.now ≤ max_file_bytes }
-    ensures { Gives view_file result (read_body file (length tokens.now + 1) (from tokens.now 0)) }
+/// The items with which the tokens of a body begin, read one after another as long as each can be read whole, and the
+/// place after the last one, counted from 0. There are at most 1,048,576 tokens.
+///
+/// # Errors
+///
+/// `Memory` alone, as for [`parse_file`].
+pub fn body_items(alloc: Global, tokens: &[Token<'_>]) -> Result<(Vec<Item>, usize), ReadError>
+    requires few { length tokens.now ≤ max_file_bytes }
+    ensures { Gives (λ x. (v.items x.0.items, from tokens.now x.1)) result (Some (body_start (length tokens.now + 1) (from tokens.now 0))) }
 {
     let readers = Modules {
         alloc,
@@ -38,7 +45,30 @@ fn body(alloc: Global, tokens: &[Token<'_>], file: u32) -> Result<FileTree, Read
         modules: read_module,
         types: read_module_type,
     };
-    let (items, end) = readers.items(tokens, 0)?;
+    readers.items(tokens, 0)
+}
+
+/// The items with which the tokens of an interface begin; places and errors as for [`body_items`].
+pub fn face_items(alloc: Global, tokens: &[Token<'_>]) -> Result<(Vec<SigItem>, usize), ReadError>
+    requires few { length tokens.now ≤ max_file_bytes }
+    ensures { Gives (λ x. (v.sig_items x.0.items, from tokens.now x.1)) result (Some (face_start (length tokens.now + 1) (from tokens.now 0))) }
+{
+    let readers = Modules {
+        alloc,
+        depth: tokens.len() + 1,
+        levels: MAX_DEEPER,
+        modules: read_module,
+        types: read_module_type,
+    };
+    readers.sig_items(tokens, 0)
+}
+
+/// The tree of a body, with the number of its file.
+fn body(alloc: Global, tokens: &[Token<'_>], file: u32) -> Result<FileTree, ReadError>
+    requires { length tokens.now ≤ max_file_bytes }
+    ensures { Gives view_file result (read_body file (length tokens.now + 1) (from tokens.now 0)) }
+{
+    let (items, end) = body_items(alloc, tokens)?;
     if end < tokens.len() {
         return Err(ReadError::Syntax);
     }
@@ -50,14 +80,7 @@ fn face(alloc: Global, tokens: &[Token<'_>], file: u32) -> Result<FileTree, Read
     requires { length tokens.now ≤ max_file_bytes }
     ensures { Gives view_file result (read_face file (length tokens.now + 1) (from tokens.now 0)) }
 {
-    let readers = Modules {
-        alloc,
-        depth: tokens.len() + 1,
-        levels: MAX_DEEPER,
-        modules: read_module,
-        types: read_module_type,
-    };
-    let (items, after) = readers.sig_items(tokens, 0)?;
+    let (items, after) = face_items(alloc, tokens)?;
     if after < tokens.len() {
         return Err(ReadError::Syntax);
     }

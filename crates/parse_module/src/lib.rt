@@ -20,5 +20,5 @@ mod reading;
 mod sig_items;
 mod values;
 
-pub use files::{FileKind, parse_file};
+pub use files::{FileKind, body_items, face_items, parse_file};
 pub use laws::one_file_reading;

@@ -3,7 +3,8 @@
 ghost use Rattle.std.specs.Prelude.{◌≤◌, ◌∷◌, [], length, Some};
 ghost use Rattle.rotor_base.specs.Limits.{max_file_bytes};
 ghost use Rattle.ml_syntax.specs.View.{view_word, view_words, view_name, view_run, view_path, view_bang, view_module_name};
-ghost use Rattle.parse_base.specs.Gives.{from, Gives};
+ghost use Rattle.parse_base.specs.Gives.{Gives};
+ghost use Rattle.parse_base.specs.Tokens.{from};
 ghost use Rattle.parse_base.specs.Steps.{many, always};
 ghost use Rattle.parse_module.specs.ModReading as r;
 ghost use Rattle.parse_module.specs.Parts as p;

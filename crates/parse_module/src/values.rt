@@ -3,7 +3,8 @@
 ghost use Rattle.std.specs.Prelude.{◌≤◌, ◌<◌, ◌+◌, length};
 ghost use Rattle.rotor_base.specs.Limits.{max_file_bytes};
 ghost use Rattle.ml_syntax.specs.View.{view, view_item};
-ghost use Rattle.parse_base.specs.Gives.{from, Gives};
+ghost use Rattle.parse_base.specs.Gives.{Gives};
+ghost use Rattle.parse_base.specs.Tokens.{from};
 ghost use Rattle.expr_reading.specs.declared.wanted.Wanted.TheVariants as wanted;
 ghost use Rattle.expr_reading.specs.ExprReading.{read_expr};
 ghost use Rattle.parse_module.specs.ModReading as r;

@@ -16,4 +16,4 @@ pub use laws::{
 };
 pub use listed::load_list;
 pub use loading::load;
-pub use names::is_project_file;
+pub use names::{is_project_file, source_names};

@@ -20,8 +20,8 @@ pub fn is_project_file(name: &str) -> bool
     is_source(name.as_bytes()) || name == MANIFEST
 }
 
-/// The names of sources among those of a listing, each once, in byte order.
-pub(crate) fn source_names(listed: Vec<String>) -> Vec<String>
+/// The names of sources among those of a listing, each once, in byte order. It takes no memory.
+pub fn source_names(listed: Vec<String>) -> Vec<String>
     ensures sources { list_all is_source_name (map string_bytes result.items) ≡ true }
     ensures ordered { IsStrictlySortedBy (slice_cmp nat_cmp) (map string_bytes result.items) }
     ensures same { (test : List ℕ → Bool) → list_any test (map string_bytes result.items) ≡ list_any (λ name. is_source_name name && test name) (map string_bytes listed.items) }

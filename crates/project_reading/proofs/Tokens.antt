@@ -8,7 +8,7 @@ use Rattle.ml_syntax.specs.Tok.{Name, Tok, fixed, placed, word, toks_from}
 use Rattle.ml_syntax.specs.Respelled.{Spelling, spelled, spell_tok}
 use Rattle.ml_syntax.specs.RespelledFile.{lexeme_toks}
 use Rattle.parse_base.specs.Forms.{first_form}
-use Rattle.parse_base.specs.Gives.{lexeme, from}
+use Rattle.parse_base.specs.Tokens.{lexeme, from}
 use Rattle.parse_base.specs.Kept.{touches, AreAlike}
 use Rattle.parse_base.specs.Nesting.{DeepIs}
 use Rattle.parse_base.proofs.FormsKept.{forms_are_kept}

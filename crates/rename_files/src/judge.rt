@@ -10,7 +10,7 @@ ghost use Rattle.ml_syntax.specs.Sound.{IsSound};
 ghost use Rattle.ml_syntax.specs.View.{view_project};
 ghost use Rattle.dependency_kernel.specs.Foot.{IsFoot};
 ghost use Rattle.binding_model.specs.Facts.{facts as facts_of};
-ghost use Rattle.binding_model.specs.Least.{IsBinder};
+ghost use Rattle.binding_model.specs.Renaming.{IsBinder};
 ghost use Rattle.binding_model.specs.Local.{IsWatched};
 ghost use Rattle.binding_model.specs.Renaming.{name_of, in_file};
 ghost use Rattle.binding_model.specs.Sums.{heavy};

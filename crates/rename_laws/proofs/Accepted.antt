@@ -12,7 +12,7 @@ use Rattle.rotor_base.specs.Files.{FileSet, IsProject}
 use Rattle.shape_core.specs.Shape.{Name}
 use Rattle.dependency_kernel.specs.Foot.{IsFoot}
 use Rattle.binding_model.specs.Facts.{facts}
-use Rattle.binding_model.specs.Local.{renaming}
+use Rattle.binding_model.specs.Renaming.{renaming}
 use Rattle.binding_model.specs.Renaming.{Renaming, IsValid, respell}
 use Rattle.binding_model.proofs.Leasts.{changes_whole_foot, outside_stays}
 use Rattle.project_reading.specs.Reads.{Reads}

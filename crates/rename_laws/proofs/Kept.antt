@@ -18,8 +18,9 @@ use Rattle.shape_core.specs.Shape.{Name}
 use Rattle.dependency_kernel.specs.Foot.{IsFoot}
 use Rattle.binding_model.specs.Back.{CanGoBack, back}
 use Rattle.binding_model.specs.Facts.{facts, IsGood}
-use Rattle.binding_model.specs.Least.{IsBinder}
-use Rattle.binding_model.specs.Local.{renaming, IsWatched, IsAccepted}
+use Rattle.binding_model.specs.Renaming.{IsBinder}
+use Rattle.binding_model.specs.Local.{IsWatched, IsAccepted}
+use Rattle.binding_model.specs.Renaming.{renaming}
 use Rattle.binding_model.specs.Renaming.{name_of, respell, IsValid, in_file}
 use Rattle.binding_model.proofs.Clashing.{groups_tell_clash, accepted_is_valid}
 use Rattle.binding_model.proofs.Telltale.{looks_tell_facts}

@@ -35,7 +35,7 @@ use Rattle.ml_syntax.specs.Each.{Each}
 use Rattle.dependency_kernel.specs.Foot.{here}
 use Rattle.dependency_kernel.proofs.Laws.{has_one_name}
 use Rattle.binding_model.specs.Facts.{facts}
-use Rattle.binding_model.specs.Least.{IsBinder}
+use Rattle.binding_model.specs.Renaming.{IsBinder}
 use Rattle.binding_model.specs.Renaming.{placed_sites, file_places, places, at_place, site_name, name_of}
 use Rattle.binding_model.proofs.Leasts.{place_in}
 use Rattle.binding_model.proofs.Sounds.{each_joined, links_join_one_name}

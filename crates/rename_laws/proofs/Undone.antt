@@ -26,7 +26,7 @@ use Rattle.dependency_kernel.specs.Foot.{IsFoot}
 use Rattle.dependency_kernel.specs.Foot as links
 use Rattle.binding_model.specs.Back.{CanGoBack, back}
 use Rattle.binding_model.specs.Facts.{facts, unmatched, unmatched_items, least}
-use Rattle.binding_model.specs.Local.{renaming}
+use Rattle.binding_model.specs.Renaming.{renaming}
 use Rattle.binding_model.specs.Renaming.{places, at_place, site_name, name_of, IsFixedSite, in_file}
 use Rattle.capture_check.specs.Fault.{IsMet, IsLeastRepeat, IsFirstDiffering, of_ref, of_link, before}
 use Rattle.project_reading.specs.Reads.{Reads}

@@ -20,7 +20,7 @@ use Rattle.ml_syntax.specs.Tree.{UnitTree}
 use Rattle.ml_syntax.specs.WellFormed.{keyword_level}
 use Rattle.shape_core.specs.Shape.{Name}
 use Rattle.binding_model.specs.Facts.{facts}
-use Rattle.binding_model.specs.Least.{IsBinder}
+use Rattle.binding_model.specs.Renaming.{IsBinder}
 use Rattle.binding_model.specs.Renaming.{Renaming, Changes, IsValid, name_of, respell}
 use Rattle.module_meaning.specs.Run.{run}
 use Rattle.project_reading.specs.Reads.{Reads}

@@ -21,7 +21,7 @@ use Rattle.shape_core.specs.Respell.{Words}
 use Rattle.binding_model.specs.Steps.{a_ref}
 use Rattle.binding_model.specs.Facts.{facts}
 use Rattle.binding_model.specs.Renaming.{places, at_place, name_of, respell, words_of, HasBehind, IsBlur, in_file}
-use Rattle.binding_model.specs.Local.{renaming}
+use Rattle.binding_model.specs.Renaming.{renaming}
 use Rattle.capture_check.specs.Fault.{before, IsLeastRepeat, IsFirstDiffering, of_ref, of_link}
 use Rattle.rename_model.specs.Ladder.{no_more, IsLeast}
 use Rattle.rename_model.specs.Foot.{IsTheFoot, IsIn, IsHit}

@@ -12,7 +12,7 @@ use Rattle.ml_lexer.specs.Lexed.{Lexeme, Lexed}
 use Rattle.ml_syntax.specs.Tree.{UnitTree}
 use Rattle.shape_core.specs.Shape.{Name, Opaque, Entries, none, or_else, or_value, find_val, find_mod, find_mty, entries_in}
 use Rattle.binding_model.specs.Scopes.{after_units}
-use Rattle.binding_model.specs.Least.{IsBinder}
+use Rattle.binding_model.specs.Renaming.{IsBinder}
 
 -- the position of the first item that passes a test
 abbrev pub first_at : {X : Type 0} → (X → Bool) → List X → Option ℕ

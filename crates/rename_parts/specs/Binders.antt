@@ -5,7 +5,7 @@ use Rattle.ml_syntax.specs.declared.place.Mark.{Mark}
 use Rattle.ml_syntax.specs.Places.{Site, mark}
 use Rattle.ml_syntax.specs.Tree.{UnitTree}
 use Rattle.shape_core.specs.Respell.{over}
-use Rattle.binding_model.specs.Least.{IsBinder}
+use Rattle.binding_model.specs.Renaming.{IsBinder}
 use Rattle.binding_model.specs.Renaming.{places, at_place}
 
 -- the binders among places

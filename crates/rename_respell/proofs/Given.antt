@@ -20,7 +20,7 @@ use Rattle.ml_syntax.specs.Sound.{IsSound}
 use Rattle.ml_syntax.specs.Tree.{UnitTree}
 use Rattle.shape_core.specs.Respell.{Words}
 use Rattle.shape_core.specs.Shape.{Name, or_value}
-use Rattle.binding_model.specs.Least.{IsBinder}
+use Rattle.binding_model.specs.Renaming.{IsBinder}
 use Rattle.binding_model.specs.Renaming.{Renaming, at_place, goal_at, in_file, new_word, words_of}
 use Rattle.capture_check.proofs.Binders.{named_is}
 use Rattle.capture_check.specs.Tables.{IsTableOf, named}

@@ -7,7 +7,7 @@ ghost use Rattle.ml_syntax.specs.Tree.{UnitTree};
 ghost use Rattle.ml_syntax.specs.View.{view_project};
 ghost use Rattle.ml_lexer.specs.Lexed.{view_tokens};
 ghost use Rattle.binding_model.specs.Facts.{facts as facts_of};
-ghost use Rattle.binding_model.specs.Least.{IsBinder};
+ghost use Rattle.binding_model.specs.Renaming.{IsBinder};
 ghost use Rattle.project_reading.specs.Reads.{Reads};
 ghost use Rattle.project_reading.specs.Sources.{AreCut};
 ghost use Rattle.rename_project.specs.Steps.{IsRefusedFor};

@@ -26,7 +26,7 @@ use Rattle.ml_syntax.specs.Tree.{UnitTree}
 use Rattle.shape_core.specs.Shape.{Name, or_else, some_if, or_value}
 use Rattle.ml_syntax.specs.Each.{Each}
 use Rattle.binding_model.specs.Facts.{facts, put, in_order, is_before}
-use Rattle.binding_model.specs.Least.{IsBinder}
+use Rattle.binding_model.specs.Renaming.{IsBinder}
 use Rattle.binding_model.specs.Local.{IsWatched}
 use Rattle.binding_model.specs.Renaming.{places, at_place, goal_at, new_word, in_file, IsFixedSite, IsFree as IsFreePlace}
 use Rattle.binding_model.specs.Scopes.{here}

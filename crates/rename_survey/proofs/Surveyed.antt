@@ -5,7 +5,7 @@ use Rattle.ml_syntax.specs.Each.{Each}
 use Rattle.ml_syntax.specs.Places.{Site}
 use Rattle.ml_syntax.specs.Tree.{UnitTree}
 use Rattle.ml_syntax.specs.View.{view_project}
-use Rattle.binding_model.specs.Least.{IsBinder}
+use Rattle.binding_model.specs.Renaming.{IsBinder}
 use Rattle.binding_model.specs.Renaming.{places, at_place}
 use Rattle.binding_model.proofs.Naming.{each_ordered}
 use Rattle.binding_model.proofs.Sounds.{found_all}

@@ -23,7 +23,7 @@ use Rattle.ml_syntax.specs.Tree.{UnitTree}
 use Rattle.shape_core.specs.Shape.{Name, or_else, some_if, or_value}
 use Rattle.binding_model.specs.Facts.{facts}
 use Rattle.binding_model.specs.Laws.{KeepsFixed}
-use Rattle.binding_model.specs.Least.{IsBinder}
+use Rattle.binding_model.specs.Renaming.{IsBinder}
 use Rattle.binding_model.specs.Renaming.{Renaming, places, at_place, name_of, site_name, goal_at, new_word, words_of, Changes, IsFixedSite, IsFree}
 use Rattle.binding_model.proofs.LastEntries.{same_is}
 use Rattle.binding_model.proofs.Naming.{each_ordered}

@@ -11,7 +11,7 @@ use Rattle.ml_syntax.specs.Sound.{IsSound}
 use Rattle.ml_syntax.specs.Tree.{UnitTree}
 use Rattle.shape_core.specs.Respell.{Words}
 use Rattle.binding_model.specs.Facts.{facts}
-use Rattle.binding_model.specs.Least.{IsBinder}
+use Rattle.binding_model.specs.Renaming.{IsBinder}
 use Rattle.binding_model.specs.Renaming.{IsFixedSite, Renaming, at_place, name_of, places, respell}
 use Rattle.binding_model.specs.Sums.{heavy}
 use Rattle.capture_check.specs.declared.fault.Fault.{Fault}

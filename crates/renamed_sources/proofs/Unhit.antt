@@ -23,7 +23,7 @@ use Rattle.ml_syntax.specs.RespelledSource.{IsRespelled, AreRespelled}
 use Rattle.ml_syntax.specs.Tree.{UnitTree}
 use Rattle.shape_core.specs.Shape.{Name, or_else, or_value, some_if}
 use Rattle.binding_model.specs.Facts.{facts}
-use Rattle.binding_model.specs.Local.{renaming}
+use Rattle.binding_model.specs.Renaming.{renaming}
 use Rattle.binding_model.specs.Renaming.{goal_at, new_word, in_file}
 use Rattle.binding_model.specs.Scopes.{here}
 use Rattle.binding_model.proofs.LastEntries.{same_is}

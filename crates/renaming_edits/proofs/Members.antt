@@ -11,7 +11,7 @@ use Rattle.ml_syntax.specs.Tree.{UnitTree}
 use Rattle.shape_core.specs.Shape.{Name}
 use Rattle.binding_model.specs.Walk.{steps}
 use Rattle.binding_model.specs.Facts.{facts}
-use Rattle.binding_model.specs.Least.{IsBinder}
+use Rattle.binding_model.specs.Renaming.{IsBinder}
 use Rattle.binding_model.specs.Renaming.{places, at_place}
 use Rattle.binding_model.proofs.Naming.{PlaceNamed, units_named, each_in}
 use Rattle.binding_model.proofs.OneName.{Joins, steps_join}

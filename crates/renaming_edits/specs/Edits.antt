@@ -13,7 +13,7 @@ use Rattle.ml_lexer.specs.Respelled.{respelled}
 use Rattle.ml_syntax.specs.Sound.{IsSound}
 use Rattle.ml_syntax.specs.Tree.{UnitTree}
 use Rattle.binding_model.specs.Facts.{facts as facts_of}
-use Rattle.binding_model.specs.Least.{IsBinder}
+use Rattle.binding_model.specs.Renaming.{IsBinder}
 use Rattle.rename_model.specs.Foot.{IsTheFoot}
 use Rattle.rename_model.specs.Report.{IsRenaming}
 use Rattle.rename_parts.specs.Hits.{hit_words}

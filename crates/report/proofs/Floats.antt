@@ -1,8 +1,10 @@
 -- No report has a number that is no integer.
-use Rattle.std.proofs.Common.{◌≡◌, ◌∙◌, ℕ, false, List, [], ◌∷◌, ◌++◌, map, Option, Some, None, refl, ap}
+use Rattle.std.proofs.Common.{◌≡◌, ◌∙◌, ℕ, false, List, [], ◌∷◌, ◌++◌, map, Option, Some, None, Result, Ok, Err, refl, ap}
+use Rattle.std.specs.Prelude.{IfOk}
 use Rattle.serde_json.specs.Data.{Data}
-use Rattle.serde_json.specs.View.{items_of}
+use Rattle.serde_json.specs.View.{items_of, view}
 use Rattle.serde_json.specs.Written.{compact_text, has_float, items_have_float}
+use Rattle.serde_json.specs.declared.value.Value.{Value}
 use Rattle.rotor_base.specs.declared.report.Outcome.{Outcome}
 use Rattle.rotor_base.specs.declared.report.Outcome.TheVariants.{Done, Checked, Shown, Sampled, Refused, NotLoaded, BadWords}
 use Rattle.report.specs.declared.notice.Notice.{Notice}
@@ -19,7 +21,7 @@ texts_plain (w ∷ ws) = texts_plain ws
 lines_plain : (lines : List Word) → has_float (lines_data lines) ≡ false
 lines_plain lines = rw (texts_plain lines) refl
 
-notice_plain : (notice : Option Notice) → has_float (notice_data notice) ≡ false
+pub notice_plain : (notice : Option Notice) → has_float (notice_data notice) ≡ false
 notice_plain None = refl
 notice_plain (Some notice) = rw (texts_plain (map value_of notice.parts)) refl
 
@@ -36,3 +38,9 @@ data_plain names BadWords = lines_plain (lines_of names BadWords)
 pub ended_text : (made known : Data) (text all : List ℕ) → made ≡ known → has_float known ≡ false
     → (has_float made ≡ false → text ≡ compact_text made) → all ≡ text ++ 10 ∷ [] → all ≡ ended (compact_text known)
 ended_text made known text all d f t a = a ∙ ap (λ bytes. bytes ++ 10 ∷ []) (t (ap has_float d ∙ f) ∙ ap compact_text d)
+
+-- a value with the data of a report has no such number
+pub value_plain : {E : Type 0} (result : Result Value E) (given : Data) → has_float given ≡ false → IfOk result (λ value. view value ≡ given)
+    → IfOk result (λ value. has_float (view value) ≡ false)
+value_plain (Ok value) given plain is = ap has_float is ∙ plain
+value_plain (Err error) given plain is = is

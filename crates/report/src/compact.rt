@@ -1,7 +1,9 @@
 //! The JSON of a report.
-ghost use Rattle.std.specs.Prelude.{◌≡◌, [], ◌∷◌, IfOk, map, string_bytes};
+ghost use Rattle.std.specs.Prelude.{◌≡◌, [], ◌∷◌, IfOk, false, map, string_bytes};
 ghost use Rattle.serde_json.specs.Data.{member, no_members, object as object_of};
 ghost use Rattle.serde_json.specs.View.{view};
+ghost use Rattle.serde_json.specs.Written.{has_float};
+ghost use Rattle.rotor_base.specs.declared.report.Outcome.TheVariants as outcome;
 ghost use Rattle.report.specs.Pieces.{file_of, place_text as place_text_of};
 ghost use Rattle.report.specs.Notice.{value_of};
 ghost use Rattle.report.specs.Json.{data_of, done_data, done_members, json_of, lines_data, notice_data, text_data, texts as texts_of};
@@ -9,7 +11,7 @@ ghost use Rattle.report.specs.Json.{data_of, done_data, done_members, json_of, l
 use crate::lines::lines;
 use crate::notice::{Notice, Part, load_notice, refusal_notice};
 use crate::pieces::{file_name, joined, place_text};
-use rotor_base::{Memory, Outcome, Place, Renamed, Row};
+use rotor_base::{LoadError, Memory, Outcome, Place, Refusal, Renamed, Row};
 use serde_json::{Map, Value, json};
 use std::alloc::{AllocError, Global};
 
@@ -30,19 +32,33 @@ fn outcome_value(alloc: Global, names: &[String], outcome: &Outcome) -> Result<V
 {
     match outcome {
         Outcome::Done(done) => done_value(alloc, names, done),
-        Outcome::Refused(refusal) => {
-            let notice = refusal_notice(alloc, names, refusal)?;
-            notice_value(alloc, notice)
-        }
-        Outcome::NotLoaded(error) => {
-            let notice = load_notice(alloc, error)?;
-            notice_value(alloc, notice)
-        }
+        Outcome::Refused(refusal) => refusal_data(alloc, names, refusal),
+        Outcome::NotLoaded(error) => load_data(alloc, error),
         Outcome::Checked(_) | Outcome::Shown(_) | Outcome::Sampled(_) | Outcome::BadWords => {
             let lines = lines(alloc, names, outcome)?;
             lines_value(alloc, lines.as_slice())
         }
     }
+}
+
+/// The object that the report of a refusal has in JSON. `names` are as in [`crate::text`]. It has no number. The one error
+/// is want of memory.
+pub fn refusal_data(alloc: Global, names: &[String], refusal: &Refusal) -> Result<Value, Memory>
+    ensures data { IfOk result (λ value. view value ≡ data_of (map string_bytes names.now) (outcome.Refused refusal.now)) }
+    ensures plain { IfOk result (λ value. has_float (view value) ≡ false) }
+{
+    let notice = refusal_notice(alloc, names, refusal)?;
+    notice_value(alloc, notice)
+}
+
+/// The object that the report of a folder that is not loaded has in JSON. It has no number. The one error is want of
+/// memory.
+pub fn load_data(alloc: Global, error: &LoadError) -> Result<Value, Memory>
+    ensures data { IfOk result (λ value. view value ≡ data_of [] (outcome.NotLoaded error.now)) }
+    ensures plain { IfOk result (λ value. has_float (view value) ≡ false) }
+{
+    let notice = load_notice(alloc, error)?;
+    notice_value(alloc, notice)
 }
 
 /// The object of a renaming that is done.

@@ -6,7 +6,7 @@ use Rattle.dependency_kernel.specs.Foot.{IsFoot}
 use Rattle.ml_syntax.specs.Sound.{IsSound}
 use Rattle.ml_syntax.specs.Tree.{UnitTree}
 use Rattle.binding_model.specs.Facts.{facts}
-use Rattle.binding_model.specs.Least.{IsBinder}
+use Rattle.binding_model.specs.Renaming.{IsBinder}
 use Rattle.binding_model.specs.Local.{IsWatched}
 use Rattle.binding_model.specs.Renaming.{name_of}
 use Rattle.rename_model.specs.Renaming.{watch_of}

@@ -6,7 +6,7 @@ ghost use Rattle.rotor_base.specs.Limits.{max_name_bytes};
 ghost use Rattle.ml_syntax.specs.Sound.{IsSound};
 ghost use Rattle.ml_syntax.specs.View.{view_project};
 ghost use Rattle.binding_model.specs.Facts.{facts as facts_of};
-ghost use Rattle.binding_model.specs.Least.{IsBinder};
+ghost use Rattle.binding_model.specs.Renaming.{IsBinder};
 ghost use Rattle.binding_model.specs.Renaming.{name_of};
 ghost use Rattle.binding_model.specs.Sums.{heavy};
 ghost use Rattle.dependency_kernel.specs.Foot.{IsFoot};

@@ -17,7 +17,7 @@ use Rattle.shape_core.specs.Shape.{Name, or_else, some_if, or_value}
 use Rattle.shape_core.specs.Respell.{Words, over}
 use Rattle.ml_syntax.specs.Each.{Each}
 use Rattle.binding_model.specs.Facts.{facts}
-use Rattle.binding_model.specs.Local.{renaming}
+use Rattle.binding_model.specs.Renaming.{renaming}
 use Rattle.binding_model.specs.Renaming as model
 use Rattle.binding_model.specs.Renaming.{Renaming, places, at_place, in_file, goal_at, new_word, words_of, IsFixedSite}
 use Rattle.binding_model.specs.Steps.{refs_of}

@@ -12,7 +12,8 @@ use Rattle.ml_syntax.specs.Tree.{UnitTree}
 use Rattle.shape_core.specs.Shape.{Name}
 use Rattle.shape_core.specs.Respell.{Words}
 use Rattle.binding_model.specs.Facts.{facts}
-use Rattle.binding_model.specs.Local.{renaming, IsWatched}
+use Rattle.binding_model.specs.Local.{IsWatched}
+use Rattle.binding_model.specs.Renaming.{renaming}
 use Rattle.binding_model.specs.Renaming.{Renaming, places, at_place, in_file, words_of, respell, IsFixedSite}
 use Rattle.project_reading.specs.Reads.{Reads}
 use Rattle.ml_syntax.specs.RespelledSource.{AreRespelled}

@@ -7,7 +7,7 @@ use Rattle.ml_lexer.specs.Lexed.{Lexeme}
 use Rattle.ml_syntax.specs.Tok.{Tok, toks_from}
 use Rattle.parse_base.specs.declared.depth.Role.{Role}
 use Rattle.parse_base.specs.declared.depth.Mark.{Mark}
-use Rattle.parse_base.specs.Gives.{from, lexeme}
+use Rattle.parse_base.specs.Tokens.{from, lexeme}
 use Rattle.parse_base.specs.Nesting.{after, first_role, marks, nesting, role_at, role_before, IsFirstDeep}
 use Rattle.project_reading.specs.Source.{tokens_of, IsDeepAt}
 use Rattle.token_laws.specs.Tokens.{texts_of}

@@ -15,7 +15,7 @@ use Rattle.ml_syntax.specs.Tree.{UnitTree}
 use Rattle.shape_core.specs.Shape.{Name}
 use Rattle.dependency_kernel.proofs.Only.{is_the_only}
 use Rattle.binding_model.specs.Facts.{facts}
-use Rattle.binding_model.specs.Local.{renaming}
+use Rattle.binding_model.specs.Renaming.{renaming}
 use Rattle.capture_check.specs.Fault.{IsMet, before}
 use Rattle.project_reading.specs.Reads.{Reads}
 use Rattle.project_reading.proofs.OneReading.{one_project, read_or_refused}

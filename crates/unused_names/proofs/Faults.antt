@@ -6,7 +6,7 @@ use Rattle.rotor_base.specs.declared.place.Link.{Link}
 use Rattle.ml_syntax.specs.Sound.{IsSound}
 use Rattle.ml_syntax.specs.Tree.{UnitTree}
 use Rattle.binding_model.specs.Facts.{facts, IsGood}
-use Rattle.binding_model.specs.Local.{renaming}
+use Rattle.binding_model.specs.Renaming.{renaming}
 use Rattle.binding_model.specs.Renaming.{name_of, respell}
 use Rattle.capture_check.specs.declared.fault.Fault.{Fault}
 use Rattle.capture_check.specs.declared.fault.Fault.TheVariants.{Clash, Capture, Mislink}

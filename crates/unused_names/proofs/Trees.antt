@@ -24,8 +24,9 @@ use Rattle.shape_core.specs.Respell.{Words}
 use Rattle.shape_core.specs.Shape.{Name, none, or_value, some_if}
 use Rattle.dependency_kernel.specs.Foot.{IsFoot, along}
 use Rattle.binding_model.specs.Facts.{facts, facts_of, in_order, IsGood}
-use Rattle.binding_model.specs.Least.{IsBinder}
-use Rattle.binding_model.specs.Local.{renaming, IsWatched}
+use Rattle.binding_model.specs.Renaming.{IsBinder}
+use Rattle.binding_model.specs.Local.{IsWatched}
+use Rattle.binding_model.specs.Renaming.{renaming}
 use Rattle.binding_model.specs.Renaming.{places, at_place, site_name, name_of, goal_at, new_word, respell, Changes, HasBehind, IsFree}
 use Rattle.binding_model.specs.Steps.{refs_of, spell_steps, trace}
 use Rattle.binding_model.specs.Walk.{steps}

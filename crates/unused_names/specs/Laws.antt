@@ -10,7 +10,8 @@ use Rattle.ml_syntax.specs.Sound.{IsSound}
 use Rattle.ml_syntax.specs.Tree.{UnitTree}
 use Rattle.shape_core.specs.Shape.{Name}
 use Rattle.binding_model.specs.Facts.{facts, IsGood}
-use Rattle.binding_model.specs.Local.{renaming, IsWatched}
+use Rattle.binding_model.specs.Local.{IsWatched}
+use Rattle.binding_model.specs.Renaming.{renaming}
 use Rattle.binding_model.specs.Renaming.{name_of, places, respell}
 use Rattle.capture_check.specs.declared.fault.Fault.{Fault}
 use Rattle.capture_check.specs.declared.fault.Fault.TheVariants.{Clash, Capture, Mislink}

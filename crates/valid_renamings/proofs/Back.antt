@@ -14,7 +14,7 @@ use Rattle.ml_syntax.specs.Tree.{UnitTree}
 use Rattle.shape_core.specs.Respell.{Words}
 use Rattle.shape_core.specs.Shape.{Name, or_else, or_value, some_if}
 use Rattle.binding_model.specs.Facts.{facts, facts_of, IsGood}
-use Rattle.binding_model.specs.Least.{IsBinder}
+use Rattle.binding_model.specs.Renaming.{IsBinder}
 use Rattle.binding_model.specs.Local.{found_at}
 use Rattle.binding_model.specs.Renaming.{Renaming, places, at_place, goal_at, name_of, site_name}
 use Rattle.binding_model.specs.Renaming.{new_word, words_of, respell, Changes, IsFree, IsValid}

@@ -13,7 +13,7 @@ use Rattle.shape_core.specs.Respell.{Words, over}
 use Rattle.shape_core.specs.Shape.{vals}
 use Rattle.binding_model.specs.Facts.{facts, facts_of, AreNamedApart, IsGood}
 use Rattle.binding_model.specs.Laws.{KeepsFixed}
-use Rattle.binding_model.specs.Least.{IsBinder}
+use Rattle.binding_model.specs.Renaming.{IsBinder}
 use Rattle.binding_model.specs.Renaming.{Renaming, places, at_place, words_of, respell, IsFixedSite, IsFree, IsValid}
 use Rattle.binding_model.specs.Steps.{Steps, groups_of}
 use Rattle.binding_model.specs.Walk.{steps}

@@ -11,7 +11,7 @@ use Rattle.ml_syntax.specs.Tree.{UnitTree}
 use Rattle.shape_core.specs.Respell.{Words}
 use Rattle.shape_core.specs.Shape.{Name, or_value}
 use Rattle.binding_model.specs.Facts.{facts, facts_of}
-use Rattle.binding_model.specs.Least.{IsBinder}
+use Rattle.binding_model.specs.Renaming.{IsBinder}
 use Rattle.binding_model.specs.Renaming.{Renaming, at_place, goal_at, name_of, new_word, words_of, respell, Changes, IsFree, IsValid}
 use Rattle.binding_model.specs.Steps.{spell_steps}
 use Rattle.binding_model.specs.Walk.{steps}

@@ -12,7 +12,7 @@ use Rattle.shape_core.specs.Shape.{or_else, some_if}
 use Rattle.binding_model.specs.Steps.{a_ref, refs_of}
 use Rattle.binding_model.specs.Walk.{steps}
 use Rattle.binding_model.specs.Facts.{facts}
-use Rattle.binding_model.specs.Least.{IsBinder}
+use Rattle.binding_model.specs.Renaming.{IsBinder}
 use Rattle.binding_model.specs.Renaming.{goal_at}
 use Rattle.binding_model.proofs.Goals.{goals_found}
 use Rattle.binding_model.proofs.Naming.{each_ordered}

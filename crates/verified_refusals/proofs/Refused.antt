@@ -7,8 +7,8 @@ use Rattle.ml_syntax.specs.Tree.{UnitTree}
 use Rattle.shape_core.specs.Shape.{Name}
 use Rattle.dependency_kernel.specs.Foot.{IsFoot}
 use Rattle.binding_model.specs.Facts.{facts}
-use Rattle.binding_model.specs.Least.{IsBinder}
-use Rattle.binding_model.specs.Local.{renaming}
+use Rattle.binding_model.specs.Renaming.{IsBinder}
+use Rattle.binding_model.specs.Renaming.{renaming}
 use Rattle.respelled_reading.proofs.Renamed.{watches_give_value_names}
 use Rattle.rename_model.specs.Renaming.{watch_of}
 use Rattle.rename_steps.specs.Findings.{IsFree}

@@ -1,6 +1,7 @@
 use Rattle.std.proofs.Common.{◌≡◌, ◌+◌, ◌∙◌, sym, ap, arith}
 use Rattle.ml_syntax.specs.declared.fixed.Fixed.TheVariants as key
-use Rattle.parse_base.specs.Gives.{from, starts}
+use Rattle.parse_base.specs.Gives.{starts}
+use Rattle.parse_base.specs.Tokens.{from}
 use Rattle.parse_base.proofs.Operators.{operator_unclosed}
 use Rattle.parse_base.proofs.Places.{from_next}
 use Rattle.parse_base.proofs.names.operator.Goals as goal

@@ -1,6 +1,6 @@
 use Rattle.std.proofs.Common.{◌≡◌, ℕ, suc, ◌-◌, ◌<◌, ap, arith}
 use Rattle.parse_base.specs.PatReading.{read_pat}
-use Rattle.parse_base.specs.Gives.{from}
+use Rattle.parse_base.specs.Tokens.{from}
 use Rattle.parse_base.proofs.Turns.{deeper}
 use Rattle.parse_base.proofs.patterns.+pattern.Goals as goal
 

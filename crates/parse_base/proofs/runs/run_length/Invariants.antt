@@ -1,7 +1,7 @@
 use Rattle.std.proofs.Common.{◌≡◌, ◌+◌, ◌-◌, ◌<◌, ◌≤◌, [], reverse, Some}
 use Rattle.parse_base.specs.Pieces.{longest}
 use Rattle.parse_base.specs.RunRows.{is_inside, is_beside, run_length, or_later}
-use Rattle.parse_base.specs.Gives.{from}
+use Rattle.parse_base.specs.Tokens.{from}
 use Rattle.parse_base.proofs.runs.run_length.Given as goal
 
 abbrev pub invariant-loop-next : goal.invariant-loop-next

@@ -1,6 +1,6 @@
 use Rattle.std.proofs.Common.{◌≡◌, ◌-◌, map, take}
 use Rattle.ml_syntax.specs.View.{view_tok}
-use Rattle.parse_base.specs.Gives.{from}
+use Rattle.parse_base.specs.Tokens.{from}
 use Rattle.parse_base.proofs.runs.words.Given as goal
 
 abbrev pub invariant-loop-next : goal.invariant-loop-next

@@ -5,7 +5,7 @@ use Rattle.ml_syntax.specs.Tok.{Tok}
 use Rattle.ml_syntax.specs.Tree as pure
 use Rattle.ml_syntax.specs.View.{view, view_path, view_name, view_words}
 use Rattle.ml_syntax.proofs.Variants.{at_expr_value}
-use Rattle.parse_base.specs.Gives.{from}
+use Rattle.parse_base.specs.Tokens.{from}
 use Rattle.parse_base.proofs.Stepping.{some_is}
 use Rattle.expr_reading.specs.ExprReading.{opened_or, qualified}
 use Rattle.parse_expr.proofs.Lone.{plain_value}

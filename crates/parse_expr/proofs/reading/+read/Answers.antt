@@ -1,5 +1,5 @@
 use Rattle.std.proofs.Common.{arith}
-use Rattle.parse_base.specs.Gives.{from}
+use Rattle.parse_base.specs.Tokens.{from}
 use Rattle.parse_base.proofs.Turns.{deeper}
 use Rattle.expr_reading.specs.ExprReading.{read_expr}
 use Rattle.parse_expr.proofs.reading.+read.Goals as goal

@@ -3,7 +3,7 @@ use Rattle.ml_syntax.specs.Tree.{Constraint}
 use Rattle.ml_syntax.specs.View.{view_constraint}
 use Rattle.parse_module.specs.ModReading.{next_constraint}
 use Rattle.parse_base.specs.Steps.{always}
-use Rattle.parse_base.specs.Gives.{from}
+use Rattle.parse_base.specs.Tokens.{from}
 use Rattle.parse_base.proofs.Lone.{list_before}
 use Rattle.parse_base.proofs.Turns.{turn_none, turn_end, pushed}
 use Rattle.parse_module.proofs.constraints.more_constraints.Goals as goal

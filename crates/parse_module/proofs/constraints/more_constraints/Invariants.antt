@@ -2,7 +2,7 @@ use Rattle.std.proofs.Common.{◌-◌, ◌∷◌, [], map}
 use Rattle.ml_syntax.specs.View.{view_constraint}
 use Rattle.parse_module.specs.ModReading.{next_constraint}
 use Rattle.parse_base.specs.Steps.{many, always}
-use Rattle.parse_base.specs.Gives.{from}
+use Rattle.parse_base.specs.Tokens.{from}
 use Rattle.parse_base.proofs.Turns.{Left}
 use Rattle.parse_module.proofs.constraints.more_constraints.Given as goal
 

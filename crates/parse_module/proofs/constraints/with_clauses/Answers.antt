@@ -3,7 +3,7 @@ use Rattle.ml_syntax.specs.Tree.{WithClause}
 use Rattle.ml_syntax.specs.View.{view_with}
 use Rattle.parse_module.specs.ModReading.{with_clause}
 use Rattle.parse_base.specs.Steps.{always}
-use Rattle.parse_base.specs.Gives.{from}
+use Rattle.parse_base.specs.Tokens.{from}
 use Rattle.parse_base.proofs.Lone.{list_before}
 use Rattle.parse_base.proofs.Turns.{turn_none, turn_end, pushed}
 use Rattle.parse_module.proofs.constraints.with_clauses.Goals as goal

@@ -2,7 +2,7 @@ use Rattle.std.proofs.Common.{◌-◌, ◌∷◌, [], map}
 use Rattle.ml_syntax.specs.View.{view_with}
 use Rattle.parse_module.specs.ModReading.{with_clause}
 use Rattle.parse_base.specs.Steps.{many, always}
-use Rattle.parse_base.specs.Gives.{from}
+use Rattle.parse_base.specs.Tokens.{from}
 use Rattle.parse_base.proofs.Turns.{Left}
 use Rattle.parse_module.proofs.constraints.with_clauses.Given as goal
 

@@ -1,6 +1,6 @@
 use Rattle.std.proofs.Common.{◌≡◌, ◌-◌, Some, None, arith}
 use Rattle.ml_syntax.specs.View.{view_mod_type}
-use Rattle.parse_base.specs.Gives.{from}
+use Rattle.parse_base.specs.Tokens.{from}
 use Rattle.parse_base.proofs.Turns.{deeper}
 use Rattle.parse_module.specs.ModReading.{read_mod, read_type}
 use Rattle.parse_module.specs.Arrows.{before_arrow}

@@ -1,5 +1,5 @@
 use Rattle.std.proofs.Common.{◌≡◌, ◌-◌}
-use Rattle.parse_base.specs.Gives.{from}
+use Rattle.parse_base.specs.Tokens.{from}
 use Rattle.parse_module.specs.ModReading.{read_type}
 use Rattle.parse_module.specs.Arrows.{before_arrows}
 use Rattle.parse_module.proofs.reading.+modules.Given as goal

@@ -1,6 +1,6 @@
 use Rattle.std.proofs.Common.{inl, subst}
 use Rattle.ml_syntax.specs.View.{view_project}
-use Rattle.binding_model.specs.Least.{IsBinder}
+use Rattle.binding_model.specs.Renaming.{IsBinder}
 use Rattle.rename_model.proofs.One.{one_name}
 use Rattle.rename_parts.specs.Binders.{IsMarkAt}
 use Rattle.rename_project.proofs.aim.find_aim.Goals as goal

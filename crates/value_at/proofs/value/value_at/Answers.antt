@@ -3,7 +3,7 @@ use Rattle.rotor_base.specs.declared.place.Facts.{Facts}
 use Rattle.rotor_base.specs.declared.place.Ref.{Ref}
 use Rattle.ml_syntax.specs.View.{view_project}
 use Rattle.binding_model.specs.Facts.{facts}
-use Rattle.binding_model.specs.Least.{IsBinder}
+use Rattle.binding_model.specs.Renaming.{IsBinder}
 use Rattle.binding_model.specs.Renaming.{goal_at}
 use Rattle.rename_parts.specs.Binders.{IsMarkAt}
 use Rattle.value_at.specs.Value.{IsValueAt}

@@ -3,7 +3,7 @@ use Rattle.ml_syntax.specs.Tok.{Name}
 use Rattle.ml_syntax.specs.View.{view_word}
 use Rattle.parse_base.specs.Steps.{always}
 use Rattle.parse_base.specs.Pieces.{lower_word}
-use Rattle.parse_base.specs.Gives.{from}
+use Rattle.parse_base.specs.Tokens.{from}
 use Rattle.parse_base.proofs.Turns.{turn_none, turn_end, pushed}
 use Rattle.parse_base.proofs.Lone.{list_before}
 use Rattle.expr_forms.proofs.grammar.Grammar.more_types.Goals as goal

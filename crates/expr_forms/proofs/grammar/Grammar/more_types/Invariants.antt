@@ -2,7 +2,7 @@ use Rattle.std.proofs.Common.{◌-◌, ◌∷◌, [], map}
 use Rattle.ml_syntax.specs.View.{view_word}
 use Rattle.parse_base.specs.Steps.{many, always}
 use Rattle.parse_base.specs.Pieces.{lower_word}
-use Rattle.parse_base.specs.Gives.{from}
+use Rattle.parse_base.specs.Tokens.{from}
 use Rattle.parse_base.proofs.Turns.{Left}
 use Rattle.expr_forms.proofs.grammar.Grammar.more_types.Given as goal
 

@@ -1,6 +1,6 @@
 use Rattle.std.proofs.Common.{Some, ap}
 use Rattle.parse_base.specs.PatReading.{simple_pat, read_pat}
-use Rattle.parse_base.specs.Gives.{from}
+use Rattle.parse_base.specs.Tokens.{from}
 use Rattle.parse_base.proofs.Lone.{applied_other}
 use Rattle.parse_base.proofs.patterns.Grammar.argument.Goals as goal
 

@@ -7,7 +7,7 @@ use Rattle.parse_base.specs.Steps.{many, always}
 use Rattle.parse_base.specs.Pieces.{dot_upper, upper_dot}
 use Rattle.parse_base.specs.PatReading as r
 use Rattle.parse_base.specs.PatReading.{read_pat}
-use Rattle.parse_base.specs.Gives.{from}
+use Rattle.parse_base.specs.Tokens.{from}
 use Rattle.parse_base.proofs.Turns.{Left}
 use Rattle.parse_base.proofs.patterns.Grammar.more_applied.Given as goal
 

@@ -3,7 +3,7 @@ use Rattle.ml_syntax.specs.View.{view_name}
 use Rattle.ml_syntax.proofs.Variants.{at_pat_value}
 use Rattle.parse_base.specs.Pieces.{operator_at}
 use Rattle.parse_base.specs.PatReading.{read_pat}
-use Rattle.parse_base.specs.Gives.{from}
+use Rattle.parse_base.specs.Tokens.{from}
 use Rattle.parse_base.proofs.Operators.{paren_operator, paren_other}
 use Rattle.parse_base.proofs.patterns.Grammar.parenthesized.Goals as goal
 

@@ -2,7 +2,7 @@ use Rattle.std.proofs.Common.{◌≡◌, ◌-◌, Some, map, ◌+◌, ◌*◌}
 use Rattle.ml_syntax.specs.Tree as pure
 use Rattle.ml_syntax.specs.View.{view}
 use Rattle.parse_base.specs.Steps.{many}
-use Rattle.parse_base.specs.Gives.{from}
+use Rattle.parse_base.specs.Tokens.{from}
 use Rattle.expr_reading.specs.ExprReading as r
 use Rattle.expr_reading.specs.ExprReading.{read_expr, read_local}
 use Rattle.expr_parts.specs.Rows.{operand_of, comma_of}

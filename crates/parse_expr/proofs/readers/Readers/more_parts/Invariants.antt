@@ -2,7 +2,7 @@ use Rattle.std.proofs.Common.{◌-◌, map}
 use Rattle.ml_syntax.specs.Tree as pure
 use Rattle.ml_syntax.specs.View.{view_part}
 use Rattle.parse_base.specs.Steps.{many, always}
-use Rattle.parse_base.specs.Gives.{from}
+use Rattle.parse_base.specs.Tokens.{from}
 use Rattle.expr_reading.specs.ExprReading as r
 use Rattle.expr_reading.specs.ExprReading.{read_expr, read_local}
 use Rattle.parse_base.proofs.Turns.{Left}

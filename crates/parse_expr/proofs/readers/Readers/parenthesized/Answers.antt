@@ -3,7 +3,7 @@ use Rattle.ml_syntax.specs.Tree as pure
 use Rattle.parse_base.proofs.Stepping.{some_is}
 use Rattle.ml_syntax.specs.View.{view_name}
 use Rattle.parse_base.specs.Pieces.{operator_at}
-use Rattle.parse_base.specs.Gives.{from}
+use Rattle.parse_base.specs.Tokens.{from}
 use Rattle.expr_reading.specs.ExprReading.{read_expr}
 use Rattle.parse_expr.proofs.Lone.{paren_operator, paren_other}
 use Rattle.parse_expr.proofs.readers.Readers.parenthesized.Goals as goal

@@ -3,7 +3,7 @@ use Rattle.ml_syntax.specs.Tree as pure
 use Rattle.ml_syntax.specs.View.{view_mod_argument}
 use Rattle.parse_module.specs.ModReading.{read_mod, read_type, mod_argument}
 use Rattle.parse_base.specs.Steps.{always}
-use Rattle.parse_base.specs.Gives.{from}
+use Rattle.parse_base.specs.Tokens.{from}
 use Rattle.parse_module.proofs.ItemTurns.{arguments_before}
 use Rattle.parse_base.proofs.Turns.{turn_none, turn_end, pushed}
 use Rattle.parse_module.proofs.modules.Modules.arguments.Goals as goal

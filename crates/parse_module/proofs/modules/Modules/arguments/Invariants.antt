@@ -3,7 +3,7 @@ use Rattle.ml_syntax.specs.Tree as pure
 use Rattle.ml_syntax.specs.View.{view_mod_argument}
 use Rattle.parse_module.specs.ModReading.{read_mod, read_type, mod_argument}
 use Rattle.parse_base.specs.Steps.{many, always}
-use Rattle.parse_base.specs.Gives.{from}
+use Rattle.parse_base.specs.Tokens.{from}
 use Rattle.parse_base.proofs.Turns.{Left}
 use Rattle.parse_module.proofs.modules.Modules.arguments.Given as goal
 

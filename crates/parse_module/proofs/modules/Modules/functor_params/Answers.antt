@@ -3,7 +3,7 @@ use Rattle.ml_syntax.specs.Tree as pure
 use Rattle.ml_syntax.specs.View.{view_functor_param}
 use Rattle.parse_module.specs.ModReading.{read_mod, read_type, functor_param}
 use Rattle.parse_base.specs.Steps.{always}
-use Rattle.parse_base.specs.Gives.{from}
+use Rattle.parse_base.specs.Tokens.{from}
 use Rattle.parse_module.proofs.ItemTurns.{params_before}
 use Rattle.parse_base.proofs.Turns.{turn_none, turn_end, pushed}
 use Rattle.parse_module.proofs.modules.Modules.functor_params.Goals as goal

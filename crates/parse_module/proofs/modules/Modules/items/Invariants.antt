@@ -1,6 +1,6 @@
 use Rattle.std.proofs.Common.{◌-◌, true, map}
 use Rattle.ml_syntax.specs.View.{view_item}
-use Rattle.parse_base.specs.Gives.{from}
+use Rattle.parse_base.specs.Tokens.{from}
 use Rattle.parse_module.specs.ModReading.{read_mod, read_type, items_of}
 use Rattle.parse_module.proofs.ItemTurns.{LeftItems}
 use Rattle.parse_module.proofs.modules.Modules.items.Given as goal

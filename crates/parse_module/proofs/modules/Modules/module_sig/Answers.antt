@@ -1,5 +1,5 @@
 use Rattle.std.proofs.Common.{◌≡◌, ◌+◌, sym, ◌∙◌, arith}
-use Rattle.parse_base.specs.Gives.{from}
+use Rattle.parse_base.specs.Tokens.{from}
 use Rattle.parse_module.proofs.Rows.{sig_type, sig_alias, sig_rest}
 use Rattle.parse_module.proofs.modules.Modules.module_sig.Goals as goal
 

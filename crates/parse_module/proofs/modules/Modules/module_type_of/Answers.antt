@@ -1,5 +1,5 @@
 use Rattle.std.proofs.Common.{◌≡◌, ◌+◌, arith}
-use Rattle.parse_base.specs.Gives.{from}
+use Rattle.parse_base.specs.Tokens.{from}
 use Rattle.parse_module.proofs.Rows.{of_type}
 use Rattle.parse_module.proofs.modules.Modules.module_type_of.Goals as goal
 

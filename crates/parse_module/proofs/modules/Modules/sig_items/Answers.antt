@@ -3,7 +3,7 @@ use Rattle.ml_syntax.specs.Tree as pure
 use Rattle.ml_syntax.specs.View.{view_sig_item}
 use Rattle.parse_module.specs.ModReading.{read_mod, read_type, sig_item}
 use Rattle.parse_base.specs.Steps.{always}
-use Rattle.parse_base.specs.Gives.{from}
+use Rattle.parse_base.specs.Tokens.{from}
 use Rattle.parse_module.proofs.ItemTurns.{sig_items_before}
 use Rattle.parse_base.proofs.Turns.{turn_none, turn_end, pushed}
 use Rattle.parse_module.proofs.modules.Modules.sig_items.Goals as goal
