@@ -10,7 +10,7 @@ use Rattle.ml_syntax.specs.Tree.{UnitTree}
 use Rattle.messages.specs.declared.parts.Message.{Message}
 use Rattle.project_reading.specs.Reads.{IsRefused, Reads, Unread}
 use Rattle.refusal_words.specs.Cut.{AreCuts, Cut}
-use Rattle.refusal_words.specs.Refused.{project_message}
+use Rattle.refusal_places.specs.Placed.{SaysPlaced}
 use Rattle.explain.specs.Refused.{is_memory}
 use Rattle.explain.specs.Sources.{IsNoProject, SaysSource, SaysSources, alone, no_project, none, one_more, outside, read, refused}
 use Rattle.explain.specs.Told.{listed}
@@ -25,7 +25,7 @@ held files why (inl h) m = h
 held files why (inr e) m = let wrong : true ≡ false = ap is_memory (sym e) ∙ m in absurd cc
 
 pub source_outside : (s : SourceFile) (files : FileSet) (why : Refusal) (cuts : List Cut) (said : Option Message) → files ≡ alone s
-    → IsRefused files why → is_memory why ≡ false → AreCuts files.entries cuts → said ≡ project_message cuts why
+    → IsRefused files why → is_memory why ≡ false → AreCuts files.entries cuts → SaysPlaced cuts why said
     → SaysSource s said
 source_outside s files why cuts said same h m cut e =
     outside why cuts (subst (λ f. Unread f why) same (held files why h m)) (subst (λ (f : FileSet). AreCuts f.entries cuts) same cut) e

@@ -21,7 +21,7 @@ use Rattle.explain.specs.Diffs.{AreDiffs}
 use Rattle.explain.specs.Lines.{place_line, place_word}
 use Rattle.explain.specs.Refused.{SaysProject, SaysRefusal}
 use Rattle.explain.specs.Shown.{place_messages, shown_text}
-use Rattle.explain.specs.Told.{bare_told}
+use Rattle.difference_words.specs.Warnings.{AreWarnings, CountsWarnings}
 
 -- what a project has
 abbrev pub counts_text : Counts → Word
@@ -29,10 +29,17 @@ counts_text c =
     join (counted c.files (codes "source") ∷ codes ", " ∷ counted c.units (codes "unit") ∷ codes ", "
     ∷ counted c.declarations (codes "declaration") ∷ codes ", " ∷ counted c.references (codes "use") ∷ codes ": all of it is read\n" ∷ [])
 
--- `check`: what the project has; or what is said of its first refusal
+-- a folder that is read: the warnings of the places at which OCaml may read it otherwise, and what the project has
+pub record SaysChecked (files : FileSet) (counts : Counts) (told : Told) : Type 0 where
+  pub ending : told.ending ≡ Done
+  pub warnings : AreWarnings files told.messages
+  pub text : told.text ≡ counts_text counts
+  pub places : told.places ≡ []
+
+-- `check`: warnings and what the project has; or what is said of its first refusal
 abbrev pub SaysCheck : FileSet → Told → Type 0
 SaysCheck files told =
-    ((counts : Counts) × Checks files (Ok counts) × (told ≡ bare_told Done (counts_text counts)))
+    ((counts : Counts) × Checks files (Ok counts) × SaysChecked files counts told)
     ⊎ ((why : Refusal) × Checks files (Err why) × SaysProject files why told)
 
 -- the first line of a renaming that is accepted
@@ -50,17 +57,19 @@ pub data AreToolPlaces (known : Facts) (cuts : List Cut) (foot : Foot) : Bool �
   not_asked : AreToolPlaces known cuts foot false []
   asked : AreToolPlaces known cuts foot true (place_messages cuts (places_of known.refs foot))
 
--- a renaming that is accepted: its line, its declarations, and the diffs of the changed sources
+-- a renaming that is accepted: its line, its declarations, the number of warnings, and the diffs of the changed sources
 pub record SaysDone (files : FileSet) (done : Renamed) (for_tools : Bool) (told : Told) : Type 0 where
   pub cuts : List Cut
   pub diffs : List ℕ
+  pub count : Word
   pub known : Facts
   pub cut : AreCuts files.entries cuts
   pub facts : AreFacts files known
+  pub counts : CountsWarnings files count
   pub are_diffs : AreDiffs files.entries done.files.entries done.changed diffs
   pub ending : told.ending ≡ Done
   pub messages : told.messages ≡ []
-  pub text : told.text ≡ renamed_line done ++ declaration_lines cuts done ++ diffs
+  pub text : told.text ≡ renamed_line done ++ declaration_lines cuts done ++ count ++ diffs
   pub places : AreToolPlaces known cuts done.foot for_tools told.places
 
 -- `rename`: the renaming; or what is said of its first refusal
@@ -69,18 +78,20 @@ SaysRename files target new for_tools told =
     ((done : Renamed) × Renames files target new (Ok done) × SaysDone files done for_tools told)
     ⊎ ((why : Refusal) × Renames files target new (Err why) × SaysRefusal files target new why told)
 
--- a footprint, by the facts of the folder: its line, a line for each place, and one for the declaration that is fixed from
--- outside
+-- a footprint, by the facts of the folder: its line, a line for each place, one for the declaration that is fixed from
+-- outside, and the number of warnings
 pub record SaysShown (files : FileSet) (shown : FootReport) (told : Told) : Type 0 where
   pub cuts : List Cut
+  pub count : Word
   pub known : Facts
   pub cut : AreCuts files.entries cuts
   pub facts : AreFacts files known
+  pub counts : CountsWarnings files count
   pub said : told
       ≡ record {
         ending = Done;
         messages = [];
-        text = shown_text cuts shown (places_of known.refs shown.foot);
+        text = shown_text cuts shown (places_of known.refs shown.foot) ++ count;
         places = place_messages cuts (places_of known.refs shown.foot);
       }
 

@@ -9,7 +9,7 @@ use Rattle.ml_syntax.specs.Tree.{UnitTree}
 use Rattle.messages.specs.declared.parts.Message.{Message}
 use Rattle.project_reading.specs.Reads.{Reads, Unread}
 use Rattle.refusal_words.specs.Cut.{AreCuts, Cut}
-use Rattle.refusal_words.specs.Refused.{project_message}
+use Rattle.refusal_places.specs.Placed.{SaysPlaced}
 use Rattle.explain.specs.Told.{listed}
 
 -- the project of a source alone
@@ -24,7 +24,7 @@ pub data IsNoProject (source : SourceFile) : Type 0 where
 -- what is said of a source: if it is outside the language, the message of its first reason
 pub data SaysSource (source : SourceFile) (said : Option Message) : Type 0 where
   read : (us : List UnitTree) → Reads (alone source) us → said ≡ None → SaysSource source said
-  outside : (why : Refusal) (cuts : List Cut) → Unread (alone source) why → AreCuts (source ∷ []) cuts → said ≡ project_message cuts why
+  outside : (why : Refusal) (cuts : List Cut) → Unread (alone source) why → AreCuts (source ∷ []) cuts → SaysPlaced cuts why said
       → SaysSource source said
   no_project : IsNoProject source → said ≡ None → SaysSource source said
 

@@ -1,27 +1,33 @@
 //! What is said of a folder that is checked.
-ghost use Rattle.std.specs.Prelude.{◌≡◌, Err, IfOk};
+ghost use Rattle.std.specs.Prelude.{◌≡◌, Err, IfOk, Ok, map};
+ghost use Rattle.ml_lexer.specs.Lexed.{view_tokens};
+ghost use Rattle.ml_syntax.specs.View.{view_project};
+ghost use Rattle.binding_model.specs.Facts.{facts as facts_of};
+ghost use Rattle.project_reading.specs.Reads.{Reads};
+ghost use Rattle.project_reading.specs.Sources.{AreCut};
 ghost use Rattle.rename_files.specs.Answer.{Checks};
-ghost use Rattle.rename_project.specs.Steps.{IsRefusedFor};
+ghost use Rattle.rename_model.specs.Project.{refusals_of_project};
+ghost use Rattle.rename_project.specs.Steps.{IsFreeOf, IsRefusedFor};
 ghost use Rattle.explain.specs.Says.{SaysCheck, counts_text as counts_text_of};
 
 use crate::ending::Ending;
+use crate::opened::{Opened, open_folder};
 use crate::refused::{is_memory, project_told};
-use crate::told::{Told, bare_told};
+use crate::told::Told;
+use difference_words::warnings;
 use messages::{counted, joined};
-use rename_files::check;
+use rename_parts::binder_places;
 use rotor_base::{Counts, Files, Memory, Refusal, Row};
 use std::alloc::Global;
 
-/// What is said of the files of a project: what they have; or the first refusal of `check`, and if a source is outside the
-/// language, a message for each that is. The one error is want of memory.
+/// What is said of the files of a project: warnings of the places at which OCaml may read them otherwise, and what they
+/// have; or the first refusal of `check`, and if a source is outside the language, a message for each that is. The one error
+/// is want of memory.
 pub fn explain_check(alloc: Global, files: &Files) -> Result<Told, Memory>
     ensures { IfOk result (SaysCheck files.now) }
 {
-    match check(alloc, files) {
-        Ok(counts) => {
-            let text = counts_text(alloc, &counts)?;
-            Ok(bare_told(alloc, Ending::Done, text))
-        }
+    match open_folder(alloc, files) {
+        Ok(opened) => checked_told(alloc, files, &opened),
         Err(refusal) => refused_check(alloc, files, &refusal),
     }
 }
@@ -37,7 +43,42 @@ fn refused_check(alloc: Global, files: &Files, refusal: &Refusal) -> Result<Told
     project_told(alloc, files, refusal)
 }
 
+/// What is said of a folder that is read.
+fn checked_told(alloc: Global, files: &Files, opened: &Opened<'_>) -> Result<Told, Memory>
+    requires reads { Reads files.now (view_project opened.now.read.project) }
+    requires cut { AreCut files.now.entries (map (λ list. view_tokens list.items) opened.now.read.tokens.items) }
+    requires passed { IsFreeOf (refusals_of_project (view_project opened.now.read.project)) }
+    requires facts { opened.now.resolved.facts ≡ facts_of (view_project opened.now.read.project) }
+    ensures { IfOk result (SaysCheck files.now) }
+{
+    let counts = counts_of(alloc, files, opened)?;
+    let messages = warnings(alloc, files, &opened.read)?;
+    Ok(Told {
+        ending: Ending::Done,
+        messages,
+        text: counts_text(alloc, &counts)?,
+        places: Row::new(alloc),
+    })
+}
+
 /// What a project has.
+fn counts_of(alloc: Global, files: &Files, opened: &Opened<'_>) -> Result<Counts, Memory>
+    requires reads { Reads files.now (view_project opened.now.read.project) }
+    requires passed { IsFreeOf (refusals_of_project (view_project opened.now.read.project)) }
+    requires facts { opened.now.resolved.facts ≡ facts_of (view_project opened.now.read.project) }
+    ensures { IfOk result (λ counts. Checks files.now (Ok counts)) }
+{
+    let binders = binder_places(alloc, &opened.read.project)?;
+    Ok(Counts {
+        files: files.entries().len() as u64,
+        units: opened.read.project.units.as_slice().len() as u64,
+        declarations: binders.as_slice().len() as u64,
+        references: opened.resolved.facts.refs.as_slice().len() as u64,
+        links: opened.resolved.facts.links.as_slice().len() as u64,
+    })
+}
+
+/// What is said of what a project has.
 fn counts_text(alloc: Global, counts: &Counts) -> Result<Row<u8>, Memory>
     ensures { IfOk result (λ text. text ≡ counts_text_of counts.now) }
 {

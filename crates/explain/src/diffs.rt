@@ -7,7 +7,7 @@ use source_diff::diff;
 use std::alloc::Global;
 
 /// The diffs of the sources of these numbers, in order. The one error is want of memory.
-pub(crate) fn diffs_text(
+pub fn diffs_text(
     alloc: Global,
     old: &[SourceFile],
     new: &[SourceFile],

@@ -17,7 +17,9 @@ mod targets;
 mod told;
 
 pub use checked::explain_check;
+pub use diffs::diffs_text;
 pub use ending::Ending;
+pub use lines::{place_message, place_word};
 pub use renamed::explain_rename;
 pub use shown::explain_footprint;
-pub use told::{Told, told_text, unloaded_told};
+pub use told::{Told, bare_told, maybe_told, told_text, unloaded_told};

@@ -9,7 +9,7 @@ use rotor_base::{Memory, Place, Row};
 use std::alloc::Global;
 
 /// What a place is in a footprint.
-pub(crate) fn place_word(is_declaration: bool) -> &'static str
+pub fn place_word(is_declaration: bool) -> &'static str
     ensures { result.now ≡ place_word_of is_declaration }
 {
     if is_declaration { "declaration" } else { "use" }
@@ -47,8 +47,8 @@ pub(crate) fn push_place(
     Ok(())
 }
 
-/// The message of a place, with what it is.
-pub(crate) fn place_message(
+/// The message of a place, with what it is. The one error is want of memory.
+pub fn place_message(
     alloc: Global,
     cuts: &[CutSource<'_>],
     word: &str,

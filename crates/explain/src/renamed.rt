@@ -1,5 +1,9 @@
 //! What is said of a renaming.
 ghost use Rattle.std.specs.Prelude.{◌≡◌, ◌++◌, Bool, Err, IfOk, map};
+ghost use Rattle.ml_lexer.specs.Lexed.{view_tokens};
+ghost use Rattle.ml_syntax.specs.View.{view_project};
+ghost use Rattle.project_reading.specs.Reads.{Reads};
+ghost use Rattle.project_reading.specs.Sources.{AreCut};
 ghost use Rattle.refusal_words.specs.Cut.{view_cut};
 ghost use Rattle.rename_files.specs.Answer.{Renames};
 ghost use Rattle.rename_project.specs.Steps.{IsRefusedFor};
@@ -9,14 +13,15 @@ ghost use Rattle.explain.specs.Says.{SaysDone, SaysRename, declaration_lines, re
 use crate::diffs::diffs_text;
 use crate::ending::Ending;
 use crate::lines::push_declarations;
-use crate::opened::open_folder;
+use crate::opened::{Opened, open_folder};
 use crate::refused::{is_memory, refusal_told};
 use crate::shown::tool_places;
 use crate::told::Told;
+use difference_words::counted_differences;
 use messages::{counted, joined};
 use refusal_words::{CutSource, cut_sources};
 use rename_files::rename_in;
-use rotor_base::{Facts, Files, Memory, Refusal, Renamed, Row, Target};
+use rotor_base::{Files, Memory, Refusal, Renamed, Row, Target};
 use std::alloc::Global;
 
 /// What is said of a renaming of the declaration that a target names: the declarations and the diffs of the sources; or
@@ -36,7 +41,7 @@ pub fn explain_rename(
         Err(refusal) => return refused_renaming(alloc, files, target, name, &refusal),
     };
     match rename_in(alloc, files, &opened.read, &opened.resolved, target, name) {
-        Ok(done) => done_told(alloc, files, &opened.resolved.facts, &done, for_tools),
+        Ok(done) => done_told(alloc, files, &opened, &done, for_tools),
         Err(refusal) => refused_renaming(alloc, files, target, name, &refusal),
     }
 }
@@ -62,36 +67,42 @@ fn refused_renaming(
 fn done_told(
     alloc: Global,
     files: &Files,
-    facts: &Facts,
+    opened: &Opened<'_>,
     done: &Renamed,
     for_tools: bool,
 ) -> Result<Told, Memory>
-    requires { AreFacts files.now facts.now }
+    requires reads { Reads files.now (view_project opened.now.read.project) }
+    requires cut { AreCut files.now.entries (map (λ list. view_tokens list.items) opened.now.read.tokens.items) }
+    requires facts { AreFacts files.now opened.now.resolved.facts }
     ensures { IfOk result (SaysDone files.now done.now for_tools) }
 {
     let cuts = cut_sources(alloc, files.entries())?;
     let changed = done.changed.as_slice();
     let diffs = diffs_text(alloc, files.entries(), done.files.entries(), changed)?;
+    let count = counted_differences(alloc, files, &opened.read)?;
+    let facts = &opened.resolved.facts;
     Ok(Told {
         ending: Ending::Done,
         messages: Row::new(alloc),
-        text: done_text(alloc, &cuts, done, &diffs)?,
+        text: done_text(alloc, &cuts, done, count.as_slice(), &diffs)?,
         places: tool_places(alloc, &cuts, facts, &done.foot, for_tools)?,
     })
 }
 
-/// The text of a renaming that is accepted: its line, its declarations, and these diffs.
+/// The text of a renaming that is accepted: its line, its declarations, the line that counts warnings, and the diffs.
 fn done_text(
     alloc: Global,
     cuts: &[CutSource<'_>],
     done: &Renamed,
+    count: &[u8],
     diffs: &[u8],
 ) -> Result<Row<u8>, Memory>
-    ensures { IfOk result (λ text. text ≡ renamed_line_of done.now ++ declaration_lines (map view_cut cuts.now) done.now ++ diffs.now) }
+    ensures { IfOk result (λ text. text ≡ renamed_line_of done.now ++ declaration_lines (map view_cut cuts.now) done.now ++ count.now ++ diffs.now) }
 {
     let line = renamed_line(alloc, done)?;
     let mut text = line.as_slice().to_vec(alloc)?;
     push_declarations(alloc, &mut text, cuts, done.foot.decls.as_slice())?;
+    text.extend_from_slice(count)?;
     text.extend_from_slice(diffs)?;
     Ok(Row::from_vec(text))
 }

@@ -1,5 +1,9 @@
 //! What is said of a footprint.
 ghost use Rattle.std.specs.Prelude.{◌≡◌, ◌++◌, Err, IfOk, Ok, OnOk, map};
+ghost use Rattle.ml_lexer.specs.Lexed.{view_tokens};
+ghost use Rattle.ml_syntax.specs.View.{view_project};
+ghost use Rattle.project_reading.specs.Reads.{Reads};
+ghost use Rattle.project_reading.specs.Sources.{AreCut};
 ghost use Rattle.refusal_words.specs.Cut.{view_cut};
 ghost use Rattle.rename_files.specs.Answer.{Shows};
 ghost use Rattle.rename_project.specs.Steps.{IsRefusedFor};
@@ -12,6 +16,7 @@ use crate::lines::{place_message, place_word, push_place};
 use crate::opened::{Opened, open_folder};
 use crate::refused::{is_memory, refusal_told};
 use crate::told::Told;
+use difference_words::counted_differences;
 use messages::{Message, counted, joined, spot_text};
 use refusal_words::{CutSource, cut_sources, place_spot};
 use rename_files::foot_in;
@@ -59,28 +64,34 @@ fn shown_footprint(
     target: &Target,
     shown: &FootReport,
 ) -> Result<Told, Memory>
+    requires reads { Reads files.now (view_project opened.now.read.project) }
+    requires cut { AreCut files.now.entries (map (λ list. view_tokens list.items) opened.now.read.tokens.items) }
     requires known { AreFacts files.now opened.now.resolved.facts }
     requires shown { Shows files.now target.now (Ok shown.now) }
     ensures { IfOk result (SaysFootprint files.now target.now) }
 {
-    shown_told(alloc, files, &opened.resolved.facts, shown)
+    shown_told(alloc, files, opened, shown)
 }
 
 /// What is said of a footprint that is shown, over the facts of the folder.
 fn shown_told(
     alloc: Global,
     files: &Files,
-    facts: &Facts,
+    opened: &Opened<'_>,
     shown: &FootReport,
 ) -> Result<Told, Memory>
-    requires { AreFacts files.now facts.now }
+    requires reads { Reads files.now (view_project opened.now.read.project) }
+    requires cut { AreCut files.now.entries (map (λ list. view_tokens list.items) opened.now.read.tokens.items) }
+    requires facts { AreFacts files.now opened.now.resolved.facts }
     ensures { IfOk result (SaysShown files.now shown.now) }
 {
     let cuts = cut_sources(alloc, files.entries())?;
-    let places = places_of(alloc, facts, &shown.foot)?;
+    let places = places_of(alloc, &opened.resolved.facts, &shown.foot)?;
+    let count = counted_differences(alloc, files, &opened.read)?;
     let mut text = shown_line(alloc, shown)?.into_vec();
     push_places(alloc, &mut text, &cuts, &places)?;
     push_outside(alloc, &mut text, &cuts, shown.foot.outside)?;
+    text.extend_from_slice(count.as_slice())?;
     Ok(Told {
         ending: Ending::Done,
         messages: Row::new(alloc),

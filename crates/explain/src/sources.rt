@@ -8,7 +8,8 @@ ghost use Rattle.explain.specs.Told.{listed};
 use crate::refused::is_memory;
 use messages::Message;
 use project_reading::read_project;
-use refusal_words::{cut_sources, project_message};
+use refusal_places::placed_message;
+use refusal_words::cut_sources;
 use rotor_base::{Files, LoadError, Memory, Refusal, Row, SourceFile, Text, is_source, make_files};
 use std::alloc::Global;
 
@@ -74,7 +75,7 @@ fn outside_message(
         return Err(Memory);
     }
     let cuts = cut_sources(alloc, files.entries())?;
-    project_message(alloc, &cuts, refusal)
+    placed_message(alloc, &cuts, refusal)
 }
 
 /// The project of a source alone.

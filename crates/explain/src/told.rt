@@ -31,12 +31,8 @@ pub(crate) fn messages_told(alloc: Global, ending: Ending, messages: Row<Message
     }
 }
 
-/// What is said of one message, if there is one.
-pub(crate) fn maybe_told(
-    alloc: Global,
-    ending: Ending,
-    message: Option<Message>,
-) -> Result<Told, Memory>
+/// What is said of one message, if there is one. The one error is want of memory.
+pub fn maybe_told(alloc: Global, ending: Ending, message: Option<Message>) -> Result<Told, Memory>
     ensures { IfOk result (λ told. told ≡ maybe_told_of ending message) }
 {
     let mut messages = Row::new(alloc);
@@ -54,7 +50,7 @@ pub fn unloaded_told(alloc: Global, message: Option<Message>) -> Result<Told, Me
 }
 
 /// A text for people alone.
-pub(crate) fn bare_told(alloc: Global, ending: Ending, text: Row<u8>) -> Told
+pub fn bare_told(alloc: Global, ending: Ending, text: Row<u8>) -> Told
     ensures { result ≡ bare_told_of ending text }
 {
     Told {

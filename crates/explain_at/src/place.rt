@@ -6,11 +6,11 @@ ghost use Rattle.binding_model.specs.Facts.{facts as facts_of};
 ghost use Rattle.refusal_words.specs.Cut.{view_cut};
 ghost use Rattle.refusal_words.specs.Parts.{placed as placed_of};
 ghost use Rattle.refusal_words.specs.Stretches.{place_spot as place_spot_of};
-ghost use Rattle.explain.specs.Lines.{place_message as place_message_of, place_word};
+ghost use Rattle.explain.specs.Lines.{place_message as place_message_of, place_word as place_word_of};
 ghost use Rattle.messages.specs.declared.kinds.Kind.TheVariants as kind;
 ghost use Rattle.explain_at.specs.At.{SaysPlace, declaration_message as declaration_message_of, refused_at as refused_at_of, target_line as target_line_of, target_told as target_told_of, valueless as valueless_of, valueless_text as valueless_text_of};
 
-use explain::{Ending, Told};
+use explain::{Ending, Told, maybe_told, place_message, place_word};
 use messages::{Kind, Message, Severity, joined};
 use ml_syntax::Project;
 use refusal_words::{CutSource, place_spot, word_at};
@@ -41,14 +41,7 @@ pub(crate) fn place_told(
 pub(crate) fn refused_at(alloc: Global, message: Message) -> Result<Told, Memory>
     ensures { IfOk result (λ told. told ≡ refused_at_of message) }
 {
-    let mut messages = Row::new(alloc);
-    messages.push(message)?;
-    Ok(Told {
-        ending: Ending::Refused,
-        messages,
-        text: Row::new(alloc),
-        places: Row::new(alloc),
-    })
+    maybe_told(alloc, Ending::Refused, Some(message))
 }
 
 /// The target of a declaration, on a line.
@@ -86,16 +79,7 @@ fn declaration_message(
 ) -> Result<Message, Memory>
     ensures { IfOk result (λ message. message ≡ declaration_message_of (map view_cut cuts.now) declared) }
 {
-    let text = Row::from_vec(b"declaration".to_vec(alloc)?);
-    let spot = place_spot(alloc, cuts, declared)?;
-    Ok(Message {
-        severity: Severity::Info,
-        kind: Kind::Place,
-        text,
-        at: Some(spot),
-        notes: Row::new(alloc),
-        help: None,
-    })
+    place_message(alloc, cuts, place_word(true), declared)
 }
 
 /// The message of a token that declares and uses no value of the folder.

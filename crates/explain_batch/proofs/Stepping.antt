@@ -12,8 +12,11 @@ use Rattle.rename_batch.specs.Batch.{Batches, IsFailedFor, Stops}
 use Rattle.messages.specs.declared.parts.Message.{Message}
 use Rattle.refusal_words.specs.Cut.{AreCuts, view_cut}
 use Rattle.refusal_words.specs.declared.cut.CutSource.{CutSource}
-use Rattle.refusal_words.specs.Refused.{project_message}
+use Rattle.refusal_places.specs.Placed.{SaysPlaced}
+use Rattle.refusal_words.specs.Refused.{in_step}
+use Rattle.explain.specs.declared.ending.Ending.TheVariants.{Project}
 use Rattle.explain.specs.Says.{SaysRename}
+use Rattle.explain.specs.Told.{maybe_told}
 use Rattle.explain.specs.declared.told.Told.{Told}
 use Rattle.explain_batch.specs.Steps.{IsStopped, SaysDone, SaysStep, SaysStepAfter, SaysSteps, batched, in_steps, stopped}
 
@@ -61,16 +64,34 @@ said_stopped files steps number front why before step (Ok told) e stops done her
 -- what is said of a renaming is said of its step, if no message of a project is
 pub said_renaming : {E : Type 0} (files : FileSet) (step : Step) (number : ℕ) (why : Refusal) (sources : List SourceFile)
     (cuts these : List CutSource) (found : Option Message) (name : List ℕ) (said : Told) (result : Result Told E) → sources ≡ files.entries
-    → AreCuts sources (map view_cut cuts) → these ≡ cuts → found ≡ project_message (map view_cut these) why → found ≡ None → name ≡ step.name
+    → AreCuts sources (map view_cut cuts) → these ≡ cuts → SaysPlaced (map view_cut these) why found → found ≡ None → name ≡ step.name
     → SaysRename files step.target name false said → IfOk result (λ told. told ≡ in_steps number said)
     → IfOk result (SaysStepAfter files step number why)
-said_renaming files step number why sources cuts these found name said (Err m) is cut same at none e says h = tt
-said_renaming files step number why sources cuts these found name said (Ok told) is cut same at none e says h =
-    let no_message : project_message (map view_cut cuts) why ≡ None
-    = ap (λ (l : List CutSource). project_message (map view_cut l) why) (sym same) ∙ sym at ∙ none in
+said_renaming files step number why sources cuts these found name said (Err m) is cut same placed none e says h = tt
+said_renaming files step number why sources cuts these found name said (Ok told) is cut same placed none e says h =
+    let no_message : SaysPlaced (map view_cut cuts) why None
+    = subst (λ (m : Option Message). SaysPlaced (map view_cut cuts) why m) none
+    (subst (λ (l : List CutSource). SaysPlaced (map view_cut l) why found) same placed) in
     let renamed : SaysStep None files step number told
     = (said, subst (λ (n : List ℕ). SaysRename files step.target n false said) e says, h) in (
       map view_cut cuts,
+      None,
       subst (λ (l : List SourceFile). AreCuts l (map view_cut cuts)) is cut,
-      subst (λ (m : Option Message). SaysStep m files step number told) (sym no_message) renamed,
+      no_message,
+      renamed,
     )
+
+-- a message of a project is said of its step
+pub said_unread : {E : Type 0} (files : FileSet) (step : Step) (number : ℕ) (why : Refusal) (sources : List SourceFile)
+    (cuts these : List CutSource) (found : Option Message) (message : Message) (result : Result Told E) → sources ≡ files.entries
+    → AreCuts sources (map view_cut cuts) → these ≡ cuts → SaysPlaced (map view_cut these) why found → found ≡ Some message
+    → IfOk result (λ told. told ≡ maybe_told Project (Some (in_step number message))) → IfOk result (SaysStepAfter files step number why)
+said_unread files step number why sources cuts these found message (Err m) is cut same placed some h = tt
+said_unread files step number why sources cuts these found message (Ok told) is cut same placed some h = (
+  map view_cut cuts,
+  Some message,
+  subst (λ (l : List SourceFile). AreCuts l (map view_cut cuts)) is cut,
+  subst (λ (m : Option Message). SaysPlaced (map view_cut cuts) why m) some
+      (subst (λ (l : List CutSource). SaysPlaced (map view_cut l) why found) same placed),
+  h,
+)

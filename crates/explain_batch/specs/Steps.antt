@@ -10,7 +10,8 @@ use Rattle.rename_batch.specs.Batch.{Batches}
 use Rattle.messages.specs.Words.{counted}
 use Rattle.messages.specs.declared.parts.Message.{Message}
 use Rattle.refusal_words.specs.Cut.{AreCuts, Cut}
-use Rattle.refusal_words.specs.Refused.{in_step, project_message}
+use Rattle.refusal_places.specs.Placed.{SaysPlaced}
+use Rattle.refusal_words.specs.Refused.{in_step}
 use Rattle.explain.specs.declared.ending.Ending.TheVariants.{Done, Project}
 use Rattle.explain.specs.declared.told.Told.{Told}
 use Rattle.explain.specs.Diffs.{AreDiffs}
@@ -37,10 +38,10 @@ abbrev pub SaysStep : Option Message → FileSet → Step → ℕ → Told → T
 SaysStep (Some message) files step number told = told ≡ maybe_told Project (Some (in_step number message))
 SaysStep None files step number told = (said : Told) × SaysRename files step.target step.name false said × (told ≡ in_steps number said)
 
--- the same over the lexemes of the files
+-- the same by the message of the refusal over the lexemes of the files
 abbrev pub SaysStepAfter : FileSet → Step → ℕ → Refusal → Told → Type 0
 SaysStepAfter files step number why told =
-    (cuts : List Cut) × AreCuts files.entries cuts × SaysStep (project_message cuts why) files step number told
+    (cuts : List Cut) × (message : Option Message) × AreCuts files.entries cuts × SaysPlaced cuts why message × SaysStep message files step number told
 
 -- a batch whose step of this number, from 1, is the first that is refused, over the files that the steps before it leave
 pub record IsStopped (files : FileSet) (steps : List Step) (number : ℕ) (why : Refusal) (told : Told) : Type 0 where

@@ -2,7 +2,6 @@
 //! refused.
 #![tactic(auto)]
 
-mod diffs;
 mod file;
 mod steps;
 mod stopped;

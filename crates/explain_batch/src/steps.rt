@@ -2,9 +2,8 @@
 ghost use Rattle.std.specs.Prelude.{◌≡◌, ◌<◌, ◌^◌, IfOk, length};
 ghost use Rattle.explain_batch.specs.Steps.{SaysDone, SaysSteps, done_line as done_line_of};
 
-use crate::diffs::diffs_text;
 use crate::stopped::stopped_told;
-use explain::{Ending, Told};
+use explain::{Ending, Told, bare_told, diffs_text};
 use messages::{counted, joined};
 use rename_batch::{BatchError, Batched, Step, batch};
 use rotor_base::{Files, Memory, Row};
@@ -36,12 +35,7 @@ fn done_told(
     let changed = batched.changed.as_slice();
     let diffs = diffs_text(alloc, files.entries(), batched.files.entries(), changed)?;
     text.extend_from_slice(&diffs)?;
-    Ok(Told {
-        ending: Ending::Done,
-        messages: Row::new(alloc),
-        text: Row::from_vec(text),
-        places: Row::new(alloc),
-    })
+    Ok(bare_told(alloc, Ending::Done, Row::from_vec(text)))
 }
 
 /// How many steps a batch has, and how many sources it would change.

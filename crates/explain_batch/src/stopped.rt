@@ -6,9 +6,10 @@ ghost use Rattle.refusal_words.specs.Refused.{in_step as in_step_of};
 ghost use Rattle.explain.specs.Told.{maybe_told};
 ghost use Rattle.explain_batch.specs.Steps.{IsStopped, SaysStep, SaysStepAfter, in_steps as in_steps_of};
 
-use explain::{Ending, Told, explain_rename};
+use explain::{Ending, Told, explain_rename, unloaded_told};
 use messages::Message;
-use refusal_words::{cut_sources, in_step, project_message};
+use refusal_places::placed_message;
+use refusal_words::{cut_sources, in_step};
 use rename_batch::{Batched, Step, batch};
 use rotor_base::{Files, Memory, Refusal, Row};
 use std::alloc::Global;
@@ -52,7 +53,7 @@ fn step_told(
     ensures { IfOk result (SaysStepAfter files.now step.now number why.now) }
 {
     let cuts = cut_sources(alloc, files.entries())?;
-    match project_message(alloc, &cuts, why)? {
+    match placed_message(alloc, &cuts, why)? {
         Some(message) => unread_told(alloc, number, message),
         None => {
             let said = explain_rename(alloc, files, &step.target, step.name.as_bytes(), false)?;
@@ -65,14 +66,7 @@ fn step_told(
 fn unread_told(alloc: Global, number: u32, message: Message) -> Result<Told, Memory>
     ensures { IfOk result (λ told. told ≡ maybe_told Ending.Project (Some (in_step_of number message))) }
 {
-    let mut messages = Row::new(alloc);
-    messages.push(in_step(alloc, number, message)?)?;
-    Ok(Told {
-        ending: Ending::Project,
-        messages,
-        text: Row::new(alloc),
-        places: Row::new(alloc),
-    })
+    unloaded_told(alloc, Some(in_step(alloc, number, message)?))
 }
 
 /// What is said of a renaming, as that of a step.

@@ -5,7 +5,7 @@ use Rattle.rotor_base.specs.Files.{FileSet}
 use Rattle.rotor_base.specs.declared.refusal.LoadError.{LoadError}
 use Rattle.tree_io.specs.Outside.{FileMap, Takes}
 use Rattle.project_load.specs.Load.{loaded}
-use Rattle.messages.specs.declared.parts.Message.{Message}
+use Rattle.folder_messages.specs.Folder.{message_of}
 use Rattle.report.specs.Pieces.{Word}
 use Rattle.explain.specs.declared.ending.Ending.TheVariants.{Project}
 use Rattle.explain.specs.declared.told.Told.{Told}
@@ -36,15 +36,15 @@ SaysOver (over.At word) for_tools files told = SaysAt files word told
 abbrev pub SaysBatchIn : Option FileMap → Word → FileSet → Told → Type 0
 SaysBatchIn content file files told = IfSome content (λ held. SaysBatch file (batch_in held file) files told)
 
--- what is said of a folder that does not load: a message, or none
-abbrev pub IsUnloaded : Told → Type 0
-IsUnloaded told = (message : Option Message) × (told ≡ maybe_told Project message)
+-- what is said of a folder that does not load: the message of the reason, with what the folder has
+abbrev pub IsUnloaded : Option FileMap → LoadError → Told → Type 0
+IsUnloaded content why told = IfSome content (λ held. told ≡ maybe_told Project (message_of why held))
 
 -- what is said over a folder: of the files that it loads as; or of the folder, if it does not load
 abbrev pub SaysFiles : Option FileMap → (FileSet → Told → Type 0) → Told → Type 0
 SaysFiles content says told =
     ((files : FileSet) × IfSome content (λ held. loaded held ≡ Ok files) × says files told)
-    ⊎ ((why : LoadError) × IfSome content (λ held. loaded held ≡ Err why) × IsUnloaded told)
+    ⊎ ((why : LoadError) × IfSome content (λ held. loaded held ≡ Err why) × IsUnloaded content why told)
 
 -- what is said of a question: `verify` and `recover` load no folder
 abbrev pub SaysTo : Option FileMap → Question → Bool → Told → Type 0

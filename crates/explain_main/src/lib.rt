@@ -2,7 +2,6 @@
 #![tactic(auto)]
 
 mod code;
-mod folder;
 mod host;
 mod told;
 mod words;

@@ -8,7 +8,6 @@ ghost use Rattle.explain_main.specs.Said.{IsAnswered, IsPrinted, IsSaid, IsStopp
 ghost use Rattle.explain_main.specs.Words.{asked_in};
 
 use crate::code::ExitStatus;
-use crate::folder::folder_message;
 use crate::words::{Asked, FilesQuestion, Question, asked_of};
 use cli_words::WordsError;
 use explain::{
@@ -18,6 +17,7 @@ use explain_at::explain_at;
 use explain_batch::explain_batch;
 use explain_recover::explain_recover;
 use explain_verify::explain_verify;
+use folder_messages::folder_message;
 use project_load::load;
 use rotor_base::{Files, LoadError, Memory};
 use std::alloc::Global;
@@ -133,7 +133,7 @@ fn reason_of(error: LoadError) -> Result<LoadError, TreeError>
 
 /// What is said of a folder that does not load.
 fn reason_told<T: Tree>(alloc: Global, why: &LoadError, tree: &mut T) -> Result<Told, TreeError>
-    ensures said { IfOk result IsUnloaded }
+    ensures said { IfOk result (IsUnloaded (T.content tree.old) why.now) }
     ensures content { T.content tree.new ≡ T.content tree.old }
     ensures cause { HasCause (T.faults tree.old) (T.faults tree.new) result }
 {

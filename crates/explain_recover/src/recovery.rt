@@ -1,5 +1,5 @@
 //! What is said of a recovery.
-ghost use Rattle.std.specs.Prelude.{◌≡◌, ◌++◌, ◌∷◌, [], IfOk, IfSome, List, OnOk, flat_map};
+ghost use Rattle.std.specs.Prelude.{◌≡◌, ◌++◌, ◌∷◌, [], IfOk, IfSome, List, OnOk, codes, flat_map};
 ghost use Rattle.tree_io.specs.Outside.{HasCause};
 ghost use Rattle.refusal_words.specs.Commands.{bad_plan as bad_plan_of};
 ghost use Rattle.rotor_base.specs.declared.source.SourceFile.{SourceFile};
@@ -8,7 +8,7 @@ ghost use Rattle.explain.specs.Told.{bare_told as bare_told_of, maybe_told};
 ghost use Rattle.explain_recover.specs.Recovery.{SaysRecovery, name_line, recovery_text as recovery_text_of};
 
 use apply_journal::{RecoverError, read_recovery};
-use explain::{Ending, Told, unloaded_told};
+use explain::{Ending, Told, bare_told, unloaded_told};
 use messages::{counted, joined};
 use refusal_words::bad_plan;
 use rotor_base::{Memory, Row, SourceFile};
@@ -27,12 +27,20 @@ pub fn explain_recover<T: Tree>(alloc: Global, tree: &mut T) -> Result<Told, Tre
     ensures cause { HasCause (T.faults tree.old) (T.faults tree.new) result }
 {
     match read_recovery(alloc, tree) {
-        Ok(None) => Ok(bare_told(alloc, Row::from_vec(b"nothing to recover\n".to_vec(alloc)?))),
+        Ok(None) => Ok(idle_told(alloc)?),
         Ok(Some(writes)) => Ok(recovered_told(alloc, &writes)?),
         Err(RecoverError::BadPlan) => Ok(lost_told(alloc)?),
         Err(RecoverError::Read) => Err(TreeError::Failed),
         Err(RecoverError::Write | RecoverError::Memory) => Err(TreeError::Memory),
     }
+}
+
+/// What is said of a folder in which there is nothing to recover.
+fn idle_told(alloc: Global) -> Result<Told, Memory>
+    ensures { IfOk result (λ told. told ≡ bare_told_of Ending.Done (codes "nothing to recover\n")) }
+{
+    let text = Row::from_vec(b"nothing to recover\n".to_vec(alloc)?);
+    Ok(bare_told(alloc, Ending::Done, text))
 }
 
 /// What is said of an open gate without a plan.
@@ -42,25 +50,13 @@ fn lost_told(alloc: Global) -> Result<Told, Memory>
     unloaded_told(alloc, Some(bad_plan(alloc)?))
 }
 
-/// A text for people alone, of what would be done.
-fn bare_told(alloc: Global, text: Row<u8>) -> Told
-    ensures { result ≡ bare_told_of Ending.Done text }
-{
-    Told {
-        ending: Ending::Done,
-        messages: Row::new(alloc),
-        text,
-        places: Row::new(alloc),
-    }
-}
-
 /// What is said of a recovery of these writes, the last of which closes the gate.
 fn recovered_told(alloc: Global, writes: &[SourceFile]) -> Result<Told, Memory>
     ensures { IfOk result (λ told. (files : List SourceFile) → writes.now ≡ plan_writes files → told ≡ bare_told_of Ending.Done (recovery_text_of files)) }
 {
     let files = without_last(writes);
     let text = recovery_text(alloc, files)?;
-    Ok(bare_told(alloc, text))
+    Ok(bare_told(alloc, Ending::Done, text))
 }
 
 /// All files but the last.

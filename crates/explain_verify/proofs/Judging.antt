@@ -1,5 +1,5 @@
 -- What is said of an answer of `verify`.
-use Rattle.std.proofs.Common.{◌≡◌, ◌≢◌, List, Result, Ok, Err, IfOk, IfErr, OnOk, subst, inl, inr, ◌⊎◌, map, ap, ◌∙◌}
+use Rattle.std.proofs.Common.{◌≡◌, ◌≢◌, List, Result, Ok, Err, IfOk, IfErr, OnOk, subst, inl, inr, ◌⊎◌, map}
 use Rattle.rotor_base.specs.Files.{FileSet}
 use Rattle.rotor_base.specs.declared.fault.Memory.{Memory}
 use Rattle.rotor_base.specs.declared.source.SourceFile.{SourceFile}
@@ -10,11 +10,8 @@ use Rattle.rename_verify.specs.declared.verdict.Verdict.{Verdict}
 use Rattle.rename_verify.specs.Verdict.{Verdicts}
 use Rattle.refusal_words.specs.Cut.{AreCuts, view_cut}
 use Rattle.refusal_words.specs.declared.cut.CutSource.{CutSource}
-use Rattle.refusal_words.specs.Refused.{project_message}
-use Rattle.explain.specs.declared.ending.Ending.TheVariants.{Project}
 use Rattle.explain.specs.declared.told.Told.{Told}
-use Rattle.explain.specs.Told.{maybe_told}
-use Rattle.explain_verify.specs.Judged.{IsJudged, SaysAnswer}
+use Rattle.explain_verify.specs.Judged.{IsJudged, SaysAnswer, SaysRefused}
 
 module _ (old new : FileSet) (old_sources new_sources : List SourceFile) (olds news : List CutSource)
     (old_is : old_sources ≡ old.entries) (new_is : new_sources ≡ new.entries)
@@ -43,11 +40,11 @@ module _ (old new : FileSet) (old_sources new_sources : List SourceFile) (olds n
 
   pub judged_err : (these : List CutSource) (why : Refusal) (answer : Result Verdict Refusal) (result : Result Told Memory) → these ≡ olds
       → answer ≡ Err why → IfErr answer (IsRefusedFor (λ w. Verdicts old new (Err w))) → OnOk result (why ≢ refusal.Memory)
-      → IfOk result (λ told. told ≡ maybe_told Project (project_message (map view_cut these) why)) → IfOk result (IsJudged old new)
+      → IfOk result (SaysRefused (map view_cut these) why) → IfOk result (IsJudged old new)
   judged_err these why answer (Err m) e a v other s = tt
   judged_err these why answer (Ok told) e a v other s =
       by (subst (λ (r : Result Verdict Refusal). IfErr r (IsRefusedFor (λ w. Verdicts old new (Err w)))) a v)
     where
       by : Verdicts old new (Err why) ⊎ (why ≡ refusal.Memory) → IsJudged old new told
-      by (inl is) = judged (Err why) told is (s ∙ ap (λ (l : List CutSource). maybe_told Project (project_message (map view_cut l) why)) e)
+      by (inl is) = judged (Err why) told is (subst (λ (l : List CutSource). SaysRefused (map view_cut l) why told) e s)
       by (inr m) = absurd (other m)

@@ -20,7 +20,8 @@ use Rattle.rename_verify.specs.Changed.{Changed}
 use Rattle.rename_verify.specs.Verdict.{Verdicts}
 use Rattle.refusal_words.specs.Commands.{fixed, other_bytes, other_sources}
 use Rattle.refusal_words.specs.Cut.{AreCuts, Cut}
-use Rattle.refusal_words.specs.Refused.{project_message, renaming_message}
+use Rattle.refusal_places.specs.Placed.{SaysPlaced}
+use Rattle.refusal_words.specs.Refused.{renaming_message}
 use Rattle.refusal_words.specs.Stretches.{place_spot, word_at}
 use Rattle.explain.specs.declared.ending.Ending.TheVariants.{Done, Project, Refused}
 use Rattle.explain.specs.declared.told.Told.{Told}
@@ -66,11 +67,15 @@ why_message olds news (why.Bytes file offset) = Some (other_bytes news file offs
 why_message olds news (why.Fixed at) = Some (fixed olds at)
 why_message olds news (why.Broken f) = fault_message olds news f
 
+-- what is said of an old project that is refused
+abbrev pub SaysRefused : List Cut → Refusal → Told → Type 0
+SaysRefused olds why told = (said : Option Message) × SaysPlaced olds why said × (told ≡ maybe_told Project said)
+
 -- what is said of an answer of `verify`
 abbrev pub SaysAnswer : List Cut → List Cut → Result Verdict Refusal → Told → Type 0
 SaysAnswer olds news (Ok (Yes changes)) told = told ≡ bare_told Done (changes_text olds changes.items)
 SaysAnswer olds news (Ok (No reason)) told = told ≡ maybe_told Refused (why_message olds news reason)
-SaysAnswer olds news (Err refusal) told = told ≡ maybe_told Project (project_message olds refusal)
+SaysAnswer olds news (Err why) told = SaysRefused olds why told
 
 -- what is said of a project and of the new version of it, whose sources have these lexemes
 pub record IsJudged (old new : FileSet) (told : Told) : Type 0 where

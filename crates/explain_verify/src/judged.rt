@@ -1,16 +1,16 @@
 //! What is said of a project and of the new version of it.
-ghost use Rattle.std.specs.Prelude.{◌≡◌, ◌≢◌, ◌++◌, IfOk, Ok, OnOk, flat_map, map};
+ghost use Rattle.std.specs.Prelude.{◌≡◌, ◌≢◌, ◌≤◌, ◌++◌, All, IfOk, Ok, OnOk, flat_map, length, map};
+ghost use Rattle.rotor_base.specs.Limits.{max_file_bytes};
 ghost use Rattle.refusal_words.specs.Cut.{view_cut};
-ghost use Rattle.refusal_words.specs.Refused.{project_message as project_message_of};
-ghost use Rattle.explain.specs.Told.{bare_told, maybe_told};
-ghost use Rattle.explain_verify.specs.Judged.{IsJudged, SaysAnswer, changed_place, changed_places as changed_places_of, changes_text as changes_text_of, change_line as change_line_of, fault_message as fault_message_of, new_name as new_name_of, why_message as why_message_of};
+ghost use Rattle.explain_verify.specs.Judged.{IsJudged, SaysAnswer, SaysRefused, changed_place, changed_places as changed_places_of, changes_text as changes_text_of, change_line as change_line_of, fault_message as fault_message_of, new_name as new_name_of, why_message as why_message_of};
 
 use capture_check::Fault;
-use explain::{Ending, Told, unloaded_told};
+use explain::{Ending, Told, bare_told, maybe_told, unloaded_told};
 use messages::{Message, counted, joined, spot_text};
+use refusal_places::placed_message;
 use refusal_words::{
-    CutSource, cut_sources, fixed, other_bytes, other_sources, place_spot, project_message,
-    renaming_message, word_at,
+    CutSource, cut_sources, fixed, other_bytes, other_sources, place_spot, renaming_message,
+    word_at,
 };
 use rename_steps::refusal_of_fault;
 use rename_verify::{Change, Verdict, Why, verify};
@@ -31,13 +31,14 @@ pub(crate) fn judged_told(alloc: Global, old: &Files, new: &Files) -> Result<Tol
 
 /// What is said of an old project that is refused.
 fn refused_told(alloc: Global, olds: &[CutSource<'_>], refusal: &Refusal) -> Result<Told, Memory>
-    ensures told { IfOk result (λ told. told ≡ maybe_told Ending.Project (project_message_of (map view_cut olds.now) refusal.now)) }
+    requires { All (λ cut. length cut.tokens.items ≤ max_file_bytes) olds.now }
+    ensures told { IfOk result (SaysRefused (map view_cut olds.now) refusal.now) }
     ensures other { OnOk result (refusal.now ≢ Refusal.Memory) }
 {
     match refusal {
         Refusal::Memory => Err(Memory),
         _ => {
-            let message = project_message(alloc, olds, refusal)?;
+            let message = placed_message(alloc, olds, refusal)?;
             unloaded_told(alloc, message)
         }
     }
@@ -53,37 +54,15 @@ fn verdict_told(
     ensures { IfOk result (SaysAnswer (map view_cut olds.now) (map view_cut news.now) (Ok verdict.now)) }
 {
     match verdict {
-        Verdict::Yes(changes) => Ok(done_told(alloc, changes_text(alloc, olds, changes)?)),
-        Verdict::No(why) => against_told(alloc, why_message(alloc, olds, news, why)?),
+        Verdict::Yes(changes) => {
+            let text = changes_text(alloc, olds, changes)?;
+            Ok(bare_told(alloc, Ending::Done, text))
+        }
+        Verdict::No(why) => {
+            let message = why_message(alloc, olds, news, why)?;
+            maybe_told(alloc, Ending::Refused, message)
+        }
     }
-}
-
-/// What is said of a valid renaming: a text for people.
-fn done_told(alloc: Global, text: Row<u8>) -> Told
-    ensures { result ≡ bare_told Ending.Done text }
-{
-    Told {
-        ending: Ending::Done,
-        messages: Row::new(alloc),
-        text,
-        places: Row::new(alloc),
-    }
-}
-
-/// What is said of a project that is no valid renaming: its message, if there is one.
-fn against_told(alloc: Global, message: Option<Message>) -> Result<Told, Memory>
-    ensures { IfOk result (λ told. told ≡ maybe_told Ending.Refused message) }
-{
-    let mut messages = Row::new(alloc);
-    if let Some(message) = message {
-        messages.push(message)?;
-    }
-    Ok(Told {
-        ending: Ending::Refused,
-        messages,
-        text: Row::new(alloc),
-        places: Row::new(alloc),
-    })
 }
 
 /// The number of the declarations that have other names, and a line for each.

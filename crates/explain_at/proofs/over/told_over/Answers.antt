@@ -1,6 +1,6 @@
 use Rattle.std.proofs.Common.{List, ap, length, ◌∙◌, sym, All, ◌≤◌, subst}
 use Rattle.refusal_words.specs.declared.cut.CutSource.{CutSource}
-use Rattle.explain_at.proofs.Cutting.{few_tokens, same_count}
+use Rattle.explain.proofs.Cutting.{few_tokens, same_count}
 use Rattle.explain_at.proofs.over.told_over.Goals as goal
 
 pub word_told-requires-clause-same : goal.word_told-requires-clause-same

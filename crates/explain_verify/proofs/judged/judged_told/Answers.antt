@@ -1,5 +1,14 @@
+use Rattle.std.proofs.Common.{List, ◌≤◌, All, length, subst, sym}
+use Rattle.rotor_base.specs.Limits.{max_file_bytes}
+use Rattle.refusal_words.specs.declared.cut.CutSource.{CutSource}
+use Rattle.explain.proofs.Cutting.{few_tokens}
 use Rattle.explain_verify.proofs.Judging.{judged_ok, judged_err}
 use Rattle.explain_verify.proofs.judged.judged_told.Goals as goal
+
+pub refused_told-requires : goal.refused_told-requires
+refused_told-requires c =
+    subst (λ (cs : List CutSource). All (λ cut. length cut.tokens.items ≤ max_file_bytes) cs) (sym c.deref-in-Err.ensures.value)
+    (few_tokens c.entries.result.now c.in_ok-olds.olds.items c.in_ok-olds.ensures c.entries.ensures.small)
 
 pub returns-in-Ok : goal.returns-in-Ok
 returns-in-Ok c =

@@ -1,0 +1,2 @@
+pub mod Warning
+pub mod Warnings

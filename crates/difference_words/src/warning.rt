@@ -1,0 +1,177 @@
+//! The warning of a place.
+ghost use Rattle.std.specs.Prelude.{◌≡◌, IfOk, map};
+ghost use Rattle.refusal_words.specs.Cut.{view_cut};
+ghost use Rattle.difference_words.specs.Warning.{applied as applied_of, commented as commented_of, index_help as index_help_of, index_text as index_text_of, indexed as indexed_of, late as late_of, module_of, form_of, warned, warning_of as warning_for};
+
+use messages::{Kind, Message, Severity, Spot, joined};
+use reading_differences::{Difference, Indexed, Parting};
+use refusal_words::{CutSource, byte_spot, place_spot};
+use rotor_base::{Memory, Place, Row};
+use std::alloc::Global;
+
+/// The warning of a place at which OCaml may read a folder otherwise. The one error is want of memory.
+pub fn warning_of(
+    alloc: Global,
+    cuts: &[CutSource<'_>],
+    difference: &Difference,
+) -> Result<Message, Memory>
+    ensures { IfOk result (λ message. message ≡ warning_for (map view_cut cuts.now) difference.now) }
+{
+    let at = difference.at;
+    match &difference.how {
+        Parting::Indexing(form) => indexed(alloc, cuts, at, *form),
+        Parting::Types(argument) => applied(alloc, cuts, at, argument.as_bytes()),
+        Parting::Comment(offset) => commented(alloc, cuts, at, *offset),
+        Parting::Order { unit, needed } => {
+            late(alloc, cuts, at, unit.as_bytes(), needed.as_bytes())
+        }
+    }
+}
+
+/// A warning at a stretch of a source.
+fn warning_at(alloc: Global, kind: Kind, text: Row<u8>, at: Spot, help: Option<Row<u8>>) -> Message
+    ensures { result ≡ warned kind text at help }
+{
+    Message {
+        severity: Severity::Warning,
+        kind,
+        text,
+        at: Some(at),
+        notes: Row::new(alloc),
+        help,
+    }
+}
+
+/// The warning of a form that reads an element.
+fn indexed(
+    alloc: Global,
+    cuts: &[CutSource<'_>],
+    at: Place,
+    form: Indexed,
+) -> Result<Message, Memory>
+    ensures { IfOk result (λ message. message ≡ indexed_of (map view_cut cuts.now) at form) }
+{
+    let text = index_text(alloc, form_text(form), module_name(form))?;
+    let help = index_help(alloc, module_name(form))?;
+    let at = place_spot(alloc, cuts, at)?;
+    Ok(warning_at(alloc, Kind::Indexing, text, at, Some(help)))
+}
+
+/// The sentence of a form, as it is written, and its module.
+fn index_text<'a>(alloc: Global, form: &'a [u8], name: &'a [u8]) -> Result<Row<u8>, Memory>
+    ensures { IfOk result (λ text. text ≡ index_text_of form.entry.now name.entry.now) }
+{
+    joined(
+        alloc,
+        &[
+            b"in OCaml `",
+            form,
+            b"` means `",
+            name,
+            b".get` or `.set` of the module in scope, here the folder's `",
+            name,
+            b"`; rotor sees no use there",
+        ],
+    )
+}
+
+/// The help of a form that reads this module.
+fn index_help(alloc: Global, name: &[u8]) -> Result<Row<u8>, Memory>
+    ensures { IfOk result (λ text. text ≡ index_help_of name.now) }
+{
+    joined(
+        alloc,
+        &[b"do not rename `get` or `set` of that `", name, b"`"],
+    )
+}
+
+/// The module that a form reads.
+fn module_name(form: Indexed) -> &'static [u8]
+    ensures { result.now ≡ module_of form }
+{
+    match form {
+        Indexed::Array => b"Array",
+        Indexed::String => b"String",
+    }
+}
+
+/// A form, as it is written.
+fn form_text(form: Indexed) -> &'static [u8]
+    ensures { result.now ≡ form_of form }
+{
+    match form {
+        Indexed::Array => b"a.(i)",
+        Indexed::String => b"s.[i]",
+    }
+}
+
+/// The warning of a functor that is applied in a type.
+fn applied(
+    alloc: Global,
+    cuts: &[CutSource<'_>],
+    at: Place,
+    argument: &[u8],
+) -> Result<Message, Memory>
+    ensures { IfOk result (λ message. message ≡ applied_of (map view_cut cuts.now) at argument.now) }
+{
+    let text = joined(
+        alloc,
+        &[
+            b"a functor is applied in a type; OCaml matches `",
+            argument,
+            b"` with its parameter, rotor does not",
+        ],
+    )?;
+    let help = joined(
+        alloc,
+        &[b"after a renaming in `", argument, b"`, compile the folder"],
+    )?;
+    let at = place_spot(alloc, cuts, at)?;
+    Ok(warning_at(alloc, Kind::Types, text, at, Some(help)))
+}
+
+/// The warning of a quote behind a name, in a comment.
+fn commented(
+    alloc: Global,
+    cuts: &[CutSource<'_>],
+    at: Place,
+    offset: u32,
+) -> Result<Message, Memory>
+    ensures { IfOk result (λ message. message ≡ commented_of (map view_cut cuts.now) at offset) }
+{
+    let text = joined(
+        alloc,
+        &[
+            b"OCaml reads the name before this quote with it; rotor reads a character here, so the two may end this comment",
+            b" at different places",
+        ],
+    )?;
+    let at = byte_spot(alloc, cuts, at.file, offset)?;
+    Ok(warning_at(alloc, Kind::Comment, text, at, None))
+}
+
+/// The warning of a unit that is linked behind a unit that needs it.
+fn late<'a>(
+    alloc: Global,
+    cuts: &[CutSource<'_>],
+    at: Place,
+    unit: &'a [u8],
+    needed: &'a [u8],
+) -> Result<Message, Memory>
+    ensures { IfOk result (λ message. message ≡ late_of (map view_cut cuts.now) at unit.entry.now needed.entry.now) }
+{
+    let text = joined(
+        alloc,
+        &[
+            b"rotor.units puts `",
+            needed,
+            b"` after `",
+            unit,
+            b"`, so this `",
+            needed,
+            b"` is outside the folder here; no linker takes that order",
+        ],
+    )?;
+    let at = place_spot(alloc, cuts, at)?;
+    Ok(warning_at(alloc, Kind::Order, text, at, None))
+}

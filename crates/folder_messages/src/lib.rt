@@ -1,0 +1,10 @@
+//! The messages of folders that are not loaded, by what the folder has.
+#![tactic(auto)]
+
+mod doubled;
+mod folder;
+mod listed;
+mod manifest;
+mod unit_lines;
+
+pub use folder::folder_message;

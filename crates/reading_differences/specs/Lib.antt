@@ -1,0 +1,7 @@
+pub mod Lexemes
+pub mod Sources
+pub mod Comments
+pub mod Applied
+pub mod Late
+pub mod Indexed
+pub mod Differences

@@ -1,0 +1,16 @@
+//! The places of a project at which OCaml may read it otherwise than this reader.
+#![tactic(auto)]
+
+mod applied;
+mod bytes;
+mod comments;
+mod difference;
+mod indexed;
+mod late;
+mod lexemes;
+mod parts;
+mod project;
+mod sources;
+
+pub use difference::{Difference, Indexed, Parting};
+pub use project::differences;

@@ -1,0 +1,4 @@
+pub mod Fronts
+pub mod Ending
+pub mod Telling
+pub mod Placing

@@ -1,0 +1,54 @@
+//! The messages of refusals of a project, with the places that a reading finds.
+ghost use Rattle.std.specs.Prelude.{◌≡◌, ◌≤◌, All, IfOk, length, map, slice_get};
+ghost use Rattle.rotor_base.specs.Limits.{max_file_bytes};
+ghost use Rattle.refusal_words.specs.Cut.{view_cut};
+ghost use Rattle.refusal_places.specs.Placed.{SaysPlaced, SaysSyntax, syntax_file as syntax_file_of};
+
+use crate::unread::unread_message;
+use messages::Message;
+use refusal_words::{CutSource, project_message};
+use rotor_base::{Memory, Refusal};
+use std::alloc::Global;
+
+/// The message of a refusal of a project; of another refusal, `None`. The one error is want of memory.
+#[tactic(auto, using(crate::proofs::Placing::said_syntax, crate::proofs::Placing::said_other))]
+pub fn placed_message(
+    alloc: Global,
+    cuts: &[CutSource<'_>],
+    refusal: &Refusal,
+) -> Result<Option<Message>, Memory>
+    requires { All (λ cut. length cut.tokens.items ≤ max_file_bytes) cuts.now }
+    ensures { IfOk result (SaysPlaced (map view_cut cuts.now) refusal.now) }
+{
+    match syntax_file(refusal) {
+        Some(file) => syntax_message(alloc, cuts, file),
+        None => project_message(alloc, cuts, refusal),
+    }
+}
+
+/// The source that a refusal says is not read.
+fn syntax_file(refusal: &Refusal) -> Option<u32>
+    ensures { result ≡ syntax_file_of refusal.now }
+{
+    match refusal {
+        Refusal::Syntax { file } => Some(*file),
+        _ => None,
+    }
+}
+
+/// The message of the source of a number that is not read, if it is there.
+#[tactic(auto, using(crate::proofs::Placing::said_cut, crate::proofs::Placing::said_none, crate::proofs::Placing::short_cut))]
+fn syntax_message(
+    alloc: Global,
+    cuts: &[CutSource<'_>],
+    file: u32,
+) -> Result<Option<Message>, Memory>
+    requires { All (λ cut. length cut.tokens.items ≤ max_file_bytes) cuts.now }
+    ensures { IfOk result (SaysSyntax (slice_get (map view_cut cuts.now) file)) }
+{
+    if file as usize >= cuts.len() {
+        return Ok(None);
+    }
+    let message = unread_message(alloc, &cuts[file as usize])?;
+    Ok(Some(message))
+}
