@@ -2,7 +2,9 @@
 #![tactic(auto)]
 
 mod ended;
+mod host;
 mod served;
 
 pub use ended::Ended;
+pub use host::run;
 pub use served::serve_words;

@@ -1,0 +1,13 @@
+use Rattle.ml_syntax.specs.View.{view_project}
+use Rattle.rename_files.proofs.Refusals.{rejects, unread}
+use Rattle.document_answers.proofs.over.open_files.Goals as goal
+
+pub returns-in-Err-clause-refused : goal.returns-in-Err-clause-refused
+returns-in-Err-clause-refused c = unread c.args.files.now c.in-Err.why c.in-Err.ensures.refused
+
+pub returns-in-Ok-resolve-clause-accepts : goal.returns-in-Ok-resolve-clause-accepts
+returns-in-Ok-resolve-clause-accepts c = record { reads = c.in-Ok.ensures.project; none = c.in-Ok-resolve.ensures.passed }
+
+pub returns-in-Err-resolve-clause-refused : goal.returns-in-Err-resolve-clause-refused
+returns-in-Err-resolve-clause-refused c =
+    rejects c.args.files.now (view_project c.in-Ok.read.project) c.in-Err-resolve.why c.in-Ok.ensures.project c.in-Err-resolve.ensures.refused

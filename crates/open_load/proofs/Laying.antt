@@ -1,0 +1,39 @@
+-- What a folder under documents loads as, in terms of the folder below.
+use Rattle.std.proofs.Common.{◌≡◌, ◌∙◌, ◌⊎◌, inl, inr, Option, None, Some, Result, Ok, Err, ap, subst, sym}
+use Rattle.std.specs.Prelude.{IfOk, IfSome}
+use Rattle.std.specs.Option.{option_map}
+use Rattle.rotor_base.specs.declared.fault.Memory.{Memory}
+use Rattle.rotor_base.specs.declared.refusal.LoadError.{LoadError}
+use Rattle.tree_io.specs.Outside.{FileMap}
+use Rattle.project_load.specs.Load.{IsOutside, loaded}
+use Rattle.open_documents.specs.Documents.{DocumentMap, laid}
+use Rattle.open_load.specs.Loaded.{IsOpenFolder, IsUnloaded}
+use Rattle.open_load.specs.declared.loading.OpenFolder.{OpenFolder}
+use Rattle.open_load.specs.declared.loading.OpenFolder.TheVariants.{Files, Unread, Refused}
+
+below : (content : Option FileMap) (f : FileMap → FileMap) (P : FileMap → Type 0) → IfSome (option_map f content) P
+    → IfSome content (λ held. P (f held))
+below None f P h = h
+below (Some held) f P h = h
+
+-- what holds of the files under documents holds of those of the folder below, with the documents laid over them
+pub told_below : {T : Type 0} (content : T → Option FileMap) (map docs : DocumentMap) (folder there : T) (P : FileMap → Type 0) → docs ≡ map
+    → there ≡ folder → IfSome (option_map (laid docs) (content there)) P → IfSome (content folder) (λ held. P (laid map held))
+told_below content map docs folder there P same is h =
+    below (content folder) (laid map) P
+    (subst (λ t. IfSome (option_map (laid map) (content t)) P) is (subst (λ m. IfSome (option_map (laid m) (content there)) P) same h))
+
+refused_below : (content : Option FileMap) (map : DocumentMap) (error given : LoadError) → given ≡ error → (IsOutside error → ⊥)
+    → IfSome content (λ held. IsOutside error ⊎ (loaded (laid map held) ≡ Err error)) → IfSome content (λ held. loaded (laid map held) ≡ Err given)
+refused_below None map error given is inside h = h
+refused_below (Some held) map error given is inside (inl out) = absurd (inside out)
+refused_below (Some held) map error given is inside (inr found) = found ∙ ap Err (sym is)
+
+-- a folder that is not loaded is what the error says
+pub unloaded_is_open : {E : Type 0} (content : Option FileMap) (map : DocumentMap) (error : LoadError) (result : Result OpenFolder E)
+    → IfSome content (λ held. IsOutside error ⊎ (loaded (laid map held) ≡ Err error)) → IfOk result (IsUnloaded error)
+    → IfOk result (IsOpenFolder content map)
+unloaded_is_open content map error (Ok (Files files)) h u = absurd u
+unloaded_is_open content map error (Ok Unread) h u = u
+unloaded_is_open content map error (Ok (Refused why message)) h u = refused_below content map error why u.0 u.1 h
+unloaded_is_open content map error (Err e) h u = u

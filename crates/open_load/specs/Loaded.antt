@@ -1,0 +1,21 @@
+-- What a folder with the documents of an editor in place of its files is (own).
+use Rattle.std.specs.Prelude.{◌≡◌, Option, Ok, Err, IfSome, ⊤}
+use Rattle.rotor_base.specs.declared.refusal.LoadError.{LoadError}
+use Rattle.tree_io.specs.Outside.{FileMap}
+use Rattle.project_load.specs.Load.{IsOutside, loaded}
+use Rattle.open_documents.specs.Documents.{DocumentMap, laid}
+use Rattle.open_load.specs.declared.loading.OpenFolder.{OpenFolder}
+use Rattle.open_load.specs.declared.loading.OpenFolder.TheVariants.{Files, Unread, Refused}
+
+-- The files that the folder loads as, with these documents in place of its files; or why it is no project. A folder of which
+-- a call failed is unread.
+abbrev pub IsOpenFolder : Option FileMap → DocumentMap → OpenFolder → Type 0
+IsOpenFolder content map (Files files) = IfSome content (λ held. loaded (laid map held) ≡ Ok files)
+IsOpenFolder content map Unread = ⊤
+IsOpenFolder content map (Refused why message) = IfSome content (λ held. loaded (laid map held) ≡ Err why)
+
+-- a folder is no project for this reason, which lies in the folder; or a call of it failed
+abbrev pub IsUnloaded : LoadError → OpenFolder → Type 0
+IsUnloaded why (Files files) = ⊥
+IsUnloaded why Unread = ⊤
+IsUnloaded why (Refused given message) = (given ≡ why) × (IsOutside why → ⊥)

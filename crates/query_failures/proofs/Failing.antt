@@ -1,0 +1,63 @@
+-- The failures that are told, by what they are told from.
+use Rattle.std.proofs.Common.{◌≡◌, ◌∙◌, List, Option, Result, Ok, Err, IfOk, ap, subst, sym}
+use Rattle.std.proofs.lemmas.Result.{IfOk-weaker}
+use Rattle.serde_json.specs.Data.{Data}
+use Rattle.rotor_base.specs.Files.{FileSet, names_of}
+use Rattle.rotor_base.specs.declared.refusal.Refusal.{Refusal}
+use Rattle.rotor_base.specs.declared.report.Outcome.TheVariants as outcome
+use Rattle.rotor_base.specs.declared.source.SourceFile.{SourceFile}
+use Rattle.rotor_base.specs.declared.target.Target.{Target}
+use Rattle.report.specs.Json.{data_of}
+use Rattle.report.specs.Pieces.{Word}
+use Rattle.messages.specs.declared.parts.Message.{Message}
+use Rattle.refusal_words.specs.Cut.{AreCuts, Cut}
+use Rattle.refusal_words.specs.Refused.{project_message}
+use Rattle.explain.specs.Says.{SaysRename}
+use Rattle.explain.specs.declared.told.Told.{Told}
+use Rattle.lsp_answers.specs.declared.answer.ErrorCode.{ErrorCode}
+use Rattle.lsp_answers.specs.declared.answer.Failure.{Failure}
+use Rattle.std.specs.Prelude.{Bool, false}
+use Rattle.query_failures.specs.Failure.{IsFailure, IsNoted, IsSaid}
+use Rattle.query_failures.specs.Folder.{IsProjectFailure, folder_sentence}
+use Rattle.query_failures.specs.Renaming.{IsRenamingFailure, first_sentence}
+
+-- a sentence that is the same as another is said as that one
+pub said_as : {E : Type 0} (code : ErrorCode) (given text : Word) (result : Result Failure E) → given ≡ text → IfOk result (IsSaid code given)
+    → IfOk result (IsSaid code text)
+said_as code given text result is h = subst (λ (w : Word). IfOk result (IsSaid code w)) is h
+
+-- the same of a refusal, and of what a program reads
+pub noted_as : {E : Type 0} (given text : Word) (object note : Data) (result : Result Failure E) → given ≡ text → object ≡ note
+    → IfOk result (IsNoted given object) → IfOk result (IsNoted text note)
+noted_as given text object note result is same h =
+    subst (λ (w : Word). IfOk result (IsNoted w note)) is (subst (λ (d : Data). IfOk result (IsNoted given d)) same h)
+
+-- ---- files that are refused
+
+pub project_fails : {E : Type 0} (files : FileSet) (why : Refusal) (sources : List SourceFile) (cuts : List Cut) (message : Option Message)
+    (text : Word) (names : List Word) (object : Data) (result : Result Failure E) → sources ≡ files.entries → AreCuts sources cuts
+    → message ≡ project_message cuts why → text ≡ folder_sentence message → names ≡ names_of files.entries
+    → object ≡ data_of names (outcome.Refused why) → IfOk result (IsNoted text object) → IfOk result (IsProjectFailure files why)
+project_fails files why sources cuts message text names object result same cut is told named noted h =
+    IfOk-weaker result (IsNoted text object) (IsProjectFailure files why) (λ failure known. record {
+      cuts = cuts;
+      cut = subst (λ (s : List SourceFile). AreCuts s cuts) same cut;
+      noted = subst (λ (d : Data). IsNoted (folder_sentence (project_message cuts why)) d failure)
+          (noted ∙ ap (λ (n : List Word). data_of n (outcome.Refused why)) named)
+          (subst (λ (w : Word). IsNoted w object failure) (told ∙ ap folder_sentence is) known);
+    }) h
+
+-- ---- renamings
+
+pub renaming_fails : {E : Type 0} (files : FileSet) (target : Target) (new : Word) (why : Refusal) (told : Told) (text : Word) (names : List Word)
+    (object : Data) (result : Result Failure E) → SaysRename files target new false told → text ≡ first_sentence told.messages
+    → names ≡ names_of files.entries → object ≡ data_of names (outcome.Refused why) → IfOk result (IsNoted text object)
+    → IfOk result (IsRenamingFailure files target new why)
+renaming_fails files target new why told text names object result says is named noted h =
+    IfOk-weaker result (IsNoted text object) (IsRenamingFailure files target new why) (λ failure known. record {
+      told = told;
+      says = says;
+      noted = subst (λ (d : Data). IsNoted (first_sentence told.messages) d failure)
+          (noted ∙ ap (λ (n : List Word). data_of n (outcome.Refused why)) named)
+          (subst (λ (w : Word). IsNoted w object failure) is known);
+    }) h

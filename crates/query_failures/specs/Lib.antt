@@ -1,0 +1,4 @@
+pub mod Sentence
+pub mod Failure
+pub mod Folder
+pub mod Renaming

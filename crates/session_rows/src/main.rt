@@ -1,0 +1,61 @@
+//! Reads recorded sessions from its input, one a line, and prints what `rotor-lsp` answers to each. A row is
+//! `NAME|BYTES|FOLDER|..`: a name of its own, the bytes that an editor sent, and folders. A folder is `PATH,NAME=TEXT,..`: its
+//! path and its files. The bytes, paths, names and texts are percent-encoded. The answer begins with the name and the exit
+//! code; then come the bytes of the output.
+#![tactic(auto)]
+
+mod folder;
+
+use document_answers::DocumentAnswers;
+use folder::{decoded, folders_of};
+use lsp_main::serve_words;
+use rotor_base::Memory;
+use std::alloc::{AllocError, Global};
+use std::io;
+
+fn main(rt: HostRuntime) -> io::Result<()> {
+    let alloc = rt.alloc();
+    for line in rt.lines(alloc) {
+        let line = line?;
+        print!(rt; "{}", printed(alloc, line.as_str())?)?;
+    }
+    Ok(())
+}
+
+/// What a row prints.
+fn printed(alloc: Global, line: &str) -> Result<String, AllocError> {
+    match answer(alloc, line) {
+        Ok(answer) => Ok(answer),
+        Err(_) => String::from_str(alloc, "no memory\n"),
+    }
+}
+
+fn answer(alloc: Global, line: &str) -> Result<String, Memory> {
+    let mut pieces = Vec::new(alloc);
+    for piece in line.split('|') {
+        pieces.push(piece)?;
+    }
+    match pieces.as_slice() {
+        [name, bytes, folders @ ..] => session_answer(alloc, name, bytes, folders),
+        _ => Ok(String::from_str(alloc, "no row\n")?),
+    }
+}
+
+/// The exit code and the output of a session.
+fn session_answer(
+    alloc: Global,
+    name: &str,
+    bytes: &str,
+    folders: &[&str],
+) -> Result<String, Memory> {
+    let Some(folders) = folders_of(alloc, folders)? else {
+        return Ok(String::from_str(alloc, "no folders\n")?);
+    };
+    let mut answers = DocumentAnswers::new(folders);
+    let bytes = decoded(alloc, bytes)?;
+    let mut input = bytes.as_slice();
+    let mut output = Vec::new(alloc);
+    let code = serve_words(alloc, &[], &mut answers, &mut input, &mut output).code();
+    let text = String::from_utf8_lossy(alloc, &output)?;
+    Ok(format!(in alloc; "{name} {code}\n{text}\n")?)
+}
