@@ -6,7 +6,7 @@ use Rattle.ml_syntax.specs.Tree.{ModuleTypeItem, OpenItem, IncludeItem, SigItem,
 use Rattle.ml_syntax.specs.Tree.{AliasSig, ModuleTypeSig, OpenSig, IncludeSig}
 use Rattle.unit_order.specs.Heads.{bound_by_name, bound_by_param, bound_by_params, bound_by_item, bound_by_sig_item}
 
-all : (bound : List (List ℕ)) → take (length bound) bound ≡ bound
+pub all : (bound : List (List ℕ)) → take (length bound) bound ≡ bound
 all [] = refl
 all (x ∷ bound) = ap (λ xs. x ∷ xs) (all bound)
 

@@ -1,9 +1,9 @@
-pub mod Locals
-pub mod Branches
 pub mod Counted
 pub mod Fronts
+pub mod Needing
 pub mod Chains
 pub mod Spread
+pub mod Stacks
 pub mod Stuck
 pub mod Table
 pub mod Users

@@ -1,4 +1,5 @@
 pub mod Heads
+pub mod Hearing
 pub mod Counts
 pub mod Order
 pub mod Positions

@@ -4,14 +4,11 @@
 mod bound;
 mod counts;
 mod cycle;
-mod expression_heads;
+mod heads;
 mod link_order;
 mod listed;
-mod local_heads;
-mod module_heads;
 mod need_lists;
 mod path;
-mod pattern_heads;
 mod taking;
 mod unit_needs;
 

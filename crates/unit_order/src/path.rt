@@ -1,11 +1,11 @@
-//! The heads of paths, and the names that are bound behind the name of a module.
+//! The heads of paths.
 
 ghost use Rattle.std.specs.Prelude.{◌≡◌, ◌++◌, ◌∷◌, [], OnOk, if◌then◌else◌};
-ghost use Rattle.ml_syntax.specs.View.{view_words, view_module_name};
-ghost use Rattle.unit_order.specs.Heads.{is_among, module_head, prefix_head, bound_by_name};
+ghost use Rattle.ml_syntax.specs.View.{view_words};
+ghost use Rattle.unit_order.specs.Heads.{is_among, module_head, prefix_head};
 
 use crate::bound::Bound;
-use ml_syntax::{ModuleName, Word};
+use ml_syntax::Word;
 use rotor_base::{Memory, Name};
 use std::alloc::Global;
 
@@ -53,15 +53,5 @@ pub fn add_prefix(
         [] => Ok(()),
         [_] => Ok(()),
         [first, ..] => add_unless_bound(alloc, bound, found, first.name.as_bytes()),
-    }
-}
-
-/// Adds the name of a module to those that are bound.
-pub fn bind(alloc: Global, bound: &mut Bound, name: &ModuleName) -> Result<(), Memory>
-    ensures { OnOk result (bound.new ≡ bound_by_name bound.old (view_module_name name.now)) }
-{
-    match name {
-        ModuleName::Upper(word) => bound.push(alloc, word.name.as_bytes()),
-        ModuleName::Any { .. } => Ok(()),
     }
 }

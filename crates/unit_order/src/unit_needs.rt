@@ -1,11 +1,10 @@
 //! What a unit needs.
 
-ghost use Rattle.std.specs.Prelude.{◌≡◌, OnOk, IfOk};
+ghost use Rattle.std.specs.Prelude.{◌≡◌, IfOk};
 ghost use Rattle.ml_syntax.specs.View.{view_part_of, view_unit};
 ghost use Rattle.unit_order.specs.Heads.{file_heads, unit_heads};
 
-use crate::bound::Bound;
-use crate::module_heads::{body, face};
+use crate::heads::with_heads;
 use ml_syntax::{FileTree, UnitTree};
 use rotor_base::{Memory, Name};
 use std::alloc::Global;
@@ -19,19 +18,16 @@ use std::alloc::Global;
 pub fn needs(alloc: Global, unit: &UnitTree) -> Result<Vec<Name>, Memory>
     ensures { IfOk result (λ names. names.items ≡ unit_heads (view_unit unit.now)) }
 {
-    let mut found = Vec::new(alloc);
-    add_file(alloc, &mut found, &unit.body)?;
-    add_file(alloc, &mut found, &unit.face)?;
-    Ok(found)
+    let found = add_file(alloc, Vec::new(alloc), &unit.body)?;
+    add_file(alloc, found, &unit.face)
 }
 
-/// Adds the heads of a file.
-fn add_file(alloc: Global, found: &mut Vec<Name>, file: &Option<FileTree>) -> Result<(), Memory>
-    ensures { OnOk result (found.new.items ≡ file_heads found.old.items (view_part_of file.now)) }
+/// The heads that were found, and then those of a file.
+fn add_file(alloc: Global, found: Vec<Name>, file: &Option<FileTree>) -> Result<Vec<Name>, Memory>
+    ensures { IfOk result (λ heads. heads.items ≡ file_heads found.items (view_part_of file.now)) }
 {
     match file {
-        None => Ok(()),
-        Some(FileTree::Body(_, items)) => body(alloc, &mut Bound::new(alloc), found, items),
-        Some(FileTree::Face(_, items)) => face(alloc, &mut Bound::new(alloc), found, items),
+        None => Ok(found),
+        Some(file) => with_heads(alloc, found, file),
     }
 }

@@ -1,0 +1,4 @@
+pub mod LocalViews
+pub mod Loops
+pub mod Silent
+pub mod Tells

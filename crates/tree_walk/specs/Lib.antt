@@ -1,0 +1,4 @@
+pub mod Events
+pub mod Behind
+pub mod Told
+pub mod Heard
