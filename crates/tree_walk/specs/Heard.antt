@@ -1,5 +1,4 @@
 -- The events of the program as events of the definitions (own).
-use Rattle.std.specs.Prelude.{Bool}
 use Rattle.rotor_base.specs.declared.token.Class.TheVariants as class
 use Rattle.ml_syntax.specs.Tok.{fixed, word}
 use Rattle.ml_syntax.specs.Tree.{PlainName, OperatorName}

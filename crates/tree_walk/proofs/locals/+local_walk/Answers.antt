@@ -1,4 +1,3 @@
-use Rattle.std.proofs.Common.{◌≡◌, ◌∙◌, ap, sym}
 use Rattle.ml_syntax.specs.View.{locals}
 use Rattle.tree_walk.specs.Told.{locals_told}
 use Rattle.tree_walk.proofs.Tells.{told_no_local}

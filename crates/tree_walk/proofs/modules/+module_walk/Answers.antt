@@ -1,4 +1,4 @@
-use Rattle.std.proofs.Common.{◌≡◌, ◌∙◌, ap, sym}
+use Rattle.std.proofs.Common.{◌∙◌, ap, sym}
 use Rattle.ml_syntax.specs.View.{view_mod_argument, view_functor_param, view_mod, view_module_name, view_item, view_sig_item, signature, mod_arguments, functor_params, items, sig_items}
 use Rattle.ml_syntax.proofs.Variants.{at_item_module}
 use Rattle.tree_walk.specs.Events.{scope_begins, scope_ends}
