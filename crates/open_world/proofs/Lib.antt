@@ -1,0 +1,14 @@
+pub mod Twofold
+pub mod Seen
+pub mod Fixed
+pub mod Told
+pub mod Spelling
+pub mod Grown
+pub mod Matched
+pub mod Alike
+pub mod Opening
+pub mod Resolved
+pub mod Words
+pub mod Before
+pub mod Own
+pub mod Joined

@@ -1,0 +1,39 @@
+-- What stays valid whatever units define the outside modules (own).
+use Rattle.std.specs.Prelude.{List, [], ◌∷◌, ◌++◌}
+use Rattle.ml_syntax.specs.Sound.{IsSound}
+use Rattle.ml_syntax.specs.Tree.{UnitTree}
+use Rattle.shape_core.specs.Shape.{Shape, Struct, Functor, Unitary, Opaque, Entries, none, a_val, a_mod, a_mty, a_dark}
+use Rattle.binding_model.specs.Facts.{IsGood}
+use Rattle.binding_model.specs.Renaming.{Renaming, IsValid}
+use Rattle.binding_model.specs.Scopes.{unit_shape, after_unit}
+
+-- each entry is a value
+abbrev pub AreValues : Entries → Type 0
+AreValues none = Unit {0}
+AreValues (a_val x g es) = AreValues es
+AreValues (a_mod X s es) = ⊥
+AreValues (a_mty S s es) = ⊥
+AreValues (a_dark at es) = ⊥
+
+-- a structure of values alone
+abbrev pub HoldsValues : Shape → Type 0
+HoldsValues (Struct es) = AreValues es
+HoldsValues (Functor p r) = ⊥
+HoldsValues (Unitary r) = ⊥
+HoldsValues Opaque = ⊥
+
+-- each of these units, one after another, holds values alone
+abbrev pub HoldValues : Entries → List UnitTree → Type 0
+HoldValues sc [] = Unit {0}
+HoldValues sc (u ∷ us) = HoldsValues (unit_shape sc u) × HoldValues (after_unit sc u) us
+
+-- Units that define outside modules are linked before a project. They hold values alone, no two units of both have one
+-- name and no two files one number, and the project that they make is good.
+pub record Opens (outside us : List UnitTree) : Type 0 where
+  pub values : HoldValues none outside
+  pub sound : IsSound (outside ++ us)
+  pub good : IsGood (outside ++ us)
+
+-- Law: a renaming that is valid is valid whatever units define the outside modules, as long as these hold values alone
+abbrev pub StaysValid : Type 0
+StaysValid = (outside us : List UnitTree) (r : Renaming) → IsSound us → IsValid us r → Opens outside us → IsValid (outside ++ us) r
