@@ -22,6 +22,7 @@ use Rattle.shape_core.proofs.Lists.{append_assoc, append_none}
 use Rattle.binding_model.specs.Facts.{facts, facts_of, in_order, decls, AreNamedApart}
 use Rattle.binding_model.specs.Renaming.{Renaming, IsBinder, file_places, places, at_place, site_name, name_of, words_of, respell, Changes}
 use Rattle.binding_model.specs.Renaming.{IsFixedSite}
+use Rattle.binding_model.specs.Renaming.{goal_at, new_word}
 use Rattle.binding_model.specs.Renaming.{HasBehind, IsBlur, IsFree, IsValid}
 use Rattle.binding_model.specs.Scopes.{unit_shape, after_unit, after_units}
 use Rattle.binding_model.specs.Steps.{refs_of, trace, groups_of, spell_steps}
@@ -36,14 +37,16 @@ use Rattle.binding_model.proofs.Projects.{steps_stay, each_front, each_back}
 use Rattle.binding_model.proofs.Sounds.{Other, Apart, each_map, each_joined, found_all, sound_named}
 use Rattle.binding_model.proofs.Standing.{same_swap, each_unordered}
 use Rattle.binding_model.proofs.Staying.{ref_at, groups-spell}
-use Rattle.binding_model.proofs.Telltale.{apart_of, each_contained, each_two}
-use Rattle.open_world.specs.Laws.{AreValues, HoldsValues, HoldValues, Opens, StaysValid}
+use Rattle.binding_model.proofs.Uses.{place_if}
+use Rattle.binding_model.proofs.Using.{uses_places, refs_at_uses}
+use Rattle.binding_model.proofs.Telltale.{no_goal, apart_of, each_contained, each_two}
+use Rattle.open_world.specs.Laws.{TakesTheSameWords, WordsStay, AreValues, HoldsValues, HoldValues, Opens, StaysValid}
 use Rattle.open_world.proofs.Twofold.{Values, block, KeptGoal, KeptBlock, end}
 use Rattle.open_world.proofs.Opening.{Outsides, base, AreKept, Scopes, Lists, Shapes, is_kept}
 use Rattle.open_world.proofs.Alike.{Alike, units_alike}
 use Rattle.open_world.proofs.Told.{Told, tell, source, Keeps}
 use Rattle.open_world.proofs.Grown.{Stays}
-use Rattle.open_world.proofs.Resolved.{KeepsAll, Nm, steps_new, uses_back, groups_alike}
+use Rattle.open_world.proofs.Resolved.{word_for, HasWord, TakesSame, uses_take, KeepsAll, Nm, steps_new, uses_back, groups_alike}
 use Rattle.open_world.proofs.Words.{Agree, entries_agree, link_of, told_links, same_links, same_refs, seen_word, all_told, at_binder, binders_agree}
 use Rattle.open_world.proofs.Words.{uses_agree, item_name, items_named, behind_name, sources_named, items_declared}
 use Rattle.open_world.proofs.Before.{keeps_all, each_back_map, each_front_map}
@@ -489,6 +492,85 @@ module _ (qs us : List UnitTree) (r : Renaming) (sound : IsSound us) (valid : Is
     };
     same = same_facts;
   }
+
+  -- ---- the words
+
+  abbrev TakesName : Ref → Type 0
+  TakesName u = w u.at (name u.at) ≡ name u.at
+
+  words_ws : Each (HasWord v name out.all kept w W w) (refs_of (steps qs) ++ refs_of (units_steps B us))
+  words_ws = subst (Each (HasWord v name out.all kept w W w)) refs_are (uses_agree ws o.sound r name)
+
+  use_words : Each (TakesSame v name out.all kept w W) (refs_of (steps us))
+  use_words =
+      uses_take v name out.all kept w W (steps us) (units_steps B us) alike us_named before (uses_agree us sound r name)
+      (each_back (HasWord v name out.all kept w W w) (refs_of (steps qs)) (refs_of (units_steps B us)) words_ws)
+
+  entry_kept : (g : Goal) (x z : Name) → NamedGoal NoEntry g z → word_for v name g x ≡ x
+  entry_kept (Decl d) x z h = ap (λ y. or_value y x) h
+  entry_kept Outside x z h = refl
+  entry_kept Missing x z h = refl
+  entry_kept Hidden x z h = refl
+  entry_kept (Blur by n b) x z h = refl
+
+  outside_words : Each TakesName (refs_of (steps qs))
+  outside_words =
+      each_two (HasWord v name out.all kept w W w) (UsesOneName NoEntry) TakesName (refs_of (steps qs))
+      (λ u h n. h (name u.at) ∙ entry_kept u.goal (name u.at) n.0 n.2)
+      (each_front (HasWord v name out.all kept w W w) (refs_of (steps qs)) (refs_of (units_steps B us)) words_ws)
+      (steps_use NoEntry (steps qs) entry_qs)
+
+  -- what holds at each reference holds at each place that binds nothing
+  use_places : (P : Place → Type 0) (L : List (Place × Site)) → Each P (uses_places L) → Each (λ e. e.1.binds ≡ false → P e.0) L
+  use_places P [] h = tt
+  use_places P (e ∷ L) h = (
+    λ b. (each_front P (place_if false e.0) (uses_places L) (subst (λ c. Each P (place_if c e.0 ++ uses_places L)) b h)).0,
+    use_places P L (each_back P (place_if e.1.binds e.0) (uses_places L) h),
+  )
+
+  at_uses : (P : Place → Type 0) (xs : List UnitTree) → Each (λ u. P u.at) (refs_of (steps xs)) → Each (λ e. e.1.binds ≡ false → P e.0) (places xs)
+  at_uses P xs h = use_places P (places xs) (subst (Each P) (sym (refs_at_uses xs)) (each_front_map P ref_at (refs_of (steps xs)) h))
+
+  no_goals : Each (λ e. e.1.binds ≡ true → goal_at (facts ws).refs e.0 ≡ None) (places qs ++ places us)
+  no_goals = subst (Each (λ e. e.1.binds ≡ true → goal_at (facts ws).refs e.0 ≡ None)) (places_both qs us) (no_goal ws (apart_of ws o.sound))
+
+  by_kind : {A : Type 0} (b : Bool) → (b ≡ true → A) → (b ≡ false → A) → A
+  by_kind true f g = f refl
+  by_kind false f g = g refl
+
+  project_words : Each (λ e. w e.0 e.1.name ≡ W e.0 e.1.name) (places us)
+  project_words =
+      each_two (λ e. e.1.binds ≡ false → w e.0 (name e.0) ≡ W e.0 (name e.0)) (λ e. IsCalled e × (e.1.binds ≡ true → w e.0 e.1.name ≡ W e.0 e.1.name))
+      (λ e. w e.0 e.1.name ≡ W e.0 e.1.name) (places us)
+      (λ e f n. by_kind e.1.binds n.1 (λ b. subst (λ x. w e.0 x ≡ W e.0 x) n.0 (f b)))
+      (at_uses (λ p. w p (name p) ≡ W p (name p)) us use_words)
+      (each_two IsCalled (λ e. e.1.binds ≡ true → w e.0 e.1.name ≡ W e.0 e.1.name)
+      (λ e. IsCalled e × (e.1.binds ≡ true → w e.0 e.1.name ≡ W e.0 e.1.name)) (places us) (λ e h k. (h, k)) named_us
+      (each_two (λ e. e.1.binds ≡ true → goal_at (facts ws).refs e.0 ≡ None) (λ e. e.1.binds ≡ true → goal_at (facts us).refs e.0 ≡ None)
+      (λ e. e.1.binds ≡ true → w e.0 e.1.name ≡ W e.0 e.1.name) (places us)
+      (λ e h k b. ap (λ g. new_word r g e.0 e.1.name) (h b) ∙ sym (ap (λ g. new_word r g e.0 e.1.name) (k b)))
+      (each_back (λ e. e.1.binds ≡ true → goal_at (facts ws).refs e.0 ≡ None) (places qs) (places us) no_goals)
+      (no_goal us (apart_of us sound))))
+
+  new_words : Each (λ e. w e.0 e.1.name ≡ e.1.name) (places qs)
+  new_words =
+      each_two (λ e. e.1.binds ≡ false → w e.0 (name e.0) ≡ name e.0) (λ e. IsCalled e × (e.1.binds ≡ true → w e.0 e.1.name ≡ e.1.name))
+      (λ e. w e.0 e.1.name ≡ e.1.name) (places qs)
+      (λ e f n. by_kind e.1.binds n.1 (λ b. subst (λ x. w e.0 x ≡ x) n.0 (f b)))
+      (at_uses (λ p. w p (name p) ≡ name p) qs outside_words)
+      (each_two IsCalled (λ e. e.1.binds ≡ true → w e.0 e.1.name ≡ e.1.name) (λ e. IsCalled e × (e.1.binds ≡ true → w e.0 e.1.name ≡ e.1.name))
+      (places qs)
+      (λ e h k. (h, k)) (each_front IsCalled (places qs) (places us) (subst (Each IsCalled) (places_both qs us) named_ws))
+      (each_two (λ e. e.1.binds ≡ true → goal_at (facts ws).refs e.0 ≡ None) (λ e. at_place r e.0 ≡ None)
+      (λ e. e.1.binds ≡ true → w e.0 e.1.name ≡ e.1.name) (places qs)
+      (λ e h k b. ap (λ g. new_word r g e.0 e.1.name) (h b) ∙ ap (λ y. or_value y e.1.name) k)
+      (each_front (λ e. e.1.binds ≡ true → goal_at (facts ws).refs e.0 ≡ None) (places qs) (places us) no_goals) no_entry))
+
+  pub words_there : TakesTheSameWords qs us r
+  words_there = record { project = project_words; new_units = new_words }
+
+pub words_stay : WordsStay
+words_stay qs us r sound valid o = words_there qs us r sound valid o
 
 pub stays_valid : StaysValid
 stays_valid qs us r sound valid o = valid_there qs us r sound valid o

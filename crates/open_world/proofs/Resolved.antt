@@ -175,6 +175,10 @@ module _ (v : Words) (name : Place → Name) where
           (length (passed (news m) x)) d i) b.0
           (length (passed (olds m) x)) b.1)
 
+      -- the use has the word that it had
+      pub use_word : word_for g' x ≡ word_for g x
+      use_word = decl_word (passed (olds m) x) refl
+
       -- a declaration that is found now was found before, or keeps its word
       pub use_back : (d : Place) → g' ≡ Decl d → (g ≡ Decl d) ⊎ (v d x ≡ x)
       use_back d e = back_from (passed (olds m) x) refl d e
@@ -230,6 +234,11 @@ module _ (v : Words) (name : Place → Name) where
   alone_back us a m h x k d e =
       use_back Outside outside_decl outside_blur m h x k d (sym (ap (λ f. or_value f Outside) (base_find us (news m) x)) ∙ e)
 
+  alone_word : (us : Outsides) → AreKept v us us → (m : Parts) → Fines v name m → (x : Name) → AloneKeeps x (olds m)
+      → word_for (value_at (base us ⊕ news m) x) x ≡ word_for (value_at (olds m) x) x
+  alone_word us a m h x k =
+      ap (λ f. word_for (or_value f Outside) x) (base_find us (news m) x) ∙ use_word Outside outside_decl outside_blur m h x k
+
   -- ---- under a module that is filled in
 
   block_passed : (vs : Values) (x : Name) → passed (block vs) x ≡ []
@@ -280,6 +289,13 @@ module _ (v : Words) (name : Place → Name) where
   under_back (Makes r) h x k d e = absurd cc
   under_back Unknown h x k d e = absurd cc
   under_back (Filled vs) h x k d e = inr (filled_word vs h x d e)
+
+  under_word : (t : Twofold) → Fine v name t → (x : Name) → UnderKeeps x (old t) → word_for (value_in (new t) x) x ≡ word_for (value_in (old t) x) x
+  under_word (Known m) h x k = use_word Missing missing_decl missing_blur m h x k
+  under_word (Maps p r) h x k = refl
+  under_word (Makes r) h x k = refl
+  under_word Unknown h x k = refl
+  under_word (Filled vs) h x k = word_stays (value_in (Struct (block vs)) x) x (λ d e. filled_word vs h x d e)
 
   -- ---- names and what is kept
 
@@ -435,3 +451,40 @@ module _ (v : Words) (name : Place → Name) where
     groups_alike _ _ (weighed_alike at s s') = refl
     groups_alike _ _ (opened_alike at s s') = refl
     groups_alike _ _ start_alike = refl
+
+    -- a use takes the word that it takes without the outside modules
+    module _ (w W : Words) where
+      abbrev pub HasWord : Words → Ref → Type 0
+      HasWord u r = (x : Name) → u r.at x ≡ word_for r.goal x
+
+      abbrev pub TakesSame : Ref → Type 0
+      TakesSame r = w r.at (name r.at) ≡ W r.at (name r.at)
+
+      pub uses_take : (ss ss' : Steps) → Alike (Scopes v us) (Shapes v us) ss ss' → NamedSteps Nm ss → KeepsAll (Stays v name) ss
+          → Each (HasWord W) (refs_of ss) → Each (HasWord w) (refs_of ss') → Each TakesSame (refs_of ss)
+      uses_take _ _ quiet_alike n k h i = tt
+      uses_take _ _ (then_alike x x' y y' p q) n k h i =
+          each_joined TakesSame (refs_of x) (refs_of y)
+          (uses_take x x' p n.0 k.0 (each_front (HasWord W) (refs_of x) (refs_of y) h) (each_front (HasWord w) (refs_of x') (refs_of y') i))
+          (uses_take y y' q n.1 k.1 (each_back (HasWord W) (refs_of x) (refs_of y) h) (each_back (HasWord w) (refs_of x') (refs_of y') i))
+      uses_take _ _ (alone_alike at x sc sc' c) n k h i =
+          let named = subst (Named Nm) (sym c.was) n.1 in
+          let same : word_for (value_at sc' x) x ≡ word_for (value_at sc x) x =
+          subst (λ l. word_for (value_at l x) x ≡ word_for (value_at sc x) x) c.is
+          (subst (λ l. word_for (value_at (base us ⊕ news c.parts) x) x ≡ word_for (value_at l x) x) c.was
+          (alone_word us a c.parts (fines_of us c.parts named c.kept) x (subst (AloneKeeps x) (sym c.was) k))) in
+          (subst (λ z. w at z ≡ W at z) (sym n.0) (i.0 x ∙ (same ∙ sym (h.0 x))), tt)
+      uses_take _ _ (under_alike at x s s' c) n k h i =
+          let named = subst (NamedShape Nm) (sym c.was) n.1 in
+          let same : word_for (value_in s' x) x ≡ word_for (value_in s x) x =
+          subst (λ l. word_for (value_in l x) x ≡ word_for (value_in s x) x) c.is
+          (subst (λ l. word_for (value_in (new c.two) x) x ≡ word_for (value_in l x) x) c.was
+          (under_word c.two (fine_of us c.two named c.kept) x (subst (UnderKeeps x) (sym c.was) k))) in
+          (subst (λ z. w at z ≡ W at z) (sym n.0) (i.0 x ∙ (same ∙ sym (h.0 x))), tt)
+      uses_take _ _ (match_alike s s' t t' c e) n k h i = tt
+      uses_take _ _ (pin_alike s s' c) n k h i = tt
+      uses_take _ _ (tie_alike p q) n k h i = tt
+      uses_take _ _ (group_alike es) n k h i = tt
+      uses_take _ _ (weighed_alike at s s') n k h i = tt
+      uses_take _ _ (opened_alike at s s') n k h i = tt
+      uses_take _ _ start_alike n k h i = tt

@@ -1,10 +1,11 @@
 -- What stays valid whatever units define the outside modules (own).
-use Rattle.std.specs.Prelude.{List, [], ◌∷◌, ◌++◌}
+use Rattle.std.specs.Prelude.{◌≡◌, List, [], ◌∷◌, ◌++◌}
+use Rattle.ml_syntax.specs.Each.{Each}
 use Rattle.ml_syntax.specs.Sound.{IsSound}
 use Rattle.ml_syntax.specs.Tree.{UnitTree}
 use Rattle.shape_core.specs.Shape.{Shape, Struct, Functor, Unitary, Opaque, Entries, none, a_val, a_mod, a_mty, a_dark}
-use Rattle.binding_model.specs.Facts.{IsGood}
-use Rattle.binding_model.specs.Renaming.{Renaming, IsValid}
+use Rattle.binding_model.specs.Facts.{facts, IsGood}
+use Rattle.binding_model.specs.Renaming.{Renaming, places, words_of, IsValid}
 use Rattle.binding_model.specs.Scopes.{unit_shape, after_unit}
 
 -- each entry is a value
@@ -37,3 +38,12 @@ pub record Opens (outside us : List UnitTree) : Type 0 where
 -- Law: a renaming that is valid is valid whatever units define the outside modules, as long as these hold values alone
 abbrev pub StaysValid : Type 0
 StaysValid = (outside us : List UnitTree) (r : Renaming) → IsSound us → IsValid us r → Opens outside us → IsValid (outside ++ us) r
+
+-- Each place of the project takes the word that it takes without the outside units. Each place of these keeps its word.
+pub record TakesTheSameWords (outside us : List UnitTree) (r : Renaming) : Type 0 where
+  pub project : Each (λ e. words_of r (facts (outside ++ us)).refs e.0 e.1.name ≡ words_of r (facts us).refs e.0 e.1.name) (places us)
+  pub new_units : Each (λ e. words_of r (facts (outside ++ us)).refs e.0 e.1.name ≡ e.1.name) (places outside)
+
+-- Law: each place takes the word that it takes without these units, and each of theirs keeps its word
+abbrev pub WordsStay : Type 0
+WordsStay = (outside us : List UnitTree) (r : Renaming) → IsSound us → IsValid us r → Opens outside us → TakesTheSameWords outside us r
