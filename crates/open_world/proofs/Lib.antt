@@ -12,3 +12,4 @@ pub mod Words
 pub mod Before
 pub mod Own
 pub mod Joined
+pub mod Rows
