@@ -12,7 +12,8 @@ use Rattle.rotor_base.specs.declared.place.Goal.TheVariants.{Decl, Outside, Miss
 use Rattle.ml_syntax.specs.Each.{Each}
 use Rattle.ml_syntax.specs.Places.{Site}
 use Rattle.ml_syntax.specs.Sound.{IsSound}
-use Rattle.ml_syntax.specs.Tree.{UnitTree}
+use Rattle.ml_syntax.specs.Tree.{FileTree, Body, Face, UnitTree}
+use Rattle.shape_core.specs.Respell.{over}
 use Rattle.shape_core.specs.Shape.{Name, Shape, Struct, Functor, Unitary, Opaque, Entries, none, a_val, a_mod, a_mty, a_dark, ◌⊕◌, vals, or_else}
 use Rattle.shape_core.specs.Shape.{or_value}
 use Rattle.shape_core.specs.Shape.{some_if}
@@ -42,7 +43,8 @@ use Rattle.binding_model.proofs.Using.{uses_places, refs_at_uses}
 use Rattle.binding_model.proofs.Telltale.{no_goal, apart_of, each_contained, each_two}
 use Rattle.open_world.specs.Laws.{TakesTheSameWords, WordsStay, AreValues, HoldsValues, HoldValues, Opens, StaysValid}
 use Rattle.open_world.proofs.Twofold.{Values, block, KeptGoal, KeptBlock, end}
-use Rattle.open_world.proofs.Opening.{Outsides, base, AreKept, Scopes, Lists, Shapes, is_kept}
+use Rattle.open_world.proofs.Opening.{own_number, Equal, Outsides, base, AreKept, Scopes, Lists, Shapes, is_kept}
+use Rattle.open_world.specs.Laws.{renumbered, unit_renumbered}
 use Rattle.open_world.proofs.Alike.{Alike, units_alike}
 use Rattle.open_world.proofs.Told.{Told, tell, source, Keeps}
 use Rattle.open_world.proofs.Grown.{Stays}
@@ -76,7 +78,7 @@ none_at [] p h = refl
 none_at (e ∷ L) p h = ap (λ b. or_else (some_if b e.1) (at_place L p)) (same_swap e.0 p ∙ h.0) ∙ none_at L p h.1
 
 -- the entry that a look-up finds is in the list
-at_contains : (r : Renaming) (d : Place) (y : Name) → at_place r d ≡ Some y → Contains r (d, y)
+pub at_contains : (r : Renaming) (d : Place) (y : Name) → at_place r d ≡ Some y → Contains r (d, y)
 at_contains [] d y e = absurd cc
 at_contains (x ∷ r) d y e = by (same_place x.0 d) refl e (at_contains r d y)
   where
@@ -189,6 +191,20 @@ is_blur Missing h = absurd h
 is_blur Hidden h = absurd h
 is_blur (Blur by n b) h = (by, n, b, refl)
 
+-- ---- files with their own numbers
+
+tree_own : (o : Option FileTree) → over (renumbered own_number) o ≡ o
+tree_own None = refl
+tree_own (Some (Body f is)) = refl
+tree_own (Some (Face f is)) = refl
+
+all_own : (us : List UnitTree) → map (unit_renumbered own_number) us ≡ us
+all_own [] = refl
+all_own (u ∷ us) =
+    ap (λ b. record { name = u.name; body = b; face = over (renumbered own_number) u.face } ∷ map (unit_renumbered own_number) us) (tree_own u.body)
+    ∙ ap (λ d. record { name = u.name; body = u.body; face = d } ∷ map (unit_renumbered own_number) us) (tree_own u.face)
+    ∙ ap (λ xs. u ∷ xs) (all_own us)
+
 -- ---- the project behind the outside modules
 
 module _ (qs us : List UnitTree) (r : Renaming) (sound : IsSound us) (valid : IsValid us r) (o : Opens qs us) where
@@ -268,10 +284,11 @@ module _ (qs us : List UnitTree) (r : Renaming) (sound : IsSound us) (valid : Is
   kept : AreKept v out.all out.all
   kept = out.kept out.all
 
-  alike : Alike (Scopes v out.all) (Shapes v out.all) (steps us) (units_steps B us)
+  alike : Alike own_number (Scopes v out.all) Equal (Shapes v out.all) (steps us) (units_steps B us)
   alike =
-      units_alike (Scopes v out.all) (Lists v out.all) (Shapes v out.all) (is_kept v out.all kept) us none B
-      (record { parts = end; was = refl; is = append_none B; kept = tt })
+      subst (λ xs. Alike own_number (Scopes v out.all) Equal (Shapes v out.all) (steps us) (units_steps B xs)) (all_own us)
+      (units_alike own_number (Scopes v out.all) (Lists v out.all) Equal (Shapes v out.all) (is_kept v out.all kept) us none B
+      (record { parts = end; was = refl; is = append_none B; kept = tt }))
 
   before : KeepsAll v name (Stays v name) (steps us)
   before = keeps_all us sound r valid name named_us (at_contains r)

@@ -13,3 +13,5 @@ pub mod Before
 pub mod Own
 pub mod Joined
 pub mod Rows
+pub mod Renumbered
+pub mod Moved

@@ -26,6 +26,13 @@ abbrev pub base : Outsides → Entries
 base [] = none
 base (e ∷ us) = a_mod e.0 (Struct (block e.1)) (base us)
 
+-- the files keep their numbers, and variables are the same
+abbrev pub own_number : ℕ → ℕ
+own_number f = f
+
+abbrev pub Equal : Entries → Entries → Type 0
+Equal a b = a ≡ b
+
 -- ---- parts one after another
 
 abbrev and_then : Parts → Parts → Parts
@@ -490,7 +497,7 @@ module _ (w : Words) (us : Outsides) where
   }
 
   apply_like : (t : Twofold) (s a s' a' : Shape) → old t ≡ s → new t ≡ s' → Kept t → Shapes a a'
-      → Alike Scopes Shapes (apply_steps (old t) a) (apply_steps (new t) a')
+      → Alike own_number Scopes Equal Shapes (apply_steps (old t) a) (apply_steps (new t) a')
   apply_like (Known m) s a s' a' e i k h = pin_alike a a' h
   apply_like (Maps p r) s a s' a' e i k h = match_alike a a' (old p) (new p) h (record { two = p; was = refl; is = refl; kept = k.0 })
   apply_like (Makes r) s a s' a' e i k h = quiet_alike
@@ -498,7 +505,7 @@ module _ (w : Words) (us : Outsides) where
   apply_like (Filled vs) s a s' a' e i k h = pin_alike a a' h
 
   -- the rules of names keep the likeness
-  pub is_kept : AreKept us → IsKept Scopes Lists Shapes
+  pub is_kept : AreKept us → IsKept own_number Scopes Lists Equal Shapes
   is_kept a = record {
     on = λ sc sc' b b' c r. record {
       parts = and_then c.parts r.parts;
@@ -515,6 +522,7 @@ module _ (w : Words) (us : Outsides) where
       is = news_then h.parts r.parts ∙ ap (λ l. l ⊕ news r.parts) h.is ∙ ap (λ l. x' ⊕ l) r.is;
       kept = kept_then h.parts r.parts h.kept r.kept;
     };
+    variables_too = λ f xs. refl;
     values = λ f xs. record { parts = values_of f xs; was = olds_values f xs; is = news_values f xs; kept = kept_values f xs };
     module_too = λ X s s' h. record {
       parts = mod_of X h.two end;
@@ -552,6 +560,7 @@ module _ (w : Words) (us : Outsides) where
       kept = kept_applied h.two h.kept;
     };
     apply_step = λ s s' x x' h k.
-        subst (λ t. Alike Scopes Shapes (apply_steps t x) (apply_steps s' x')) h.was
-        (subst (λ t. Alike Scopes Shapes (apply_steps (old h.two) x) (apply_steps t x')) h.is (apply_like h.two s x s' x' h.was h.is h.kept k));
+        subst (λ t. Alike own_number Scopes Equal Shapes (apply_steps t x) (apply_steps s' x')) h.was
+        (subst (λ t. Alike own_number Scopes Equal Shapes (apply_steps (old h.two) x) (apply_steps t x')) h.is
+        (apply_like h.two s x s' x' h.was h.is h.kept k));
   }

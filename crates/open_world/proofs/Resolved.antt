@@ -30,7 +30,7 @@ use Rattle.open_world.proofs.Told.{Told, tell, Any, declared, Keeps, keeps_pin}
 use Rattle.open_world.proofs.Spelling.{named_spells, named_olds, named_news, nothing_passed, found_stays, block_named}
 use Rattle.open_world.proofs.Grown.{Stays, deep_from, behind_is, kept_or}
 use Rattle.open_world.proofs.Matched.{grows_to}
-use Rattle.open_world.proofs.Opening.{Outsides, base, Kept, Kepts, AreKept, Shapes, Scopes}
+use Rattle.open_world.proofs.Opening.{own_number, Equal, Outsides, base, Kept, Kepts, AreKept, Shapes, Scopes}
 
 -- ---- look-ups with a goal for what is not found
 
@@ -367,7 +367,7 @@ module _ (v : Words) (name : Place → Name) where
   -- ---- steps
 
   module _ (us : Outsides) (a : AreKept v us us) where
-    pub steps_new : (ss ss' : Steps) → Alike (Scopes v us) (Shapes v us) ss ss' → NamedSteps Nm ss → KeepsAll (Stays v name) ss
+    pub steps_new : (ss ss' : Steps) → Alike own_number (Scopes v us) Equal (Shapes v us) ss ss' → NamedSteps Nm ss → KeepsAll (Stays v name) ss
         → KeepsAll (Keeps v) ss'
     steps_new _ _ quiet_alike n k = tt
     steps_new _ _ (then_alike x x' y y' p q) n k = (steps_new x x' p n.0 k.0, steps_new y y' q n.1 k.1)
@@ -392,10 +392,12 @@ module _ (v : Words) (name : Place → Name) where
         subst (λ z. Each (Keeps v) (pin tell z).told) c.is
         (keeps_pin v (new c.two) (deep_new v name c.two f
         (deep_from v name (old c.two) (subst (λ z. Each (Stays v name) (pin tell z).told) (sym c.was) k))))
-    steps_new _ _ (tie_alike p q) n k = each_weaker (tied tell p q & tied tell q p).told k
-    steps_new _ _ (group_alike es) n k = tt
-    steps_new _ _ (weighed_alike at s s') n k = tt
-    steps_new _ _ (opened_alike at s s') n k = tt
+    steps_new _ _ (tie_alike p p' q q' e i) n k =
+        subst (λ z. Each (Keeps v) (tied tell z q' & tied tell q' z).told) e
+        (subst (λ z. Each (Keeps v) (tied tell p z & tied tell z p).told) i (each_weaker (tied tell p q & tied tell q p).told k))
+    steps_new _ _ (group_alike es es' e) n k = tt
+    steps_new _ _ (weighed_alike at at' s s') n k = tt
+    steps_new _ _ (opened_alike at at' s s') n k = tt
     steps_new _ _ start_alike n k = tt
 
     module _ (P : Place → Type 0) (d : Place) (changed : v d (name d) ≡ name d → ⊥) where
@@ -408,7 +410,8 @@ module _ (v : Words) (name : Place → Name) where
           elim (b e) [ inl i ↦ u i | inr i ↦ absurd (changed (subst (λ y. v d y ≡ y) (sym (subst (λ z. NamedGoal Nm z x) e n)) i)) ]
 
       -- a use of a declaration that changes was one before
-      pub uses_back : (ss ss' : Steps) → Alike (Scopes v us) (Shapes v us) ss ss' → NamedSteps Nm ss → NamedSteps Nm ss' → KeepsAll (Stays v name) ss
+      pub uses_back : (ss ss' : Steps) → Alike own_number (Scopes v us) Equal (Shapes v us) ss ss' → NamedSteps Nm ss → NamedSteps Nm ss'
+          → KeepsAll (Stays v name) ss
           → Each IsUse (refs_of ss) → Each IsUse (refs_of ss')
       uses_back _ _ quiet_alike n m k u = tt
       uses_back _ _ (then_alike x x' y y' p q) n m k u =
@@ -432,24 +435,24 @@ module _ (v : Words) (name : Place → Name) where
           )
       uses_back _ _ (match_alike s s' t t' c e) n m k u = tt
       uses_back _ _ (pin_alike s s' c) n m k u = tt
-      uses_back _ _ (tie_alike p q) n m k u = tt
-      uses_back _ _ (group_alike es) n m k u = tt
-      uses_back _ _ (weighed_alike at s s') n m k u = tt
-      uses_back _ _ (opened_alike at s s') n m k u = tt
+      uses_back _ _ (tie_alike p p' q q' e i) n m k u = tt
+      uses_back _ _ (group_alike es es' e) n m k u = tt
+      uses_back _ _ (weighed_alike at at' s s') n m k u = tt
+      uses_back _ _ (opened_alike at at' s s') n m k u = tt
       uses_back _ _ start_alike n m k u = tt
 
     -- the groups are the same
-    pub groups_alike : (ss ss' : Steps) → Alike (Scopes v us) (Shapes v us) ss ss' → groups_of ss' ≡ groups_of ss
+    pub groups_alike : (ss ss' : Steps) → Alike own_number (Scopes v us) Equal (Shapes v us) ss ss' → groups_of ss' ≡ groups_of ss
     groups_alike _ _ quiet_alike = refl
     groups_alike _ _ (then_alike x x' y y' p q) = ap (λ l. l ++ groups_of y') (groups_alike x x' p) ∙ ap (λ l. groups_of x ++ l) (groups_alike y y' q)
     groups_alike _ _ (alone_alike at x sc sc' c) = refl
     groups_alike _ _ (under_alike at x s s' c) = refl
     groups_alike _ _ (match_alike s s' t t' c e) = refl
     groups_alike _ _ (pin_alike s s' c) = refl
-    groups_alike _ _ (tie_alike p q) = refl
-    groups_alike _ _ (group_alike es) = refl
-    groups_alike _ _ (weighed_alike at s s') = refl
-    groups_alike _ _ (opened_alike at s s') = refl
+    groups_alike _ _ (tie_alike p p' q q' e i) = refl
+    groups_alike _ _ (group_alike es es' e) = ap (λ z. z ∷ []) (sym e)
+    groups_alike _ _ (weighed_alike at at' s s') = refl
+    groups_alike _ _ (opened_alike at at' s s') = refl
     groups_alike _ _ start_alike = refl
 
     -- a use takes the word that it takes without the outside modules
@@ -460,7 +463,7 @@ module _ (v : Words) (name : Place → Name) where
       abbrev pub TakesSame : Ref → Type 0
       TakesSame r = w r.at (name r.at) ≡ W r.at (name r.at)
 
-      pub uses_take : (ss ss' : Steps) → Alike (Scopes v us) (Shapes v us) ss ss' → NamedSteps Nm ss → KeepsAll (Stays v name) ss
+      pub uses_take : (ss ss' : Steps) → Alike own_number (Scopes v us) Equal (Shapes v us) ss ss' → NamedSteps Nm ss → KeepsAll (Stays v name) ss
           → Each (HasWord W) (refs_of ss) → Each (HasWord w) (refs_of ss') → Each TakesSame (refs_of ss)
       uses_take _ _ quiet_alike n k h i = tt
       uses_take _ _ (then_alike x x' y y' p q) n k h i =
@@ -483,8 +486,8 @@ module _ (v : Words) (name : Place → Name) where
           (subst (λ z. w at z ≡ W at z) (sym n.0) (i.0 x ∙ (same ∙ sym (h.0 x))), tt)
       uses_take _ _ (match_alike s s' t t' c e) n k h i = tt
       uses_take _ _ (pin_alike s s' c) n k h i = tt
-      uses_take _ _ (tie_alike p q) n k h i = tt
-      uses_take _ _ (group_alike es) n k h i = tt
-      uses_take _ _ (weighed_alike at s s') n k h i = tt
-      uses_take _ _ (opened_alike at s s') n k h i = tt
+      uses_take _ _ (tie_alike p p' q q' e j) n k h i = tt
+      uses_take _ _ (group_alike es es' e) n k h i = tt
+      uses_take _ _ (weighed_alike at at' s s') n k h i = tt
+      uses_take _ _ (opened_alike at at' s s') n k h i = tt
       uses_take _ _ start_alike n k h i = tt

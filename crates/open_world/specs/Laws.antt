@@ -1,9 +1,11 @@
 -- What stays valid whatever units define the outside modules (own).
-use Rattle.std.specs.Prelude.{◌≡◌, List, [], ◌∷◌, ◌++◌}
+use Rattle.std.specs.Prelude.{◌≡◌, ◌<◌, ℕ, List, [], ◌∷◌, ◌++◌, map}
+use Rattle.rotor_base.specs.declared.place.Place.{Place}
 use Rattle.ml_syntax.specs.Each.{Each}
 use Rattle.ml_syntax.specs.Sound.{IsSound}
-use Rattle.ml_syntax.specs.Tree.{UnitTree}
+use Rattle.ml_syntax.specs.Tree.{FileTree, Body, Face, UnitTree}
 use Rattle.shape_core.specs.Shape.{Shape, Struct, Functor, Unitary, Opaque, Entries, none, a_val, a_mod, a_mty, a_dark}
+use Rattle.shape_core.specs.Respell.{over}
 use Rattle.binding_model.specs.Facts.{facts, IsGood}
 use Rattle.binding_model.specs.Renaming.{Renaming, places, words_of, IsValid}
 use Rattle.binding_model.specs.Scopes.{unit_shape, after_unit}
@@ -47,3 +49,28 @@ pub record TakesTheSameWords (outside us : List UnitTree) (r : Renaming) : Type 
 -- Law: each place takes the word that it takes without these units, and each of theirs keeps its word
 abbrev pub WordsStay : Type 0
 WordsStay = (outside us : List UnitTree) (r : Renaming) → IsSound us → IsValid us r → Opens outside us → TakesTheSameWords outside us r
+
+-- ---- the numbers of files
+
+-- files get other numbers, in the same order
+abbrev pub KeepsOrder : (ℕ → ℕ) → Type 0
+KeepsOrder φ = (a b : ℕ) → a < b → φ a < φ b
+
+-- a place, a tree, a unit and a renaming with the other numbers
+abbrev pub moved : (ℕ → ℕ) → Place → Place
+moved φ p = record { file = φ p.file; token = p.token }
+
+abbrev pub renumbered : (ℕ → ℕ) → FileTree → FileTree
+renumbered φ (Body f is) = Body (φ f) is
+renumbered φ (Face f is) = Face (φ f) is
+
+abbrev pub unit_renumbered : (ℕ → ℕ) → UnitTree → UnitTree
+unit_renumbered φ u = record { name = u.name; body = over (renumbered φ) u.body; face = over (renumbered φ) u.face }
+
+abbrev pub moved_renaming : (ℕ → ℕ) → Renaming → Renaming
+moved_renaming φ r = map (λ e. (moved φ e.0, e.1)) r
+
+-- Law: a renaming that is valid is valid if the files get other numbers in the same order, as they do beside more files
+abbrev pub NumbersStay : Type 0
+NumbersStay =
+    (us : List UnitTree) (r : Renaming) (φ : ℕ → ℕ) → KeepsOrder φ → IsValid us r → IsValid (map (unit_renumbered φ) us) (moved_renaming φ r)

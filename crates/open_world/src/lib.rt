@@ -1,10 +1,9 @@
 //! What stays valid whatever units define the outside modules.
 //!
-//! The law is about trees. The units that define outside modules come first in the order of linking, and the files of
-//! both have the numbers that they have together. No law says that other numbers of files keep a renaming valid, or that
-//! the derived order does. With a submodule the law is false: `open Stdlib` beside a unit `List`.
+//! The laws are about trees. The units that define outside modules come first in the order of linking. No law says that
+//! the derived order keeps a renaming valid. With a submodule the law is false: `open Stdlib` beside a unit `List`.
 #![tactic(auto)]
 
 mod laws;
 
-pub use laws::outside_may_open;
+pub use laws::{files_may_move, outside_may_open};
