@@ -1,0 +1,5 @@
+use Rattle.std.proofs.Common.{length}
+use Rattle.need_chains.proofs.chain.+push_chain.Given as goal
+
+abbrev pub decreases-push_chain : goal.decreases-push_chain
+decreases-push_chain l = length l.levels.now

@@ -1,0 +1,12 @@
+//! Chains of needs: the shortest way from a unit through others back to it.
+#![tactic(auto)]
+
+mod chain;
+mod levels;
+mod marks;
+mod needs;
+mod search;
+mod unit_heads;
+
+pub use search::circle;
+pub use unit_heads::UnitHeads;
