@@ -40,7 +40,8 @@ unfoldable pub chain : ℕ → List UnitHeads → List ℕ → List ℕ → List
 chain zero sources to unit = []
 chain (suc n) sources to unit = name_then (first_marked None sources (next_marks n sources to unit)) (chain n sources to)
 
--- a shortest chain of needs leads from a unit back to it, with so many units between; these are its units behind the first
+-- a shortest chain of needs leads from a unit back to it, with so many units between; these are its units behind the
+-- first
 pub record IsCircle (sources : List UnitHeads) (unit : List ℕ) (names : List (List ℕ)) : Type 0 where
   pub between : ℕ
   pub few : between < length sources

@@ -11,8 +11,8 @@ use crate::unit_heads::UnitHeads;
 use rotor_base::{Memory, Name, Row};
 use std::alloc::Global;
 
-/// The units of a shortest chain of needs from a unit back to it, behind the first; of all such chains the first in byte
-/// order. The one error is want of memory.
+/// The units of a shortest chain of needs from a unit back to it, behind the first; of all such chains the first in
+/// byte order. The one error is want of memory.
 pub fn circle(
     alloc: Global,
     sources: &[UnitHeads],

@@ -19,7 +19,7 @@ pairs [] = refl
 pairs (t ∷ ts) = ap (λ (rest : List (Class × List ℕ)). (t.class, t.bytes.now) ∷ rest) (pairs ts)
 
 -- the lexemes of the tokens are those of the grammar
-toks_same : (ts : List Token) → lexeme_toks 1 (view_tokens ts) ≡ from ts 0
+pub toks_same : (ts : List Token) → lexeme_toks 1 (view_tokens ts) ≡ from ts 0
 unfolding from
 toks_same ts = ap (toks_from 1) (pairs ts)
 
@@ -27,7 +27,7 @@ pub viewed : (ts : List Token) → length (view_tokens ts) ≡ length ts
 viewed [] = refl
 viewed (t ∷ ts) = ap suc (viewed ts)
 
-toks_length : (n : ℕ) (xs : List (Class × List ℕ)) → length (toks_from n xs) ≡ length xs
+pub toks_length : (n : ℕ) (xs : List (Class × List ℕ)) → length (toks_from n xs) ≡ length xs
 toks_length n [] = refl
 toks_length n (x ∷ xs) = ap suc (toks_length (suc n) xs)
 

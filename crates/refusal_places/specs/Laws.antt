@@ -1,13 +1,15 @@
--- Law: what is before the front is read (own; the OCaml manual, "Compilation units").
-use Rattle.std.specs.Prelude.{◌≡◌, List, true}
+-- Laws: what is before the front is read, and of a source that is read the front is the end (own; the OCaml manual,
+-- "Compilation units").
+use Rattle.std.specs.Prelude.{◌≡◌, ◌↔◌, ℕ, List, length, true}
 use Rattle.ml_lexer.specs.Lexed.{Lexeme}
 use Rattle.ml_syntax.specs.RespelledFile.{lexeme_toks}
-use Rattle.ml_syntax.specs.Tree.{Items, SigItems}
+use Rattle.ml_syntax.specs.Tree.{FileTree, Items, SigItems}
 use Rattle.ml_syntax.specs.WellFormed.{WfItems, WfSigItems}
 use Rattle.ml_syntax.specs.Words.{items_then, sig_items_then}
 use Rattle.parse_module.specs.declared.files.FileKind.{FileKind}
 use Rattle.parse_module.specs.declared.files.FileKind.TheVariants as kind
-use Rattle.refusal_places.specs.Front.{behind_items}
+use Rattle.parse_module.specs.Whole.{IsTreeOf}
+use Rattle.refusal_places.specs.Front.{behind_items, front_of}
 
 -- the tokens are the words of well-formed items, and those behind the items
 abbrev pub BeginWithItems : FileKind → List Lexeme → Type 0
@@ -16,3 +18,11 @@ BeginWithItems kind.Face xs = (is : SigItems) × WfSigItems is × (lexeme_toks 1
 
 abbrev pub FrontsEndItems : Type 0
 FrontsEndItems = (k : FileKind) (xs : List Lexeme) → BeginWithItems k xs
+
+-- the lexemes have a tree
+abbrev pub AreRead : FileKind → ℕ → List Lexeme → Type 0
+AreRead k file xs = (t : FileTree) × IsTreeOf k file (lexeme_toks 1 xs) t
+
+-- no lexeme is behind the front, exactly if the source is read
+abbrev pub FrontsTellReading : Type 0
+FrontsTellReading = (k : FileKind) (file : ℕ) (xs : List Lexeme) → (front_of k xs ≡ length xs) ↔ AreRead k file xs

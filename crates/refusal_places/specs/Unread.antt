@@ -46,8 +46,8 @@ unread_at cut front stop ends =
     placed kind.Syntax (sentence ends) (lexeme_spot cut (told_at cut stop ends)) (begun_notes cut front (told_at cut stop ends))
     (Some (advice (form_near cut.lexemes front stop)))
 
--- The message of a source that is not read. The item begins at the front, and the reading stops at one of the lexemes from
--- there on, or at the end. Which one, and whether the file ends inside the item, no clause says.
+-- The message of a source that is not read. The item begins at the front, and the reading stops at one of the lexemes
+-- from there on, or at the end. Which one, and whether the file ends inside the item, no clause says.
 pub record SaysUnread (cut : Cut) (message : Message) : Type 0 where
   pub stop : ℕ
   pub ends : Bool

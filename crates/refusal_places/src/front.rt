@@ -9,8 +9,8 @@ use parse_module::{FileKind, body_items, face_items};
 use rotor_base::{Memory, Token};
 use std::alloc::Global;
 
-/// The place, from 0, of the first token that none of the items covers with which a file begins. The one error is want of
-/// memory.
+/// The place, from 0, of the first token that none of the items covers with which a file begins. The one error is want
+/// of memory.
 #[tactic(auto, using(crate::proofs::Fronts::front_inside, crate::proofs::Fronts::front_at_end))]
 pub fn front_of(alloc: Global, tokens: &[Token<'_>], kind: FileKind) -> Result<usize, Memory>
     requires few { length tokens.now ≤ max_file_bytes }

@@ -1,14 +1,18 @@
-//! The messages of refusals with the places that a reading finds: of a source that is not read, where the item begins and
-//! where the reading stops.
+//! The messages of refusals with the places that a reading finds: of a source that is not read, where the item begins
+//! and where the reading stops; of units that need each other in a circle, where each needs the next.
 #![tactic(auto)]
 
+mod blanks;
+mod cycle;
 mod forms;
 mod front;
+mod heads;
 mod laws;
 mod placed;
 mod unread;
 
+pub use cycle::cycle_message;
 pub use front::front_of;
-pub use laws::fronts_end_items;
+pub use laws::{fronts_end_items, fronts_tell_reading};
 pub use placed::placed_message;
 pub use unread::unread_message;

@@ -15,8 +15,8 @@ use refusal_words::CutSource;
 use rotor_base::{Memory, Row, is_body};
 use std::alloc::Global;
 
-/// The message of a source that is not read: where the reading stops, and where the item begins that is not read. The one
-/// error is want of memory.
+/// The message of a source that is not read: where the reading stops, and where the item begins that is not read. The
+/// one error is want of memory.
 pub fn unread_message(alloc: Global, cut: &CutSource<'_>) -> Result<Message, Memory>
     requires { length cut.now.tokens.items ≤ max_file_bytes }
     ensures { IfOk result (SaysUnread (view_cut cut.now)) }
@@ -29,7 +29,7 @@ pub fn unread_message(alloc: Global, cut: &CutSource<'_>) -> Result<Message, Mem
 }
 
 /// What a source is, by the ending of its name.
-fn kind_of(name: &[u8]) -> FileKind
+pub(crate) fn kind_of(name: &[u8]) -> FileKind
     ensures { result ≡ kind_of_source name.now }
 {
     if is_body(name) {
@@ -88,7 +88,7 @@ fn sentence(ends: bool) -> &'static str
 }
 
 /// The stretch of the token at a place, from 0; behind the last one, the end of the source.
-fn lexeme_spot(alloc: Global, cut: &CutSource<'_>, at: usize) -> Result<Spot, Memory>
+pub(crate) fn lexeme_spot(alloc: Global, cut: &CutSource<'_>, at: usize) -> Result<Spot, Memory>
     ensures { IfOk result (λ spot. spot ≡ lexeme_spot_of (view_cut cut.now) at) }
 {
     match cut.tokens.get(at) {
