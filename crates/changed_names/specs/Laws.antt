@@ -24,4 +24,5 @@ pub record GivesToChanges (us : List UnitTree) (r : Renaming) : Type 0 where
 
 -- Law: such a renaming gives value names
 abbrev pub ChangesAreEnough : Type 0
-ChangesAreEnough = (files : FileSet) (us : List UnitTree) (r : Renaming) → IsProject files → Reads files us → GivesToChanges us r → GivesValueNames us r
+ChangesAreEnough =
+    (files : FileSet) (us : List UnitTree) (r : Renaming) → IsProject files → Reads files us → GivesToChanges us r → GivesValueNames us r
