@@ -13,8 +13,8 @@ use Rattle.binding_model.specs.Renaming.{Renaming, places, at_place, Changes, Is
 use Rattle.project_reading.specs.Reads.{Reads}
 use Rattle.respelled_reading.specs.Renamed.{GivesValueNames}
 
--- The renaming gives value names to what it changes. It names places that are no operators and no puns, and no use of one
--- of them is an operator or a pun.
+-- The renaming gives value names to what it changes. It names places that are no operators and no puns, and no use of
+-- one of them is an operator or a pun.
 pub record GivesToChanges (us : List UnitTree) (r : Renaming) : Type 0 where
   pub word : (d : Place) (y : Name) → Changes us r d y → IsTrue (is_value_name y)
   pub place : (d : Place) (y : Name) → at_place r d ≡ Some y → (x : Site) × (at_place (places us) d ≡ Some x)

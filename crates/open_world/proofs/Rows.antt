@@ -67,8 +67,8 @@ renamed : facts (respell (outside ++ project) to_k) ≡ facts (outside ++ projec
 unfolding matched ◌&◌
 renamed = refl
 
--- ---- a module of a module: list.ml is `let length = 1`, main.ml is `open Stdlib let y = List.length`, and stdlib.ml is
--- `module List = struct let length = 1 end`
+-- ---- a module of a module: list.ml is `let length = 1`, main.ml is `open Stdlib let y = List.length`, and stdlib.ml
+-- is `module List = struct let length = 1 end`
 
 abbrev users : List UnitTree
 users =
