@@ -1,5 +1,5 @@
 -- What is said of an answer.
-use Rattle.std.proofs.Common.{◌≡◌, inl, inr, List, [], Bool, true, false, Ok, Err, ap, subst, sym, ◌∙◌}
+use Rattle.std.proofs.Common.{◌≡◌, inl, inr, List, [], Bool, true, false, Ok, Err, Option, ap, subst, sym, ◌∙◌}
 use Rattle.rotor_base.specs.Files.{FileSet}
 use Rattle.rotor_base.specs.declared.place.Facts.{Facts}
 use Rattle.rotor_base.specs.declared.place.Foot.{Foot}
@@ -10,7 +10,7 @@ use Rattle.rotor_base.specs.declared.target.Target.{Target}
 use Rattle.report.specs.Pieces.{Word}
 use Rattle.messages.specs.declared.parts.Message.{Message}
 use Rattle.refusal_words.specs.Cut.{AreCuts, Cut}
-use Rattle.refusal_words.specs.Refused.{project_message}
+use Rattle.refusal_places.specs.Placed.{SaysPlaced}
 use Rattle.rename_files.specs.Answer.{Checks, Renames, Shows}
 use Rattle.rename_project.specs.Steps.{IsRefusedFor}
 use Rattle.value_at.specs.Places.{places_of}
@@ -62,10 +62,10 @@ pub project_unread : (files : FileSet) (why : Refusal) (messages : List Message)
     → SaysProject files why told
 project_unread files why messages told u says e = unread messages u says e
 
-pub project_whole : (files : FileSet) (why : Refusal) (cuts : List Cut) (told : Told) → is_unread why ≡ false → AreCuts files.entries cuts
-    → told ≡ maybe_told (ending_of why) (project_message cuts why)
+pub project_whole : (files : FileSet) (why : Refusal) (cuts : List Cut) (said : Option Message) (told : Told) → is_unread why ≡ false
+    → AreCuts files.entries cuts → SaysPlaced cuts why said → told ≡ maybe_told (ending_of why) said
     → SaysProject files why told
-project_whole files why cuts told u cut e = whole cuts u cut e
+project_whole files why cuts said told u cut says e = whole cuts said u cut says e
 
 pub check_refused : (files : FileSet) (why : Refusal) (told : Told) → IsRefusedFor (λ w. Checks files (Err w)) why → is_memory why ≡ false
     → SaysProject files why told

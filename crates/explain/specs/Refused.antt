@@ -7,8 +7,9 @@ use Rattle.rotor_base.specs.declared.target.Target.{Target}
 use Rattle.report.specs.Pieces.{Word}
 use Rattle.messages.specs.declared.parts.Message.{Message}
 use Rattle.refusal_words.specs.Cut.{AreCuts, Cut}
-use Rattle.refusal_words.specs.Refused.{project_message, renaming_message}
+use Rattle.refusal_words.specs.Refused.{renaming_message}
 use Rattle.refusal_words.specs.Target.{operator}
+use Rattle.refusal_places.specs.Placed.{SaysPlaced}
 use Rattle.explain.specs.declared.ending.Ending.TheVariants.{Refused}
 use Rattle.explain.specs.declared.told.Told.{Told}
 use Rattle.explain.specs.declared.around.Around.{Around}
@@ -37,8 +38,8 @@ is_memory _ = false
 pub data SaysProject (files : FileSet) (why : Refusal) (told : Told) : Type 0 where
   unread : (messages : List Message) → is_unread why ≡ true → SaysSources files.entries messages → told ≡ messages_told (ending_of why) messages
       → SaysProject files why told
-  whole : (cuts : List Cut) → is_unread why ≡ false → AreCuts files.entries cuts → told ≡ maybe_told (ending_of why) (project_message cuts why)
-      → SaysProject files why told
+  whole : (cuts : List Cut) (said : Option Message) → is_unread why ≡ false → AreCuts files.entries cuts → SaysPlaced cuts why said
+      → told ≡ maybe_told (ending_of why) said → SaysProject files why told
 
 -- the message of a refusal of a renaming, by what is known around it
 abbrev pub refused_message : List Cut → Around → Target → Word → Refusal → Option Message

@@ -22,7 +22,8 @@ use rotor_base::{Facts, Files, Memory, Place, Refusal, Row, Target};
 use shape_core::Scope;
 use std::alloc::Global;
 
-/// The facts of a folder, the declarations of the footprint that a target names, and where the path of the target stops.
+/// The facts of a folder, the declarations of the footprint that a target names, and where the path of the target
+/// stops.
 #[derive(Drop)]
 pub(crate) struct Around {
     pub facts: Facts,

@@ -8,8 +8,8 @@ use refusal_words::{CutSource, blurred_link, blurred_use};
 use rotor_base::{Facts, Goal, Link, Memory, Place, Ref};
 use std::alloc::Global;
 
-/// The message of a place that is blurred: a use, or a match, that a module from outside may supply. If no fact says it,
-/// `None`. The one error is want of memory.
+/// The message of a place that is blurred: a use, or a match, that a module from outside may supply. If no fact says
+/// it, `None`. The one error is want of memory.
 pub(crate) fn blurred_message(
     alloc: Global,
     cuts: &[CutSource<'_>],

@@ -21,8 +21,8 @@ use rotor_base::{Counts, Files, Memory, Refusal, Row};
 use std::alloc::Global;
 
 /// What is said of the files of a project: warnings of the places at which OCaml may read them otherwise, and what they
-/// have; or the first refusal of `check`, and if a source is outside the language, a message for each that is. The one error
-/// is want of memory.
+/// have; or the first refusal of `check`, and if a source is outside the language, a message for each that is. The one
+/// error is want of memory.
 pub fn explain_check(alloc: Global, files: &Files) -> Result<Told, Memory>
     ensures { IfOk result (SaysCheck files.now) }
 {

@@ -12,12 +12,13 @@ use crate::sources::unread_messages;
 use crate::targets::target_message;
 use crate::told::{Told, maybe_told, messages_told};
 use messages::Message;
-use refusal_words::{CutSource, cut_sources, operator, project_message, renaming_message};
+use refusal_places::placed_message;
+use refusal_words::{CutSource, cut_sources, operator, renaming_message};
 use rotor_base::{Files, Memory, Refusal, Target};
 use std::alloc::Global;
 
-/// What is said of a refusal of a project. If a source is outside the language, there is a message for each that is. The
-/// one error is want of memory.
+/// What is said of a refusal of a project. If a source is outside the language, there is a message for each that is.
+/// The one error is want of memory.
 pub(crate) fn project_told(alloc: Global, files: &Files, refusal: &Refusal) -> Result<Told, Memory>
     ensures { IfOk result (SaysProject files.now refusal.now) }
 {
@@ -27,7 +28,7 @@ pub(crate) fn project_told(alloc: Global, files: &Files, refusal: &Refusal) -> R
         return Ok(messages_told(alloc, ending, messages));
     }
     let cuts = cut_sources(alloc, files.entries())?;
-    let message = project_message(alloc, &cuts, refusal)?;
+    let message = placed_message(alloc, &cuts, refusal)?;
     maybe_told(alloc, ending, message)
 }
 

@@ -24,8 +24,8 @@ use rotor_base::{Facts, Files, Foot, FootReport, Memory, Place, Refusal, Row, Ta
 use std::alloc::Global;
 use value_at::{ValuePlace, places_of};
 
-/// What is said of the footprint of the declaration that a target names: the declarations and the uses, in order; or the
-/// first refusal. The one error is want of memory.
+/// What is said of the footprint of the declaration that a target names: the declarations and the uses, in order; or
+/// the first refusal. The one error is want of memory.
 pub fn explain_footprint(alloc: Global, files: &Files, target: &Target) -> Result<Told, Memory>
     ensures { IfOk result (SaysFootprint files.now target.now) }
 {

@@ -9,8 +9,8 @@ use messages::{Message, json_text, push_message};
 use rotor_base::{Memory, Row};
 use std::alloc::Global;
 
-/// What is said, and how the explanation ends: messages, the text behind them for people, and the places behind them for
-/// tools.
+/// What is said, and how the explanation ends: messages, the text behind them for people, and the places behind them
+/// for tools.
 #[derive(Drop)]
 pub struct Told {
     pub ending: Ending,

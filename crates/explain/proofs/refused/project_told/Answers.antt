@@ -1,11 +1,13 @@
-use Rattle.std.proofs.Common.{List, ap, map, subst, sym, ◌∙◌}
+use Rattle.std.proofs.Common.{List, ◌≤◌, All, ap, length, map, subst, sym, ◌∙◌}
+use Rattle.rotor_base.specs.Limits.{max_file_bytes}
 use Rattle.refusal_words.specs.Cut.{AreCuts, view_cut}
-use Rattle.refusal_words.specs.Refused.{project_message}
 use Rattle.refusal_words.specs.declared.cut.CutSource.{CutSource}
+use Rattle.refusal_places.specs.Placed.{SaysPlaced}
 use Rattle.explain.specs.declared.ending.Ending.{Ending}
 use Rattle.explain.specs.Sources.{SaysSources}
 use Rattle.explain.specs.Told.{maybe_told, messages_told}
 use Rattle.explain.proofs.Answered.{if_ok_more}
+use Rattle.explain.proofs.Cutting.{few_tokens}
 use Rattle.explain.proofs.Answering.{project_unread, project_whole}
 use Rattle.explain.proofs.refused.project_told.Goals as goal
 
@@ -16,14 +18,17 @@ returns-then-is_unread c =
     (subst (λ ss. SaysSources ss c.in_ok-messages.messages) c.entries.ensures.entries c.in_ok-messages.ensures)
     (c.messages_told.ensures ∙ ap (λ (e : Ending). messages_told e c.in_ok-messages.messages) c.ending_of-ending.ensures)
 
+pub placed_message-requires : goal.placed_message-requires
+placed_message-requires c =
+    subst (λ (cs : List CutSource). All (λ cut. length cut.tokens.items ≤ max_file_bytes) cs) (sym c.deref.ensures.value)
+    (few_tokens c.entries-2.result.now c.in_ok-cuts.cuts.items c.in_ok-cuts.ensures c.entries-2.ensures.small)
+
 pub returns : goal.returns
 returns c =
     let cuts = map view_cut c.in_ok-cuts.cuts.items in
     if_ok_more c.maybe_told.result _ _ (λ told e.
-    project_whole c.args.files.now c.args.refusal.now cuts told (sym c.is_unread.ensures ∙ c.if-is_unread.false)
+    project_whole c.args.files.now c.args.refusal.now cuts c.in_ok-message.message told (sym c.is_unread.ensures ∙ c.if-is_unread.false)
     (subst (λ ss. AreCuts ss cuts) c.entries-2.ensures.entries c.in_ok-cuts.ensures)
-    (e
-    ∙ ap (λ (x : Ending). maybe_told x c.in_ok-message.message) c.ending_of-ending.ensures
-    ∙ ap (maybe_told _)
-    (c.in_ok-message.ensures
-    ∙ ap (λ (cs : List CutSource). project_message (map view_cut cs) c.args.refusal.now) c.deref.ensures.value))) c.maybe_told.ensures
+    (subst (λ (cs : List CutSource). SaysPlaced (map view_cut cs) c.args.refusal.now c.in_ok-message.message) c.deref.ensures.value
+    c.in_ok-message.ensures)
+    (e ∙ ap (λ (x : Ending). maybe_told x c.in_ok-message.message) c.ending_of-ending.ensures)) c.maybe_told.ensures

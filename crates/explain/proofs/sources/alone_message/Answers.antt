@@ -1,6 +1,5 @@
-use Rattle.std.proofs.Common.{refl}
+use Rattle.std.proofs.Common.{refl, None}
 use Rattle.ml_syntax.specs.View.{view_project}
-use Rattle.std.proofs.Common.{None}
 use Rattle.explain.proofs.Saying.{source_read}
 use Rattle.explain.proofs.sources.alone_message.Goals as goal
 
