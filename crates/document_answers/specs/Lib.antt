@@ -4,3 +4,4 @@ pub mod Renaming
 pub mod Over
 pub mod Replies
 pub mod Known
+pub mod Asked

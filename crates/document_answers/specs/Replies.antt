@@ -7,6 +7,7 @@ use Rattle.rotor_base.specs.Stem.{is_source_name}
 use Rattle.rotor_base.specs.declared.refusal.LoadError.{LoadError}
 use Rattle.tree_io.specs.Outside.{FileMap}
 use Rattle.project_load.specs.Load.{loaded}
+use Rattle.folder_messages.specs.Folder.{message_of}
 use Rattle.text_places.specs.declared.counting.Position.{Position}
 use Rattle.document_uris.specs.Uris.{IsFile}
 use Rattle.messages.specs.declared.parts.Message.{Message}
@@ -30,7 +31,8 @@ pub data RepliesIn (content : Option FileMap) (client : Client) (folder : Word) 
   unknown : (other : Word) → option_map is_known (get held other) ≡ Some false → IsRefusedAs asked (unknown_text other) reply
       → RepliesIn content client folder held name here asked reply
   unread : AreKnown held → IsRefusedAs asked unread_text reply → RepliesIn content client folder held name here asked reply
-  no_project : (why : LoadError) (message : Option Message) → AreKnown held → IfSome content (λ there. loaded (laid held there) ≡ Err why)
+  no_project : (why : LoadError) (message : Option Message) → AreKnown held
+      → IfSome content (λ there. (loaded (laid held there) ≡ Err why) × (message ≡ message_of why (laid held there)))
       → IsRefused asked (IsFolderFailure why message) reply → RepliesIn content client folder held name here asked reply
   project : (files : FileSet) → AreKnown held → IfSome content (λ there. loaded (laid held there) ≡ Ok files)
       → RepliesOver client folder held name files here asked reply → RepliesIn content client folder held name here asked reply

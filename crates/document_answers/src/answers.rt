@@ -7,10 +7,11 @@ ghost use Rattle.requests.specs.Asked.{query_words};
 ghost use Rattle.document_answers.specs.Refused.{IsRefusedAs, no_source_text, unknown_text, unread_text};
 ghost use Rattle.document_answers.specs.Replies.{RepliesIn};
 
-use crate::over::over_files;
+use crate::over::{Asked, over_files};
 use crate::refused::refused_reply;
 use document_uris::{FilePlace, read_uri};
 use folders::Folders;
+use kept_projects::KeptProject;
 use lsp_answers::Reply;
 use lsp_server::Answers;
 use open_documents::{Documents, Workspace};
@@ -25,6 +26,8 @@ use text_places::Position;
 #[derive(Drop)]
 pub struct DocumentAnswers<F> {
     folders: F,
+    /// The project of the last query, if there was one.
+    last: Option<KeptProject>,
 }
 
 impl<F: Folders + Drop> DocumentAnswers<F> {
@@ -32,12 +35,15 @@ impl<F: Folders + Drop> DocumentAnswers<F> {
     pub fn new(folders: F) -> Self
         ensures { result.folders ≡ folders }
     {
-        DocumentAnswers { folders }
+        DocumentAnswers {
+            folders,
+            last: None,
+        }
     }
 
     /// The reply to a query at a place of a source of a folder.
     fn in_folder(
-        &self,
+        &mut self,
         alloc: Global,
         client: Client,
         workspace: &Workspace,
@@ -45,8 +51,9 @@ impl<F: Folders + Drop> DocumentAnswers<F> {
         position: Position,
         query: Query<&str>,
     ) -> Result<Reply, Memory>
-        ensures reply { IfOk result (RepliesIn (F.content self.now.folders (string_bytes file.now.folder)) client (string_bytes file.now.folder) (documents_in workspace.now (string_bytes file.now.folder)) (string_bytes file.now.name) position (query_words query.entry)) }
+        ensures reply { IfOk result (RepliesIn (F.content self.old.folders (string_bytes file.now.folder)) client (string_bytes file.now.folder) (documents_in workspace.now (string_bytes file.now.folder)) (string_bytes file.now.name) position (query_words query.entry)) }
         ensures plain { IfOk result IsPlain }
+        ensures kept { self.new.folders ≡ self.old.folders }
     {
         match workspace.folder(file.folder.as_str()) {
             Some(held) => self.in_documents(alloc, client, held, file, position, query),
@@ -59,7 +66,7 @@ impl<F: Folders + Drop> DocumentAnswers<F> {
 
     /// The same, under the documents that the editor holds in the folder.
     fn in_documents(
-        &self,
+        &mut self,
         alloc: Global,
         client: Client,
         held: &Documents,
@@ -67,8 +74,9 @@ impl<F: Folders + Drop> DocumentAnswers<F> {
         position: Position,
         query: Query<&str>,
     ) -> Result<Reply, Memory>
-        ensures reply { IfOk result (RepliesIn (F.content self.now.folders (string_bytes file.now.folder)) client (string_bytes file.now.folder) (documents held.now) (string_bytes file.now.name) position (query_words query.entry)) }
+        ensures reply { IfOk result (RepliesIn (F.content self.old.folders (string_bytes file.now.folder)) client (string_bytes file.now.folder) (documents held.now) (string_bytes file.now.name) position (query_words query.entry)) }
         ensures plain { IfOk result IsPlain }
+        ensures kept { self.new.folders ≡ self.old.folders }
     {
         match held.first_unknown() {
             Some(name) => unknown_reply(alloc, name, query),
@@ -78,7 +86,7 @@ impl<F: Folders + Drop> DocumentAnswers<F> {
 
     /// The same, where the texts of the documents are known.
     fn in_known(
-        &self,
+        &mut self,
         alloc: Global,
         client: Client,
         held: &Documents,
@@ -87,14 +95,22 @@ impl<F: Folders + Drop> DocumentAnswers<F> {
         query: Query<&str>,
     ) -> Result<Reply, Memory>
         requires { AreKnown (documents held.now) }
-        ensures reply { IfOk result (RepliesIn (F.content self.now.folders (string_bytes file.now.folder)) client (string_bytes file.now.folder) (documents held.now) (string_bytes file.now.name) position (query_words query.entry)) }
+        ensures reply { IfOk result (RepliesIn (F.content self.old.folders (string_bytes file.now.folder)) client (string_bytes file.now.folder) (documents held.now) (string_bytes file.now.name) position (query_words query.entry)) }
         ensures plain { IfOk result IsPlain }
+        ensures kept { self.new.folders ≡ self.old.folders }
     {
         let folder = self.folders.folder(alloc, file.folder.as_str())?;
         let opened = load_open(alloc, held, folder)?;
         match opened {
             OpenFolder::Files(files) => {
-                over_files(alloc, client, held, file, &files, position, query)
+                let asked = Asked {
+                    client,
+                    held,
+                    file,
+                    position,
+                    query,
+                };
+                over_files(alloc, &mut self.last, asked, files)
             }
             OpenFolder::Unread => unread_reply(alloc, query),
             OpenFolder::Refused { why, message } => {

@@ -1,23 +1,24 @@
 //! A query over the files of a project.
-ghost use Rattle.std.specs.Prelude.{◌≡◌, ◌<◌, ◌≤◌, IfErr, IfOk, Some, length, string_bytes};
+ghost use Rattle.std.specs.Prelude.{◌≡◌, ◌<◌, ◌≤◌, All, IfOk, Some, length, map, string_bytes};
 ghost use Rattle.rotor_base.specs.Limits.{max_file_bytes};
 ghost use Rattle.lsp_answers.specs.Plain.{IsPlain};
-ghost use Rattle.binding_model.specs.Facts.{facts as facts_of};
-ghost use Rattle.ml_syntax.specs.Sound.{IsSound};
+ghost use Rattle.ml_lexer.specs.Lexed.{view_tokens};
 ghost use Rattle.ml_syntax.specs.View.{view_project};
-ghost use Rattle.rename_files.specs.Answer.{Accepts, Rejects};
+ghost use Rattle.project_reading.specs.Sources.{AreCut};
+ghost use Rattle.rename_files.specs.Answer.{Rejects};
 ghost use Rattle.rename_model.specs.Target.{number_of as number_for};
 ghost use Rattle.rename_project.specs.Steps.{IsRefusedFor};
-ghost use Rattle.open_documents.specs.Documents.{documents};
-ghost use Rattle.refusal_words.specs.Cut.{view_cut};
+ghost use Rattle.kept_projects.specs.Kept.{IsKept};
+ghost use Rattle.refusal_words.specs.Cut.{AreCuts, view_cut};
 ghost use Rattle.requests.specs.Asked.{query_words};
 ghost use Rattle.text_places.specs.Marks.{offset_of as offset_for};
 ghost use Rattle.text_places.specs.declared.counting.Position.{Position};
 ghost use Rattle.explain.specs.Refused.{is_memory as is_memory_of};
 ghost use Rattle.query_failures.specs.Folder.{IsProjectFailure};
 ghost use Rattle.document_scene.specs.Scene.{view_scene};
+ghost use Rattle.document_answers.specs.Asked.{RepliesTo};
 ghost use Rattle.document_answers.specs.Known.{IsKnown};
-ghost use Rattle.document_answers.specs.Over.{RepliesAt, RepliesInSource, RepliesOver, counting_of as counting_for};
+ghost use Rattle.document_answers.specs.Over.{RepliesAt, RepliesInSource, counting_of as counting_for};
 ghost use Rattle.document_answers.specs.Refused.{IsBad, IsRefused, IsRefusedAs, lacking_text};
 ghost use Rattle.document_answers.specs.Value.{is_nameless as is_nameless_of};
 
@@ -25,53 +26,55 @@ use crate::refused::refused_reply;
 use crate::value::{nothing_reply, token_reply};
 use document_scene::Scene;
 use document_uris::FilePlace;
+use kept_projects::{KeptProject, open_project, read_of};
 use lsp_answers::{Answer, Reply};
 use ml_syntax::Project;
+use mod_shape::Resolved;
 use open_documents::Documents;
-use project_reading::read_project;
+use project_reading::Read;
 use query_failures::{parameter_failure, plain_failure, project_failure};
 use refusal_words::{CutSource, cut_sources};
 use rename_parts::number_of;
-use rename_project::resolve;
 use requests::{Client, Encoding, Query};
-use rotor_base::{Facts, Files, Memory, Place, Refusal};
+use rotor_base::{Files, Memory, Place, Refusal};
 use std::alloc::Global;
 use text_places::{Counting, Position, offset_of};
 use value_at::{ValueAt, token_at};
 
-/// A project with its facts, the folder as an answer tells of it, and whether the editor takes versions.
+/// A query at a place of a source: the client that asks it, and the documents that it holds in the folder of the source.
+#[derive(Clone, Copy)]
+pub(crate) struct Asked<'a> {
+    pub client: Client,
+    pub held: &'a Documents,
+    pub file: &'a FilePlace,
+    pub position: Position,
+    pub query: Query<&'a str>,
+}
+
+/// Files with what they are read as and what that is resolved to, the folder as an answer tells of it, and whether the editor
+/// takes versions.
 #[derive(Clone, Copy)]
 pub(crate) struct Around<'a> {
     pub files: &'a Files,
-    pub project: &'a Project,
-    pub facts: &'a Facts,
+    pub read: &'a Read<'a>,
+    pub resolved: &'a Resolved,
     pub scene: Scene<'a>,
     pub has_versions: bool,
 }
 
-/// What the files of a folder are read as, and its facts.
-#[derive(Drop)]
-struct Opened {
-    project: Project,
-    facts: Facts,
-}
-
-/// The reply to a query at a place of a source, over the files of a folder.
+/// The reply to a query over the files of a folder. If they are accepted as a project, it is kept.
 pub(crate) fn over_files(
     alloc: Global,
-    client: Client,
-    held: &Documents,
-    file: &FilePlace,
-    files: &Files,
-    position: Position,
-    query: Query<&str>,
+    last: &mut Option<KeptProject>,
+    asked: Asked<'_>,
+    files: Files,
 ) -> Result<Reply, Memory>
-    ensures reply { IfOk result (RepliesOver client (string_bytes file.now.folder) (documents held.now) (string_bytes file.now.name) files.now position (query_words query.entry)) }
+    ensures reply { IfOk result (RepliesTo asked.entry files) }
     ensures plain { IfOk result IsPlain }
 {
-    match number_of(files.entries(), file.name.as_bytes()) {
-        Some(number) => over_source(alloc, client, held, file, files, number, position, query),
-        None => lacking_reply(alloc, file.name.as_bytes(), query),
+    match number_of(files.entries(), asked.file.name.as_bytes()) {
+        Some(number) => over_source(alloc, last, asked, files, number),
+        None => lacking_reply(alloc, asked.file.name.as_bytes(), asked.query),
     }
 }
 
@@ -87,60 +90,99 @@ fn lacking_reply(alloc: Global, name: &[u8], query: Query<&str>) -> Result<Reply
 /// The reply to a query at a place of the source of a number.
 fn over_source(
     alloc: Global,
-    client: Client,
-    held: &Documents,
-    file: &FilePlace,
-    files: &Files,
+    last: &mut Option<KeptProject>,
+    asked: Asked<'_>,
+    files: Files,
     number: u32,
-    position: Position,
-    query: Query<&str>,
 ) -> Result<Reply, Memory>
-    requires number { number_for files.now.entries (string_bytes file.now.name) ≡ Some number }
-    requires within { number < length files.now.entries }
-    ensures reply { IfOk result (RepliesOver client (string_bytes file.now.folder) (documents held.now) (string_bytes file.now.name) files.now position (query_words query.entry)) }
+    requires number { number_for files.entries (string_bytes asked.file.now.name) ≡ Some number }
+    requires within { number < length files.entries }
+    ensures reply { IfOk result (RepliesTo asked.entry files) }
     ensures plain { IfOk result IsPlain }
 {
-    let opened = match open_files(alloc, files) {
-        Ok(opened) => opened,
-        Err(why) => return rejected_reply(alloc, files, &why, query),
-    };
-    let sources = files.entries();
-    let cuts = cut_sources(alloc, sources)?;
+    match open_project(alloc, last.take(), files) {
+        Ok(kept) => {
+            let (kept, reply) = over_kept(alloc, asked, kept, number)?;
+            *last = Some(kept);
+            Ok(reply)
+        }
+        Err(refused) => rejected_reply(alloc, &refused.files, &refused.why, asked.query),
+    }
+}
+
+/// The reply to a query at a place of the source of a number, over a project, which is returned too.
+fn over_kept(
+    alloc: Global,
+    asked: Asked<'_>,
+    kept: KeptProject,
+    number: u32,
+) -> Result<(KeptProject, Reply), Memory>
+    requires number { number_for kept.entries (string_bytes asked.file.now.name) ≡ Some number }
+    requires within { number < length kept.entries }
+    ensures reply { IfOk result (λ done. RepliesTo asked.entry kept done.1) }
+    ensures plain { IfOk result (λ done. IsPlain done.1) }
+{
+    let (files, project, resolved) = kept.into_parts();
+    let (project, reply) = over_project(alloc, asked, &files, project, &resolved, number)?;
+    Ok((KeptProject::from_parts(files, project, resolved), reply))
+}
+
+/// The same, over the files of the project.
+fn over_project(
+    alloc: Global,
+    asked: Asked<'_>,
+    files: &Files,
+    project: Project,
+    resolved: &Resolved,
+    number: u32,
+) -> Result<(Project, Reply), Memory>
+    requires kept { IsKept files.now (view_project project) resolved.now }
+    requires number { number_for files.now.entries (string_bytes asked.file.now.name) ≡ Some number }
+    requires within { number < length files.now.entries }
+    ensures same { IfOk result (λ done. done.0 ≡ project) }
+    ensures reply { IfOk result (λ done. RepliesTo asked.entry files.now done.1) }
+    ensures plain { IfOk result (λ done. IsPlain done.1) }
+{
+    let cuts = cut_sources(alloc, files.entries())?;
+    let read = read_of(alloc, project, &cuts)?;
+    let reply = over_read(alloc, asked, files, &cuts, &read, resolved, number)?;
+    Ok((read.project, reply))
+}
+
+/// The same, over what the files are read as.
+fn over_read(
+    alloc: Global,
+    asked: Asked<'_>,
+    files: &Files,
+    cuts: &[CutSource<'_>],
+    read: &Read<'_>,
+    resolved: &Resolved,
+    number: u32,
+) -> Result<Reply, Memory>
+    requires kept { IsKept files.now (view_project read.now.project) resolved.now }
+    requires tokens { AreCut files.now.entries (map (λ list. view_tokens list.items) read.now.tokens.items) }
+    requires cut { AreCuts files.now.entries (map view_cut cuts.now) }
+    requires small { All (λ cut. length cut.tokens.items ≤ max_file_bytes) cuts.now }
+    requires number { number_for files.now.entries (string_bytes asked.file.now.name) ≡ Some number }
+    requires within { number < length cuts.now }
+    ensures reply { IfOk result (RepliesTo asked.entry files.now) }
+    ensures plain { IfOk result IsPlain }
+{
     let scene = Scene {
-        folder: file.folder.as_str(),
-        held,
-        sources,
-        cuts: &cuts,
-        counting: counting_of(client.encoding),
+        folder: asked.file.folder.as_str(),
+        held: asked.held,
+        sources: files.entries(),
+        cuts,
+        counting: counting_of(asked.client.encoding),
     };
     let around = Around {
         files,
-        project: &opened.project,
-        facts: &opened.facts,
+        read,
+        resolved,
         scene,
-        has_versions: client.document_changes,
+        has_versions: asked.client.document_changes,
     };
-    at_position(alloc, around, number, position, query)
-}
-
-/// What the files of a folder are read as, and its facts. The error is its first refusal, or want of memory.
-fn open_files(alloc: Global, files: &Files) -> Result<Opened, Refusal>
-    ensures sound { IfOk result (λ opened. IsSound (view_project opened.project)) }
-    ensures accepts { IfOk result (λ opened. Accepts files.now (view_project opened.project)) }
-    ensures facts { IfOk result (λ opened. opened.facts ≡ facts_of (view_project opened.project)) }
-    ensures refused { IfErr result (IsRefusedFor (Rejects files.now)) }
-{
-    let read = match read_project(alloc, files) {
-        Ok(read) => read,
-        Err(why) => return Err(why),
-    };
-    match resolve(alloc, &read.project) {
-        Ok(resolved) => Ok(Opened {
-            project: read.project,
-            facts: resolved.facts,
-        }),
-        Err(why) => Err(why),
-    }
+    at_position(alloc, around, number, asked.position, asked.query)
 }
 
 /// The reply to a query over files that are refused as a project.
@@ -191,7 +233,7 @@ fn at_position(
 ) -> Result<Reply, Memory>
     requires known { IsKnown around }
     requires within { number < length around.scene.cuts.now }
-    ensures reply { IfOk result (RepliesInSource around.entry.files.now (view_project around.entry.project.now) (view_scene around.entry.scene) around.entry.has_versions number position (query_words query.entry)) }
+    ensures reply { IfOk result (RepliesInSource around.entry.files.now (view_project around.entry.read.now.project) (view_scene around.entry.scene) around.entry.has_versions number position (query_words query.entry)) }
     ensures plain { IfOk result IsPlain }
 {
     let cuts = around.scene.cuts;
@@ -221,7 +263,7 @@ fn at_offset(
 ) -> Result<Reply, Memory>
     requires known { IsKnown around }
     requires small { length cut.now.tokens.items ≤ max_file_bytes }
-    ensures reply { (here : Position) → offset_for around.entry.scene.counting here cut.now.bytes.now ≡ Some offset → IfOk result (RepliesAt around.entry.files.now (view_project around.entry.project.now) (view_scene around.entry.scene) around.entry.has_versions number (view_cut cut.now) here (query_words query.entry)) }
+    ensures reply { (here : Position) → offset_for around.entry.scene.counting here cut.now.bytes.now ≡ Some offset → IfOk result (RepliesAt around.entry.files.now (view_project around.entry.read.now.project) (view_scene around.entry.scene) around.entry.has_versions number (view_cut cut.now) here (query_words query.entry)) }
     ensures plain { IfOk result IsPlain }
 {
     if is_nameless(query) {

@@ -34,13 +34,13 @@ pub(crate) fn renaming_reply(
     name: &[u8],
 ) -> Result<Reply, Memory>
     requires known { IsKnown around }
-    requires value { IsValueAt (view_project around.project.now) place (value.Value declared) }
+    requires value { IsValueAt (view_project around.read.now.project) place (value.Value declared) }
     ensures reply { IfOk result (RepliesRename around.entry.files.now (view_scene around.entry.scene) around.entry.has_versions place.file declared name.now) }
     ensures plain { IfOk result IsPlain }
 {
     let (files, counting) = (around.files, around.scene.counting);
-    let (project, facts) = (around.project, around.facts);
-    let answer = rename_at(alloc, counting, files, project, facts, place, name)?;
+    let (read, resolved) = (around.read, around.resolved);
+    let answer = rename_at(alloc, counting, files, read, resolved, place, name)?;
     match answer {
         EditorRenaming::Edits { done: _, edits } => changes_reply(alloc, around, place.file, edits),
         EditorRenaming::NotText { file } => no_text_reply(alloc, files.entries(), file),

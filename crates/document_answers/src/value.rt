@@ -31,10 +31,10 @@ pub(crate) fn token_reply(
 ) -> Result<Reply, Memory>
     requires known { IsKnown around }
     requires named { is_nameless (query_words query) ≡ false }
-    ensures reply { IfOk result (RepliesToken around.entry.files.now (view_project around.entry.project.now) (view_scene around.entry.scene) around.entry.has_versions place (query_words query.entry)) }
+    ensures reply { IfOk result (RepliesToken around.entry.files.now (view_project around.entry.read.now.project) (view_scene around.entry.scene) around.entry.has_versions place (query_words query.entry)) }
     ensures plain { IfOk result IsPlain }
 {
-    let found = value_at(alloc, around.project, around.facts, place)?;
+    let found = value_at(alloc, &around.read.project, &around.resolved.facts, place)?;
     match found {
         ValueAt::Value(declared) => value_reply(alloc, around, place, declared, query),
         _ => nothing_reply(alloc, around.scene.cuts, Some(place), found, query),
@@ -67,9 +67,9 @@ fn value_reply(
     query: Query<&str>,
 ) -> Result<Reply, Memory>
     requires known { IsKnown around }
-    requires value { IsValueAt (view_project around.project.now) place (value.Value declared) }
+    requires value { IsValueAt (view_project around.read.now.project) place (value.Value declared) }
     requires named { is_nameless (query_words query) ≡ false }
-    ensures reply { IfOk result (RepliesValue around.entry.files.now (view_project around.entry.project.now) (view_scene around.entry.scene) around.entry.has_versions place declared (query_words query.entry)) }
+    ensures reply { IfOk result (RepliesValue around.entry.files.now (view_project around.entry.read.now.project) (view_scene around.entry.scene) around.entry.has_versions place declared (query_words query.entry)) }
     ensures plain { IfOk result IsPlain }
 {
     match query {
@@ -79,7 +79,7 @@ fn value_reply(
         }
         Query::Rename { name: None } => unreachable!(),
         Query::References { with_declarations } => {
-            let places = value_places(alloc, around.facts, declared)?;
+            let places = value_places(alloc, &around.resolved.facts, declared)?;
             let locations = locations_of(alloc, around.scene, &places, with_declarations)?;
             Ok(Ok(Answer::References(locations)))
         }
@@ -88,7 +88,7 @@ fn value_reply(
             Ok(Ok(Answer::Definition(location)))
         }
         Query::DocumentHighlight => {
-            let places = value_places(alloc, around.facts, declared)?;
+            let places = value_places(alloc, &around.resolved.facts, declared)?;
             let highlights = highlights_of(alloc, around.scene, &places, place.file)?;
             Ok(Ok(Answer::Highlights(highlights)))
         }

@@ -49,7 +49,7 @@ pub fn load_open<T: Tree + Drop>(
 
 /// What a folder is that is not loaded.
 fn unloaded<T: Tree>(alloc: Global, error: LoadError, tree: &mut T) -> Result<OpenFolder, Memory>
-    ensures { IfOk result (IsUnloaded error) }
+    ensures { IfOk result (IsUnloaded (T.content tree.old) error) }
 {
     match reason_of(error) {
         Ok(why) => refused_folder(alloc, why, tree),
@@ -77,7 +77,7 @@ fn refused_folder<T: Tree>(
     tree: &mut T,
 ) -> Result<OpenFolder, Memory>
     requires { IsOutside why → ⊥ }
-    ensures { IfOk result (IsUnloaded why) }
+    ensures { IfOk result (IsUnloaded (T.content tree.old) why) }
 {
     match folder_message(alloc, &why, tree) {
         Ok(message) => Ok(OpenFolder::Refused { why, message }),

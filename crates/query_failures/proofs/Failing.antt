@@ -11,7 +11,7 @@ use Rattle.report.specs.Json.{data_of}
 use Rattle.report.specs.Pieces.{Word}
 use Rattle.messages.specs.declared.parts.Message.{Message}
 use Rattle.refusal_words.specs.Cut.{AreCuts, Cut}
-use Rattle.refusal_words.specs.Refused.{project_message}
+use Rattle.refusal_places.specs.Placed.{SaysPlaced}
 use Rattle.explain.specs.Says.{SaysRename}
 use Rattle.explain.specs.declared.told.Told.{Told}
 use Rattle.lsp_answers.specs.declared.answer.ErrorCode.{ErrorCode}
@@ -36,15 +36,17 @@ noted_as given text object note result is same h =
 
 pub project_fails : {E : Type 0} (files : FileSet) (why : Refusal) (sources : List SourceFile) (cuts : List Cut) (message : Option Message)
     (text : Word) (names : List Word) (object : Data) (result : Result Failure E) → sources ≡ files.entries → AreCuts sources cuts
-    → message ≡ project_message cuts why → text ≡ folder_sentence message → names ≡ names_of files.entries
+    → SaysPlaced cuts why message → text ≡ folder_sentence message → names ≡ names_of files.entries
     → object ≡ data_of names (outcome.Refused why) → IfOk result (IsNoted text object) → IfOk result (IsProjectFailure files why)
-project_fails files why sources cuts message text names object result same cut is told named noted h =
+project_fails files why sources cuts message text names object result same cut says told named noted h =
     IfOk-weaker result (IsNoted text object) (IsProjectFailure files why) (λ failure known. record {
       cuts = cuts;
+      message = message;
       cut = subst (λ (s : List SourceFile). AreCuts s cuts) same cut;
-      noted = subst (λ (d : Data). IsNoted (folder_sentence (project_message cuts why)) d failure)
+      says = says;
+      noted = subst (λ (d : Data). IsNoted (folder_sentence message) d failure)
           (noted ∙ ap (λ (n : List Word). data_of n (outcome.Refused why)) named)
-          (subst (λ (w : Word). IsNoted w object failure) (told ∙ ap folder_sentence is) known);
+          (subst (λ (w : Word). IsNoted w object failure) told known);
     }) h
 
 -- ---- renamings

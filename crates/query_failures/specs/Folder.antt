@@ -8,7 +8,7 @@ use Rattle.report.specs.Json.{data_of}
 use Rattle.report.specs.Pieces.{Word}
 use Rattle.messages.specs.declared.parts.Message.{Message}
 use Rattle.refusal_words.specs.Cut.{AreCuts, Cut}
-use Rattle.refusal_words.specs.Refused.{project_message}
+use Rattle.refusal_places.specs.Placed.{SaysPlaced}
 use Rattle.lsp_answers.specs.declared.answer.Failure.{Failure}
 use Rattle.query_failures.specs.Failure.{IsNoted}
 use Rattle.query_failures.specs.Sentence.{message_sentence}
@@ -22,8 +22,11 @@ folder_sentence (Some message) = message_sentence message
 abbrev pub IsFolderFailure : LoadError → Option Message → Failure → Type 0
 IsFolderFailure why message failure = IsNoted (folder_sentence message) (data_of [] (outcome.NotLoaded why)) failure
 
--- files are refused as a project: the message of the refusal, and the object that its report has in JSON
+-- files are refused as a project: the message of the refusal, with the places that a reading finds, and the object that its
+-- report has in JSON
 pub record IsProjectFailure (files : FileSet) (why : Refusal) (failure : Failure) : Type 0 where
   pub cuts : List Cut
+  pub message : Option Message
   pub cut : AreCuts files.entries cuts
-  pub noted : IsNoted (folder_sentence (project_message cuts why)) (data_of (names_of files.entries) (outcome.Refused why)) failure
+  pub says : SaysPlaced cuts why message
+  pub noted : IsNoted (folder_sentence message) (data_of (names_of files.entries) (outcome.Refused why)) failure

@@ -7,7 +7,8 @@ use crate::failure::noted_failure;
 use crate::sentence::message_sentence;
 use lsp_answers::Failure;
 use messages::{Message, joined};
-use refusal_words::{cut_sources, project_message};
+use refusal_places::placed_message;
+use refusal_words::cut_sources;
 use report::{load_data, refusal_data};
 use rotor_base::{Files, LoadError, Memory, Refusal, Row, SourceFile};
 use std::alloc::Global;
@@ -29,7 +30,7 @@ pub fn project_failure(alloc: Global, files: &Files, why: &Refusal) -> Result<Fa
     ensures { IfOk result (IsProjectFailure files.now why.now) }
 {
     let cuts = cut_sources(alloc, files.entries())?;
-    let message = project_message(alloc, &cuts, why)?;
+    let message = placed_message(alloc, &cuts, why)?;
     let text = folder_sentence(alloc, &message)?;
     let names = names_of(alloc, files.entries())?;
     noted_failure(alloc, text.as_slice(), refusal_data(alloc, &names, why)?)

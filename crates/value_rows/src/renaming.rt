@@ -42,8 +42,7 @@ fn renamed(
     let Some(place) = place_of(files, &read.tokens, name, offset) else {
         return Ok(String::from_str(alloc, "no token")?);
     };
-    let (project, facts) = (&read.project, &resolved.facts);
-    match rename_at(alloc, counting, files, project, facts, place, new)? {
+    match rename_at(alloc, counting, files, &read, &resolved, place, new)? {
         EditorRenaming::Edits { done: _, edits } => Ok(edits_text(alloc, files, edits)?),
         EditorRenaming::NotText { file } => {
             Ok(format!(in alloc; "not UTF-8: {}", name_of(files, file))?)

@@ -16,7 +16,7 @@ found_among sources entries bytes name found given same is number e =
 
 pub over_source-requires-clause-number : goal.over_source-requires-clause-number
 over_source-requires-clause-number c =
-    found_among c.entries.result.now c.args.files.now.entries c.as_bytes.result.now (string_bytes c.args.file.now.name) c.number_of.result
+    found_among c.entries.result.now c.args.files.entries c.as_bytes.result.now (string_bytes c.args.asked.file.now.name) c.number_of.result
     (Some c.in-Some.number) c.entries.ensures.entries c.as_bytes.ensures.value c.number_of.ensures.found c.in-Some.is
 
 pub over_source-requires-clause-within : goal.over_source-requires-clause-within
@@ -27,7 +27,7 @@ pub returns-in-None-clause-reply : goal.returns-in-None-clause-reply
 returns-in-None-clause-reply c =
     IfOk-weaker c.lacking_reply.result _ _ (λ reply h.
     lacking
-    (found_among c.entries.result.now c.args.files.now.entries c.as_bytes.result.now (string_bytes c.args.file.now.name) c.number_of.result None
+    (found_among c.entries.result.now c.args.files.entries c.as_bytes.result.now (string_bytes c.args.asked.file.now.name) c.number_of.result None
     c.entries.ensures.entries c.as_bytes.ensures.value c.number_of.ensures.found c.in-None.is)
-    (subst (λ (w : Word). IsRefusedAs (query_words c.args.query) (lacking_text w) reply) c.as_bytes-in-None.ensures.value h))
+    (subst (λ (w : Word). IsRefusedAs (query_words c.args.asked.query) (lacking_text w) reply) c.as_bytes-in-None.ensures.value h))
     c.lacking_reply.ensures.reply

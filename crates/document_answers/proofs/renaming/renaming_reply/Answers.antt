@@ -17,30 +17,30 @@ pub refused_renaming-requires : goal.refused_renaming-requires
 refused_renaming-requires c =
     let a = c.args.around in
     subst (λ (e : EditorRenaming). IsRenamedTo a.scene.counting a.files.now c.args.declared c.args.name.now e) c.in-Refused.is
-    (renamed_to a.scene.counting a.files.now (view_project a.project.now) c.args.place c.args.declared c.args.name.now c.in_ok-answer.answer
-    c.requires.known.sound c.requires.value c.in_ok-answer.ensures)
+    (renamed_to a.scene.counting a.files.now (view_project a.read.now.project) c.args.place c.args.declared c.args.name.now c.in_ok-answer.answer
+    c.requires.known.kept.sound c.requires.value c.in_ok-answer.ensures)
 
 pub unreachable-requires : goal.unreachable-requires
 unreachable-requires c =
     let a = c.args.around in
     subst (λ (e : EditorRenaming). IsRenamedTo a.scene.counting a.files.now c.args.declared c.args.name.now e) c.in-NoValue.is
-    (renamed_to a.scene.counting a.files.now (view_project a.project.now) c.args.place c.args.declared c.args.name.now c.in_ok-answer.answer
-    c.requires.known.sound c.requires.value c.in_ok-answer.ensures)
+    (renamed_to a.scene.counting a.files.now (view_project a.read.now.project) c.args.place c.args.declared c.args.name.now c.in_ok-answer.answer
+    c.requires.known.kept.sound c.requires.value c.in_ok-answer.ensures)
 
 pub returns-in-Edits-clause-reply : goal.returns-in-Edits-clause-reply
 returns-in-Edits-clause-reply c =
     let a = c.args.around in
     let done = subst (λ (e : EditorRenaming). IsRenamedTo a.scene.counting a.files.now c.args.declared c.args.name.now e) c.in-Edits.is
-    (renamed_to a.scene.counting a.files.now (view_project a.project.now) c.args.place c.args.declared c.args.name.now c.in_ok-answer.answer
-    c.requires.known.sound c.requires.value c.in_ok-answer.ensures) in
+    (renamed_to a.scene.counting a.files.now (view_project a.read.now.project) c.args.place c.args.declared c.args.name.now c.in_ok-answer.answer
+    c.requires.known.kept.sound c.requires.value c.in_ok-answer.ensures) in
     IfOk-weaker c.changes_reply.result _ _ (λ reply h. renamed c.in-Edits.done c.in-Edits.edits.items done.0 done.1 h) c.changes_reply.ensures.reply
 
 pub returns-in-NotText-clause-reply : goal.returns-in-NotText-clause-reply
 returns-in-NotText-clause-reply c =
     let a = c.args.around in
     let done = subst (λ (e : EditorRenaming). IsRenamedTo a.scene.counting a.files.now c.args.declared c.args.name.now e) c.in-NotText.is
-    (renamed_to a.scene.counting a.files.now (view_project a.project.now) c.args.place c.args.declared c.args.name.now c.in_ok-answer.answer
-    c.requires.known.sound c.requires.value c.in_ok-answer.ensures) in
+    (renamed_to a.scene.counting a.files.now (view_project a.read.now.project) c.args.place c.args.declared c.args.name.now c.in_ok-answer.answer
+    c.requires.known.kept.sound c.requires.value c.in_ok-answer.ensures) in
     IfOk-weaker c.no_text_reply.result _ _ (λ reply h.
     no_text done.0 c.in-NotText.file done.1 done.2
     (subst (λ (s : List SourceFile). Fails (IsSaid code.Refused (no_text_text (name_at s c.in-NotText.file))) reply) c.entries.ensures.entries h))

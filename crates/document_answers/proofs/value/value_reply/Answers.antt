@@ -15,16 +15,16 @@ use Rattle.document_answers.proofs.value.value_reply.Goals as goal
 pub returns-in_ok-prepared-in-PrepareRename-clause-reply : goal.returns-in_ok-prepared-in-PrepareRename-clause-reply
 returns-in_ok-prepared-in-PrepareRename-clause-reply c =
     let a = c.args.around in
-    prepares a.files.now (view_project a.project.now) (view_scene a.scene) a.has_versions c.args.place c.args.declared c.args.query
+    prepares a.files.now (view_project a.read.now.project) (view_scene a.scene) a.has_versions c.args.place c.args.declared c.args.query
     c.in_ok-prepared-in-PrepareRename.field-0 c.in-PrepareRename.is c.in_ok-prepared-in-PrepareRename.ensures
 
 pub returns-in_ok-locations-in-References-clause-reply : goal.returns-in_ok-locations-in-References-clause-reply
 returns-in_ok-locations-in-References-clause-reply c =
     let a = c.args.around in
-    subst (λ (q : Query (Bor (List ℕ))). RepliesValue a.files.now (view_project a.project.now) (view_scene a.scene) a.has_versions c.args.place
+    subst (λ (q : Query (Bor (List ℕ))). RepliesValue a.files.now (view_project a.read.now.project) (view_scene a.scene) a.has_versions c.args.place
     c.args.declared (query_words q) (Ok (answer.References c.in_ok-locations-in-References.locations))) (sym c.in-References.is) (
       c.in_ok-places-in-References.places.items,
-      subst (λ (f : Facts). ArePlaces f c.args.declared c.in_ok-places-in-References.places.items) c.requires.known.facts c.in_ok-places-in-References.ensures,
+      subst (λ (f : Facts). ArePlaces f c.args.declared c.in_ok-places-in-References.places.items) c.requires.known.kept.facts c.in_ok-places-in-References.ensures,
       c.in_ok-locations-in-References.ensures
           ∙ ap (λ (l : List ValuePlace). locations_of (view_scene a.scene) c.in-References.with_declarations l) c.deref.ensures.value,
     )
@@ -32,16 +32,16 @@ returns-in_ok-locations-in-References-clause-reply c =
 pub returns-in_ok-location-in-Definition-clause-reply : goal.returns-in_ok-location-in-Definition-clause-reply
 returns-in_ok-location-in-Definition-clause-reply c =
     let a = c.args.around in
-    subst (λ (q : Query (Bor (List ℕ))). RepliesValue a.files.now (view_project a.project.now) (view_scene a.scene) a.has_versions c.args.place
+    subst (λ (q : Query (Bor (List ℕ))). RepliesValue a.files.now (view_project a.read.now.project) (view_scene a.scene) a.has_versions c.args.place
     c.args.declared (query_words q) (Ok (answer.Definition c.in_ok-location-in-Definition.location))) (sym c.in-Definition.is) c.in_ok-location-in-Definition.ensures
 
 pub returns-in_ok-highlights-in-DocumentHighlight-clause-reply : goal.returns-in_ok-highlights-in-DocumentHighlight-clause-reply
 returns-in_ok-highlights-in-DocumentHighlight-clause-reply c =
     let a = c.args.around in
-    subst (λ (q : Query (Bor (List ℕ))). RepliesValue a.files.now (view_project a.project.now) (view_scene a.scene) a.has_versions c.args.place
+    subst (λ (q : Query (Bor (List ℕ))). RepliesValue a.files.now (view_project a.read.now.project) (view_scene a.scene) a.has_versions c.args.place
     c.args.declared (query_words q) (Ok (answer.Highlights c.in_ok-highlights-in-DocumentHighlight.highlights))) (sym c.in-DocumentHighlight.is) (
       c.in_ok-places-in-DocumentHighlight.places.items,
-      subst (λ (f : Facts). ArePlaces f c.args.declared c.in_ok-places-in-DocumentHighlight.places.items) c.requires.known.facts c.in_ok-places-in-DocumentHighlight.ensures,
+      subst (λ (f : Facts). ArePlaces f c.args.declared c.in_ok-places-in-DocumentHighlight.places.items) c.requires.known.kept.facts c.in_ok-places-in-DocumentHighlight.ensures,
       c.in_ok-highlights-in-DocumentHighlight.ensures
           ∙ ap (λ (l : List ValuePlace). highlights_of (view_scene a.scene) c.args.place.file l) c.deref-in-DocumentHighlight.ensures.value,
     )
@@ -50,7 +50,7 @@ pub returns-in-Rename-Some-clause-reply : goal.returns-in-Rename-Some-clause-rep
 returns-in-Rename-Some-clause-reply c =
     let a = c.args.around in
     let some : c.in-Rename-Some.name' ≡ Some c.in-Rename-Some.name = rw c.in-Rename-Some.is at c.in-Rename-Some.name-is in
-    renames a.files.now (view_project a.project.now) (view_scene a.scene) a.has_versions c.args.place c.args.declared c.args.query
+    renames a.files.now (view_project a.read.now.project) (view_scene a.scene) a.has_versions c.args.place c.args.declared c.args.query
     c.in-Rename-Some.name' c.in-Rename-Some.name c.as_bytes.result.now c.renaming_reply.result c.in-Rename-Some.is some
     c.as_bytes.ensures.value c.renaming_reply.ensures.reply
 

@@ -7,7 +7,7 @@ use Rattle.editor_renaming.proofs.asked.rename_at.Goals as goal
 
 pub returns-in-Value : goal.returns-in-Value
 returns-in-Value c =
-    let us = view_project c.args.project.now in
+    let us = view_project c.args.read.now.project in
     let found = subst (IsValueAt us c.args.place) c.in-Value.is c.in_ok-found.ensures in
     if_ok_as c.rename_value.result (IsRenamedTo c.args.counting c.args.files.now c.in-Value.declaration c.args.name.now)
     (IsAnswer c.args.counting c.args.files.now us c.args.place c.args.name.now) (λ given is. renamed c.in-Value.declaration found is)

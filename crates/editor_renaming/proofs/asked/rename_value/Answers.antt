@@ -10,7 +10,7 @@ use Rattle.editor_renaming.proofs.asked.rename_value.Goals as goal
 
 pub accepted_edits-requires-clause-facts : goal.accepted_edits-requires-clause-facts
 accepted_edits-requires-clause-facts c =
-    facts_of_each c.args.files.now c.args.facts.now (view_project c.args.project.now) c.requires.reads c.requires.facts
+    facts_of_each c.args.files.now c.args.resolved.now.facts (view_project c.args.read.now.project) c.requires.reads c.requires.facts
 
 pub returns-in-Err : goal.returns-in-Err
 returns-in-Err c =

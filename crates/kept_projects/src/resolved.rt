@@ -1,0 +1,29 @@
+//! Reading and resolving a project.
+ghost use Rattle.std.specs.Prelude.{IfErr, IfOk};
+ghost use Rattle.ml_syntax.specs.View.{view_project};
+ghost use Rattle.rename_files.specs.Answer.{Rejects};
+ghost use Rattle.rename_project.specs.Steps.{IsRefusedFor};
+ghost use Rattle.kept_projects.specs.Kept.{IsKept};
+
+use ml_syntax::Project;
+use mod_shape::Resolved;
+use project_reading::read_project;
+use rename_project::resolve;
+use rotor_base::{Files, Refusal};
+use std::alloc::Global;
+
+/// The project that files are accepted as, and what it is resolved to. The error is the first refusal of the files, or
+/// `Memory`.
+pub(crate) fn resolved_project(alloc: Global, files: &Files) -> Result<(Project, Resolved), Refusal>
+    ensures kept { IfOk result (λ found. IsKept files.now (view_project found.0) found.1) }
+    ensures refused { IfErr result (IsRefusedFor (Rejects files.now)) }
+{
+    let read = match read_project(alloc, files) {
+        Ok(read) => read,
+        Err(why) => return Err(why),
+    };
+    match resolve(alloc, &read.project) {
+        Ok(resolved) => Ok((read.project, resolved)),
+        Err(why) => Err(why),
+    }
+}
