@@ -1,4 +1,5 @@
-//! Files that are accepted as a project.
+//! Files that are accepted as a project. What is kept of them is the invariant of a model: the fact of a ghost field
+//! may have one proof alone, and that files are read as a project has trees in it.
 ghost use Rattle.std.specs.Prelude.{◌≡◌};
 ghost use Rattle.rotor_base.specs.Files.{FileSet};
 ghost use Rattle.ml_syntax.specs.View.{view_project};
