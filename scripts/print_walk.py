@@ -208,9 +208,24 @@ def std_names(body, path, also=()):
     return f"use {path}.{{{', '.join(signs + [x for x in names if x in words])}}}"
 
 
+MOST_COLUMNS = 145
+
+
+def wrapped(line):
+    """A line as lines of few enough columns: it breaks at blanks, and goes on four columns further in."""
+    indent = " " * (len(line) - len(line.lstrip()) + 4)
+    out = []
+    while len(line) > MOST_COLUMNS:
+        at = line.rfind(" ", len(indent) + 1, MOST_COLUMNS)
+        out.append(line[:at])
+        line = indent + line[at + 1 :]
+    return "\n".join([*out, line])
+
+
 def write(path, head, uses, body):
     with open(f"{TOP}/{path}", "w") as file:
-        file.write(f"-- {head}\n" + "\n".join(uses) + "\n\n" + body.rstrip() + "\n")
+        lines = [wrapped(line) for line in body.rstrip().split("\n")]
+        file.write(f"-- {head}\n" + "\n".join([*uses, "", *lines]) + "\n")
 
 
 def arguments(function):

@@ -12,11 +12,13 @@ use Rattle.ml_syntax.specs.Tree.{TypedPat, EmptyPat, ListPat, RecordPat, OpenedP
 use Rattle.ml_syntax.specs.Tree.{PatFields, no_pat_field, more_pat_field, Variable, PlainVariable, AnyVariable, LocalModule, LocalPath}
 use Rattle.ml_syntax.specs.Tree.{LocalArguments, no_local, more_local, no_module, Expr, Seq, Let, LetOpen, LetModule, Fun, Function, Match, Try, If}
 use Rattle.ml_syntax.specs.Tree.{Chain, Minus, Apply, ConstrApply, TagApply, Assert, Lazy, Postfix, Prefixed, Literal, BoolExpr, Value, Constr, Tag}
-use Rattle.ml_syntax.specs.Tree.{UnitExpr, Paren, Typed, Coerced, EmptyBegin, Begin, EmptyList, ListExpr, Record, Opened, While, For, Links, no_link}
+use Rattle.ml_syntax.specs.Tree.{UnitExpr, Paren, Typed, Coerced, EmptyBegin, Begin, EmptyList, ListExpr, Record, Opened, While, For}
+use Rattle.ml_syntax.specs.Tree.{Links, no_link}
 use Rattle.ml_syntax.specs.Tree.{more_link, MaybeExpr, no_expr, some_expr, Tail, no_else, or_else, or_if, Binding, PlainBinding, AppliedBinding}
 use Rattle.ml_syntax.specs.Tree.{Bindings, no_binding, more_binding, Case, CaseOf, Cases, no_case, more_case, Argument, Positional, LabelPun}
 use Rattle.ml_syntax.specs.Tree.{Labelled, Arguments, no_argument, more_argument, Param, PatternParam, LabelParam, LabelPattern, DefaultParam}
-use Rattle.ml_syntax.specs.Tree.{WrappedParam, WrappedDefault, TypesParam, Params, no_param, more_param, Part, LabelPart, IndexPart, CharPart, Parts}
+use Rattle.ml_syntax.specs.Tree.{WrappedParam, WrappedDefault, TypesParam, Params, no_param, more_param, Part, LabelPart, IndexPart}
+use Rattle.ml_syntax.specs.Tree.{CharPart, Parts}
 use Rattle.ml_syntax.specs.Tree.{no_part, more_part, Field, FieldPun, AssignedField, Fields, no_field, more_field, ModuleName, UpperName, AnyName}
 use Rattle.ml_syntax.specs.Tree.{Constraint, ConstraintOf, WithClause, WithOf, ModExpr, ModPath, Struct, Functor, ModApply, ModParen, Sealed}
 use Rattle.ml_syntax.specs.Tree.{ModArgument, ModuleArgument, SealedArgument, NoArgument, ModArguments, no_mod_argument, more_mod_argument}
@@ -162,7 +164,8 @@ module _ {A : Type 0} (◌▹◌ : Event → A → A) where
     expr_out (Seq e es last) k = expr_out e (links_out es (optional_out key.Semicolon last k))
     expr_out (Let at rec b bs e) k =
         placed key.Let at ▸ optional_out key.Rec rec (group_begins ▹ binding_out b (bindings_out bs (group_ends ▹ fixed key.In ▸ expr_out e k)))
-    expr_out (LetOpen at at' bang path e) k = placed key.Let at ▸ placed key.Open at' ▸ bang_out bang (module_path path ▹ fixed key.In ▸ expr_out e k)
+    expr_out (LetOpen at at' bang path e) k = placed key.Let at ▸ placed key.Open at' ▸ bang_out bang (module_path path ▹ fixed key.In ▸ expr_out
+        e k)
     expr_out (LetModule at at' x eq m e) k =
         placed key.Let at ▸ placed key.Module at' ▸ word class.Upper x ▸ placed key.Equals eq ▸ local_out m (fixed key.In ▸ scope_begins ▹
         brings x ▹ expr_out e (scope_ends ▹ k))
@@ -193,7 +196,8 @@ module _ {A : Type 0} (◌▹◌ : Event → A → A) where
     expr_out (EmptyBegin at) k = placed key.Begin at ▸ fixed key.End ▸ k
     expr_out (Begin at e) k = placed key.Begin at ▸ expr_out e (fixed key.End ▸ k)
     expr_out (EmptyList at b) k = placed (opening b) at ▸ fixed (closing b) ▸ k
-    expr_out (ListExpr at b e es last) k = placed (opening b) at ▸ expr_out e (links_out es (optional_out key.Semicolon last (fixed (closing b) ▸ k)))
+    expr_out (ListExpr at b e es last) k = placed (opening b) at ▸ expr_out e (links_out es (optional_out key.Semicolon last (fixed (closing b) ▸
+        k)))
     expr_out (Record at base f fs last) k =
         placed key.LeftBrace at ▸ base_out base (field_out f (fields_out fs (optional_out key.Semicolon last (fixed key.RightBrace ▸ k))))
     expr_out (Opened path e) k = module_path path ▹ fixed key.Dot ▸ expr_out e k

@@ -41,34 +41,55 @@ use Rattle.tree_walk.specs.Events.{group_ends, part_ends, scope_begins, scope_en
 use Rattle.tree_walk.specs.Told.{names_told, brings_told, pat_told, pats_told, pat_field_told, pat_fields_told, variable_told, local_told}
 use Rattle.tree_walk.specs.Told.{locals_told, expr_told, links_told, base_told, guard_told, tail_told, binding_told, bindings_told}
 use Rattle.tree_walk.specs.Told.{case_told, cases_told, argument_told, arguments_told, param_told, params_told, part_told, parts_told}
-use Rattle.tree_walk.specs.Told.{field_told, fields_told, mod_told, mod_argument_told, mod_arguments_told, functor_param_told, functor_params_told, mod_type_told}
+use Rattle.tree_walk.specs.Told.{field_told, fields_told, mod_told, mod_argument_told, mod_arguments_told, functor_param_told}
+use Rattle.tree_walk.specs.Told.{functor_params_told, mod_type_told}
 use Rattle.tree_walk.specs.Told.{signature_told, item_told, items_told, sig_item_told, sig_items_told, file_told}
-use Rattle.tree_walk.proofs.Tells.{told_AliasSig, told_AnyName, told_AnyPat, told_AnyVariable, told_AppliedBinding, told_Apply, told_Arrow, told_AsPat}
+use Rattle.tree_walk.proofs.Tells.{told_AliasSig, told_AnyName, told_AnyPat, told_AnyVariable, told_AppliedBinding, told_Apply, told_Arrow}
+use Rattle.tree_walk.proofs.Tells.{told_AsPat}
 use Rattle.tree_walk.proofs.Tells.{told_Assert, told_AssignedField, told_Begin, told_Body, told_BoolExpr, told_BoolPat, told_CaseOf, told_Chain}
-use Rattle.tree_walk.proofs.Tells.{told_CharPart, told_Coerced, told_ConsPat, told_Constr, told_ConstrApply, told_ConstrApplyPat, told_ConstrPat, told_DefaultParam}
-use Rattle.tree_walk.proofs.Tells.{told_EmptyBegin, told_EmptyList, told_EmptyPat, told_ExceptionItem, told_ExceptionPat, told_ExceptionSig, told_ExprItem, told_ExternalItem}
+use Rattle.tree_walk.proofs.Tells.{told_CharPart, told_Coerced, told_ConsPat, told_Constr, told_ConstrApply, told_ConstrApplyPat}
+use Rattle.tree_walk.proofs.Tells.{told_ConstrPat, told_DefaultParam}
+use Rattle.tree_walk.proofs.Tells.{told_EmptyBegin, told_EmptyList, told_EmptyPat, told_ExceptionItem, told_ExceptionPat}
+use Rattle.tree_walk.proofs.Tells.{told_ExceptionSig, told_ExprItem, told_ExternalItem}
 use Rattle.tree_walk.proofs.Tells.{told_ExternalSig, told_Face, told_FieldPun, told_For, told_Fun, told_Function, told_Functor, told_FunctorType}
-use Rattle.tree_walk.proofs.Tells.{told_If, told_IncludeItem, told_IncludeSig, told_IndexPart, told_LabelParam, told_LabelPart, told_LabelPattern, told_LabelPun}
+use Rattle.tree_walk.proofs.Tells.{told_If, told_IncludeItem, told_IncludeSig, told_IndexPart, told_LabelParam, told_LabelPart}
+use Rattle.tree_walk.proofs.Tells.{told_LabelPattern, told_LabelPun}
 use Rattle.tree_walk.proofs.Tells.{told_Labelled, told_Lazy, told_LazyPat, told_Let, told_LetModule, told_LetOpen, told_ListExpr, told_ListPat}
-use Rattle.tree_walk.proofs.Tells.{told_Literal, told_LiteralPat, told_LocalPath, told_Match, told_MatchedField, told_Minus, told_ModApply, told_ModParen}
-use Rattle.tree_walk.proofs.Tells.{told_ModPath, told_ModuleArgument, told_ModuleItem, told_ModuleSig, told_ModuleTypeItem, told_ModuleTypeSig, told_NamedParam, told_NegativePat}
-use Rattle.tree_walk.proofs.Tells.{told_NoArgument, told_NoParam, told_OpenItem, told_OpenSig, told_Opened, told_OpenedPat, told_OrPat, told_ParamArrow}
-use Rattle.tree_walk.proofs.Tells.{told_Paren, told_ParenPat, told_PatternParam, told_PlainBinding, told_PlainVariable, told_Positional, told_Postfix, told_Prefixed}
-use Rattle.tree_walk.proofs.Tells.{told_PunnedField, told_RangePat, told_Record, told_RecordPat, told_Sealed, told_SealedArgument, told_SeparatorItem, told_SeparatorSig}
+use Rattle.tree_walk.proofs.Tells.{told_Literal, told_LiteralPat, told_LocalPath, told_Match, told_MatchedField, told_Minus, told_ModApply}
+use Rattle.tree_walk.proofs.Tells.{told_ModParen}
+use Rattle.tree_walk.proofs.Tells.{told_ModPath, told_ModuleArgument, told_ModuleItem, told_ModuleSig, told_ModuleTypeItem}
+use Rattle.tree_walk.proofs.Tells.{told_ModuleTypeSig, told_NamedParam, told_NegativePat}
+use Rattle.tree_walk.proofs.Tells.{told_NoArgument, told_NoParam, told_OpenItem, told_OpenSig, told_Opened, told_OpenedPat, told_OrPat}
+use Rattle.tree_walk.proofs.Tells.{told_ParamArrow}
+use Rattle.tree_walk.proofs.Tells.{told_Paren, told_ParenPat, told_PatternParam, told_PlainBinding, told_PlainVariable, told_Positional}
+use Rattle.tree_walk.proofs.Tells.{told_Postfix, told_Prefixed}
+use Rattle.tree_walk.proofs.Tells.{told_PunnedField, told_RangePat, told_Record, told_RecordPat, told_Sealed, told_SealedArgument}
+use Rattle.tree_walk.proofs.Tells.{told_SeparatorItem, told_SeparatorSig}
 use Rattle.tree_walk.proofs.Tells.{told_Seq, told_Sig, told_Struct, told_Tag, told_TagApply, told_TagApplyPat, told_TagPat, told_Try}
-use Rattle.tree_walk.proofs.Tells.{told_TuplePat, told_TypeItem, told_TypeOf, told_TypeParen, told_TypePath, told_TypeSig, told_Typed, told_TypedPat}
-use Rattle.tree_walk.proofs.Tells.{told_TypesParam, told_UnitExpr, told_UnitPat, told_UpperName, told_ValSig, told_Value, told_ValueItem, told_ValuePat}
-use Rattle.tree_walk.proofs.Tells.{told_While, told_With, told_WrappedDefault, told_WrappedParam, told_base_no_expr, told_base_some_expr, told_guard_no_expr, told_guard_some_expr}
-use Rattle.tree_walk.proofs.Tells.{told_more_argument, told_more_binding, told_more_case, told_more_field, told_more_functor_param, told_more_item, told_more_link, told_more_local}
-use Rattle.tree_walk.proofs.Tells.{told_more_mod_argument, told_more_param, told_more_part, told_more_pat, told_more_pat_field, told_more_sig_item, told_names_end, told_names_more}
-use Rattle.tree_walk.proofs.Tells.{told_no_argument, told_no_binding, told_no_case, told_no_else, told_no_field, told_no_functor_param, told_no_item, told_no_link}
-use Rattle.tree_walk.proofs.Tells.{told_no_local, told_no_mod_argument, told_no_module, told_no_param, told_no_part, told_no_pat, told_no_pat_field, told_no_sig_item}
+use Rattle.tree_walk.proofs.Tells.{told_TuplePat, told_TypeItem, told_TypeOf, told_TypeParen, told_TypePath, told_TypeSig, told_Typed}
+use Rattle.tree_walk.proofs.Tells.{told_TypedPat}
+use Rattle.tree_walk.proofs.Tells.{told_TypesParam, told_UnitExpr, told_UnitPat, told_UpperName, told_ValSig, told_Value, told_ValueItem}
+use Rattle.tree_walk.proofs.Tells.{told_ValuePat}
+use Rattle.tree_walk.proofs.Tells.{told_While, told_With, told_WrappedDefault, told_WrappedParam, told_base_no_expr, told_base_some_expr}
+use Rattle.tree_walk.proofs.Tells.{told_guard_no_expr, told_guard_some_expr}
+use Rattle.tree_walk.proofs.Tells.{told_more_argument, told_more_binding, told_more_case, told_more_field, told_more_functor_param}
+use Rattle.tree_walk.proofs.Tells.{told_more_item, told_more_link, told_more_local}
+use Rattle.tree_walk.proofs.Tells.{told_more_mod_argument, told_more_param, told_more_part, told_more_pat, told_more_pat_field}
+use Rattle.tree_walk.proofs.Tells.{told_more_sig_item, told_names_end, told_names_more}
+use Rattle.tree_walk.proofs.Tells.{told_no_argument, told_no_binding, told_no_case, told_no_else, told_no_field, told_no_functor_param}
+use Rattle.tree_walk.proofs.Tells.{told_no_item, told_no_link}
+use Rattle.tree_walk.proofs.Tells.{told_no_local, told_no_mod_argument, told_no_module, told_no_param, told_no_part, told_no_pat}
+use Rattle.tree_walk.proofs.Tells.{told_no_pat_field, told_no_sig_item}
 use Rattle.tree_walk.proofs.Tells.{told_no_type, told_or_else, told_or_if, told_some_type}
-use Rattle.unit_order.specs.Heads.{argument_heads, arguments_heads, binding_heads, bindings_heads, bound_by_item, bound_by_name, bound_by_param, bound_by_params}
-use Rattle.unit_order.specs.Heads.{bound_by_sig_item, case_heads, cases_heads, expr_heads, field_heads, fields_heads, file_heads, functor_param_heads}
-use Rattle.unit_order.specs.Heads.{functor_params_heads, item_heads, items_heads, links_heads, local_heads, locals_heads, maybe_heads, mod_argument_heads}
+use Rattle.unit_order.specs.Heads.{argument_heads, arguments_heads, binding_heads, bindings_heads, bound_by_item, bound_by_name}
+use Rattle.unit_order.specs.Heads.{bound_by_param, bound_by_params}
+use Rattle.unit_order.specs.Heads.{bound_by_sig_item, case_heads, cases_heads, expr_heads, field_heads, fields_heads, file_heads}
+use Rattle.unit_order.specs.Heads.{functor_param_heads}
+use Rattle.unit_order.specs.Heads.{functor_params_heads, item_heads, items_heads, links_heads, local_heads, locals_heads, maybe_heads}
+use Rattle.unit_order.specs.Heads.{mod_argument_heads}
 use Rattle.unit_order.specs.Heads.{mod_arguments_heads, mod_heads, mod_type_heads, module_head, param_heads, params_heads, part_heads, parts_heads}
-use Rattle.unit_order.specs.Heads.{pat_field_heads, pat_fields_heads, pat_heads, pats_heads, prefix_head, sig_item_heads, sig_items_heads, signature_heads}
+use Rattle.unit_order.specs.Heads.{pat_field_heads, pat_fields_heads, pat_heads, pats_heads, prefix_head, sig_item_heads, sig_items_heads}
+use Rattle.unit_order.specs.Heads.{signature_heads}
 use Rattle.unit_order.specs.Heads.{tail_heads}
 use Rattle.unit_order.specs.Hearing.{needed, hears}
 use Rattle.unit_order.proofs.Fronts.{all, in_front, behind_name, behind_param, behind_params, behind_item, behind_sig_item}
@@ -85,7 +106,8 @@ bound_by_sig_items bound (more_sig_item i is) = bound_by_sig_items (bound_by_sig
 behind_items : (bound : List (List ℕ)) (is : Items) → take (length bound) (bound_by_items bound is) ≡ bound
 behind_items bound no_item = all bound
 behind_items bound (more_item i is) =
-    in_front bound (bound_by_item bound i) (bound_by_items (bound_by_item bound i) is) (behind_item bound i) (behind_items (bound_by_item bound i) is)
+    in_front bound (bound_by_item bound i) (bound_by_items (bound_by_item bound i) is) (behind_item bound i) (behind_items (bound_by_item bound
+    i) is)
 
 behind_sig_items : (bound : List (List ℕ)) (is : SigItems) → take (length bound) (bound_by_sig_items bound is) ≡ bound
 behind_sig_items bound no_sig_item = all bound
@@ -495,11 +517,16 @@ mutual
   item_needs (TypeItem run) bound outer found = told_TypeItem hears (needed bound outer found) run
   item_needs (ExceptionItem at run) bound outer found = told_ExceptionItem hears (needed bound outer found) at run
   item_needs (ModuleItem at x ps s eq m) bound outer found = told_ModuleItem hears (needed bound outer found) at x ps s eq m
-      ∙ ap (λ w. brings_told hears (hears (mod_told hears (signature_told hears w s) m) scope_ends) x) (functor_params_needs ps bound (length bound ∷ outer) found)
-      ∙ ap (λ w. brings_told hears (hears (mod_told hears w m) scope_ends) x) (signature_needs s (bound_by_params bound ps) (length bound ∷ outer) (functor_params_heads bound found ps))
-      ∙ ap (λ w. brings_told hears (hears w scope_ends) x) (mod_needs m (bound_by_params bound ps) (length bound ∷ outer) (signature_heads (bound_by_params bound ps) (functor_params_heads bound found ps) s))
-      ∙ ap (λ w. brings_told hears (needed w outer (mod_heads (bound_by_params bound ps) (signature_heads (bound_by_params bound ps) (functor_params_heads bound found ps) s) m)) x) (behind_params bound ps)
-      ∙ brings_needs x bound outer (mod_heads (bound_by_params bound ps) (signature_heads (bound_by_params bound ps) (functor_params_heads bound found ps) s) m)
+      ∙ ap (λ w. brings_told hears (hears (mod_told hears (signature_told hears w s) m) scope_ends) x) (functor_params_needs ps bound (length
+      bound ∷ outer) found)
+      ∙ ap (λ w. brings_told hears (hears (mod_told hears w m) scope_ends) x) (signature_needs s (bound_by_params bound ps) (length bound ∷
+      outer) (functor_params_heads bound found ps))
+      ∙ ap (λ w. brings_told hears (hears w scope_ends) x) (mod_needs m (bound_by_params bound ps) (length bound ∷ outer) (signature_heads
+      (bound_by_params bound ps) (functor_params_heads bound found ps) s))
+      ∙ ap (λ w. brings_told hears (needed w outer (mod_heads (bound_by_params bound ps) (signature_heads (bound_by_params bound ps)
+      (functor_params_heads bound found ps) s) m)) x) (behind_params bound ps)
+      ∙ brings_needs x bound outer (mod_heads (bound_by_params bound ps) (signature_heads (bound_by_params bound ps) (functor_params_heads bound
+      found ps) s) m)
   item_needs (ModuleTypeItem at x eq s) bound outer found = told_ModuleTypeItem hears (needed bound outer found) at x eq s
       ∙ mod_type_needs s bound outer found
   item_needs (OpenItem at bang path) bound outer found = told_OpenItem hears (needed bound outer found) at bang path
@@ -522,8 +549,10 @@ mutual
   sig_item_needs (ExceptionSig at run) bound outer found = told_ExceptionSig hears (needed bound outer found) at run
   sig_item_needs (ModuleSig at x ps s) bound outer found = told_ModuleSig hears (needed bound outer found) at x ps s
       ∙ ap (λ w. brings_told hears (hears (mod_type_told hears w s) scope_ends) x) (functor_params_needs ps bound (length bound ∷ outer) found)
-      ∙ ap (λ w. brings_told hears (hears w scope_ends) x) (mod_type_needs s (bound_by_params bound ps) (length bound ∷ outer) (functor_params_heads bound found ps))
-      ∙ ap (λ w. brings_told hears (needed w outer (mod_type_heads (bound_by_params bound ps) (functor_params_heads bound found ps) s)) x) (behind_params bound ps)
+      ∙ ap (λ w. brings_told hears (hears w scope_ends) x) (mod_type_needs s (bound_by_params bound ps) (length bound ∷ outer)
+      (functor_params_heads bound found ps))
+      ∙ ap (λ w. brings_told hears (needed w outer (mod_type_heads (bound_by_params bound ps) (functor_params_heads bound found ps) s)) x)
+      (behind_params bound ps)
       ∙ brings_needs x bound outer (mod_type_heads (bound_by_params bound ps) (functor_params_heads bound found ps) s)
   sig_item_needs (AliasSig at x eq path) bound outer found = told_AliasSig hears (needed bound outer found) at x eq path
   sig_item_needs (ModuleTypeSig at x eq s) bound outer found = told_ModuleTypeSig hears (needed bound outer found) at x eq s
