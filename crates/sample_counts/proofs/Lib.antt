@@ -1,0 +1,9 @@
+pub mod Cut
+pub mod Trees
+pub mod Walked
+pub mod Counted
+pub mod Taking
+pub mod Numbers
+pub mod Project
+pub mod Linked
+pub mod Reports
