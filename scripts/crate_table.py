@@ -22,7 +22,7 @@ TABLE_MARKS = ("<!-- laws: written by scripts/crate_table.py -->\n", "<!-- end o
 # The crates whose laws the table has, in its order.
 LAW_CRATES = [
     "rename_laws", "reply_laws", "answer_laws", "command_answers", "accepted_renamings", "verified_renamings",
-    "verified_respellings", "verified_refusals", "unused_names", "unused_renamings", "open_world", "token_laws", "batch_laws", "facts_laws",
+    "verified_respellings", "verified_refusals", "unused_names", "unused_renamings", "open_world", "token_laws", "batch_laws", "sample_counts", "changed_names", "facts_laws",
     "run_laws",
 ]
 

@@ -2,7 +2,7 @@
 
 ghost use Rattle.changed_names.specs.Laws.{ChangesAreEnough};
 
-/// Only what a renaming changes has to get a value name: a binder that is no operator and keeps its name has one.
+/// Only what a renaming changes has to get a value name.
 pub fn changes_give_value_names()
     ensures { ChangesAreEnough }
 {}
