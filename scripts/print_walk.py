@@ -14,7 +14,7 @@ TREE = f"{TOP}/crates/ml_syntax/specs/Tree.antt"
 SILENT = "type optional bang open lowers module_name constraint constraints withs texts".split()
 # phrases that stand in no clause of their own
 INLINE = ["external", "open_item"]
-HELPERS = ["for", "group", "pat_group", "field_group"]
+MOST_COLUMNS = 145
 EVENT_NAMES = (
     "Event said run_of value field label operator minus module_path last_path qualifier group_begins group_ends"
     " part_begins part_ends scope_begins scope_ends brings"
@@ -104,7 +104,7 @@ def told(function):
     return kind(function) + "_told"
 
 
-KINDS = [f for b in BLOCKS for f in b if kind(f) not in SILENT + INLINE + HELPERS]
+KINDS = [f for b in BLOCKS for f in b if kind(f) not in SILENT + INLINE]
 
 
 def flat(parts):
@@ -179,12 +179,15 @@ def words_of(body):
     return set(re.findall(r"[^\s(){},;]+", code))
 
 
-def use(path, names, at_once=8):
-    names, out = list(names), []
-    while names:
-        out.append(f"use {path}.{{{', '.join(names[:at_once])}}}")
-        names = names[at_once:]
-    return out
+def use(path, names):
+    """Lines of few enough columns that import names."""
+    out, line = [], []
+    for name in names:
+        if line and len(f"use {path}.{{{', '.join([*line, name])}}}") > MOST_COLUMNS:
+            out.append(f"use {path}.{{{', '.join(line)}}}")
+            line = []
+        line.append(name)
+    return out + ([f"use {path}.{{{', '.join(line)}}}"] if line else [])
 
 
 def uses_of(body):
@@ -206,9 +209,6 @@ def std_names(body, path, also=()):
     signs = [f"◌{x}◌" for x in "≡∙∷" if x in words] + (["◌++◌"] if "++" in words else [])
     names = ["ℕ", "List", "[]", "Bool", "true", "false", "Option", "Some", "None", "refl", "ap", "sym", *also]
     return f"use {path}.{{{', '.join(signs + [x for x in names if x in words])}}}"
-
-
-MOST_COLUMNS = 145
 
 
 def wrapped(line):

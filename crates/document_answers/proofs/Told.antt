@@ -31,7 +31,7 @@ pub over_rejected : {E : Type 0} (client : Client) (folder : Word) (held : Docum
 over_rejected client folder held name files here asked why (Ok reply) is h = rejected why is h
 over_rejected client folder held name files here asked why (Err e) is h = tt
 
--- a folder as an answer tells of it
+-- a folder as an answer shows it
 pub same_telling : (folder given : Word) (held : DocumentMap) (sources : List SourceFile) (files : FileSet) (cuts : List Cut)
     (counting counted : Counting) → given ≡ folder → sources ≡ files.entries → counted ≡ counting
     → ◌≡◌ {A = Telling} (record { folder = given; held = held; sources = sources; cuts = cuts; counting = counted })

@@ -31,7 +31,7 @@ abbrev pub counting_of : Encoding → Counting
 counting_of encoding.Utf8 = Utf8
 counting_of encoding.Utf16 = Utf16
 
--- a folder as an answer tells of it, of the files that it was read as
+-- a folder as an answer shows it, of the files that it was read as
 abbrev pub telling : Word → DocumentMap → FileSet → List Cut → Counting → Telling
 telling folder held files cuts counting =
     record { folder = folder; held = held; sources = files.entries; cuts = cuts; counting = counting }

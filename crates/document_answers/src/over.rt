@@ -51,7 +51,7 @@ pub(crate) struct Asked<'a> {
     pub query: Query<&'a str>,
 }
 
-/// Files with what they are read as and what that is resolved to, the folder as an answer tells of it, and whether the editor
+/// Files with what they are read as and what that is resolved to, the folder as an answer shows it, and whether the editor
 /// takes versions.
 #[derive(Clone, Copy)]
 pub(crate) struct Around<'a> {

@@ -52,7 +52,7 @@ to_k = (pl 0 4, codes "k") ∷ []
 holds : HoldValues none outside
 holds = (tt, tt)
 
--- alone, `x` may come through `Out`
+-- alone, `x` may be a value of `Out`
 alone : (facts project).refs ≡ r (pl 0 6) (Blur (pl 0 1) 1 None) ∷ (r (pl 0 10) (Decl (pl 0 4)) ∷ [])
 unfolding matched ◌&◌
 alone = refl

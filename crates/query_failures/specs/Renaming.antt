@@ -44,7 +44,7 @@ abbrev pub word_there : List Cut → Option Place → Word
 word_there cuts None = []
 word_there cuts (Some p) = word_at cuts p
 
--- the message of such a token, or of a byte at which no token stands
+-- the message of such a token, or of a byte outside of all tokens
 abbrev pub valueless : List Cut → Option Place → ValueAt → Message
 valueless cuts p found = record {
   severity = Error;

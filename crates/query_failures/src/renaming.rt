@@ -42,8 +42,8 @@ fn first_sentence(alloc: Global, messages: &[Message]) -> Result<Row<u8>, Memory
     }
 }
 
-/// The failure of a renaming at a token that declares and uses no value of the folder, or at a byte at which no token
-/// stands. The one error is want of memory.
+/// The failure of a renaming at a token that declares and uses no value of the folder, or at a byte outside of
+/// all tokens. The one error is want of memory.
 pub fn valueless_failure(
     alloc: Global,
     cuts: &[CutSource<'_>],

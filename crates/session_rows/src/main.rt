@@ -1,7 +1,7 @@
 //! Reads recorded sessions from its input, one a line, and prints what `rotor-lsp` answers to each. A row is
 //! `NAME|BYTES|FOLDER|..`: a name of its own, the bytes that an editor sent, and folders. A folder is `PATH,NAME=TEXT,..`: its
-//! path and its files. The bytes, paths, names and texts are percent-encoded. The answer begins with the name and the exit
-//! code; then come the bytes of the output.
+//! path and its files. The bytes, paths, names and texts are percent-encoded. The answer has the name, then the exit
+//! code, and then the bytes of the output.
 #![tactic(auto)]
 
 mod folder;

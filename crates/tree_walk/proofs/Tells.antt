@@ -4,60 +4,50 @@ use Rattle.rotor_base.specs.declared.token.Class.TheVariants as class
 use Rattle.ml_syntax.specs.declared.fixed.Fixed.{Fixed}
 use Rattle.ml_syntax.specs.declared.fixed.Fixed.TheVariants as key
 use Rattle.ml_syntax.specs.Tok.{Name, Tok, word}
-use Rattle.ml_syntax.specs.Tree.{ValueName, PlainName, Pat, AsPat, OrPat, TuplePat, ConsPat, ConstrApplyPat}
-use Rattle.ml_syntax.specs.Tree.{TagApplyPat, LazyPat}
-use Rattle.ml_syntax.specs.Tree.{ExceptionPat, AnyPat, ValuePat, LiteralPat, NegativePat, RangePat, ConstrPat, TagPat}
-use Rattle.ml_syntax.specs.Tree.{BoolPat, UnitPat, ParenPat}
-use Rattle.ml_syntax.specs.Tree.{TypedPat, EmptyPat, ListPat, RecordPat, OpenedPat, Pats, no_pat, more_pat}
-use Rattle.ml_syntax.specs.Tree.{PatField, PunnedField, MatchedField}
+use Rattle.ml_syntax.specs.Tree.{ValueName, PlainName, Pat, AsPat, OrPat, TuplePat, ConsPat, ConstrApplyPat, TagApplyPat, LazyPat}
+use Rattle.ml_syntax.specs.Tree.{ExceptionPat, AnyPat, ValuePat, LiteralPat, NegativePat, RangePat, ConstrPat, TagPat, BoolPat, UnitPat}
+use Rattle.ml_syntax.specs.Tree.{ParenPat}
+use Rattle.ml_syntax.specs.Tree.{TypedPat, EmptyPat, ListPat, RecordPat, OpenedPat, Pats, no_pat, more_pat, PatField, PunnedField, MatchedField}
 use Rattle.ml_syntax.specs.Tree.{PatFields, no_pat_field, more_pat_field, Variable, PlainVariable, AnyVariable, LocalModule, LocalPath}
-use Rattle.ml_syntax.specs.Tree.{LocalArguments, no_local, more_local, no_module, Expr, Seq, Let, LetOpen}
-use Rattle.ml_syntax.specs.Tree.{LetModule, Fun, Function, Match, Try, If}
-use Rattle.ml_syntax.specs.Tree.{Chain, Minus, Apply, ConstrApply, TagApply, Assert, Lazy, Postfix}
-use Rattle.ml_syntax.specs.Tree.{Prefixed, Literal, BoolExpr, Value, Constr, Tag}
-use Rattle.ml_syntax.specs.Tree.{UnitExpr, Paren, Typed, Coerced, EmptyBegin, Begin, EmptyList, ListExpr}
-use Rattle.ml_syntax.specs.Tree.{Record, Opened, While, For, Links, no_link}
-use Rattle.ml_syntax.specs.Tree.{more_link, MaybeExpr, no_expr, some_expr, Tail, no_else, or_else, or_if}
-use Rattle.ml_syntax.specs.Tree.{Binding, PlainBinding, AppliedBinding}
-use Rattle.ml_syntax.specs.Tree.{Bindings, no_binding, more_binding, Case, CaseOf, Cases, no_case, more_case}
-use Rattle.ml_syntax.specs.Tree.{Argument, Positional, LabelPun}
-use Rattle.ml_syntax.specs.Tree.{Labelled, Arguments, no_argument, more_argument, Param, PatternParam, LabelParam, LabelPattern}
-use Rattle.ml_syntax.specs.Tree.{DefaultParam}
-use Rattle.ml_syntax.specs.Tree.{WrappedParam, WrappedDefault, TypesParam, Params, no_param, more_param, Part, LabelPart}
-use Rattle.ml_syntax.specs.Tree.{IndexPart, CharPart, Parts}
-use Rattle.ml_syntax.specs.Tree.{no_part, more_part, Field, FieldPun, AssignedField, Fields, no_field, more_field}
-use Rattle.ml_syntax.specs.Tree.{ModuleName, UpperName, AnyName}
+use Rattle.ml_syntax.specs.Tree.{LocalArguments, no_local, more_local, no_module, Expr, Seq, Let, LetOpen, LetModule, Fun, Function, Match, Try}
+use Rattle.ml_syntax.specs.Tree.{If}
+use Rattle.ml_syntax.specs.Tree.{Chain, Minus, Apply, ConstrApply, TagApply, Assert, Lazy, Postfix, Prefixed, Literal, BoolExpr, Value, Constr}
+use Rattle.ml_syntax.specs.Tree.{Tag}
+use Rattle.ml_syntax.specs.Tree.{UnitExpr, Paren, Typed, Coerced, EmptyBegin, Begin, EmptyList, ListExpr, Record, Opened, While, For}
+use Rattle.ml_syntax.specs.Tree.{Links, no_link}
+use Rattle.ml_syntax.specs.Tree.{more_link, MaybeExpr, no_expr, some_expr, Tail, no_else, or_else, or_if, Binding, PlainBinding, AppliedBinding}
+use Rattle.ml_syntax.specs.Tree.{Bindings, no_binding, more_binding, Case, CaseOf, Cases, no_case, more_case, Argument, Positional, LabelPun}
+use Rattle.ml_syntax.specs.Tree.{Labelled, Arguments, no_argument, more_argument, Param, PatternParam, LabelParam, LabelPattern, DefaultParam}
+use Rattle.ml_syntax.specs.Tree.{WrappedParam, WrappedDefault, TypesParam, Params, no_param, more_param, Part, LabelPart, IndexPart}
+use Rattle.ml_syntax.specs.Tree.{CharPart, Parts}
+use Rattle.ml_syntax.specs.Tree.{no_part, more_part, Field, FieldPun, AssignedField, Fields, no_field, more_field, ModuleName, UpperName}
+use Rattle.ml_syntax.specs.Tree.{AnyName}
 use Rattle.ml_syntax.specs.Tree.{WithClause, ModExpr, ModPath, Struct, Functor, ModApply, ModParen, Sealed}
 use Rattle.ml_syntax.specs.Tree.{ModArgument, ModuleArgument, SealedArgument, NoArgument, ModArguments, no_mod_argument, more_mod_argument}
-use Rattle.ml_syntax.specs.Tree.{FunctorParam, NamedParam, NoParam, FunctorParams, no_functor_param, more_functor_param, ModType, TypePath}
-use Rattle.ml_syntax.specs.Tree.{Sig}
-use Rattle.ml_syntax.specs.Tree.{TypeOf, TypeParen, With, FunctorType, ParamArrow, Arrow, MaybeType, no_type}
-use Rattle.ml_syntax.specs.Tree.{some_type, Item, ExprItem}
+use Rattle.ml_syntax.specs.Tree.{FunctorParam, NamedParam, NoParam, FunctorParams, no_functor_param, more_functor_param, ModType, TypePath, Sig}
+use Rattle.ml_syntax.specs.Tree.{TypeOf, TypeParen, With, FunctorType, ParamArrow, Arrow, MaybeType, no_type, some_type, Item, ExprItem}
 use Rattle.ml_syntax.specs.Tree.{SeparatorItem, ValueItem, ExternalItem, TypeItem, ExceptionItem, ModuleItem, ModuleTypeItem, OpenItem}
 use Rattle.ml_syntax.specs.Tree.{IncludeItem}
-use Rattle.ml_syntax.specs.Tree.{Items, no_item, more_item, SigItem, SeparatorSig, ValSig, ExternalSig, TypeSig}
-use Rattle.ml_syntax.specs.Tree.{ExceptionSig, ModuleSig, AliasSig}
-use Rattle.ml_syntax.specs.Tree.{ModuleTypeSig, OpenSig, IncludeSig, SigItems, no_sig_item, more_sig_item, FileTree, Body}
-use Rattle.ml_syntax.specs.Tree.{Face}
-use Rattle.tree_walk.specs.Events.{Event, value, field, label, operator, minus, module_path, last_path}
-use Rattle.tree_walk.specs.Events.{qualifier, group_begins, group_ends, part_begins, part_ends, scope_begins, scope_ends, brings}
-use Rattle.tree_walk.specs.Events.{names_out, brings_out, pat_out, pats_out, pat_field_out, pat_fields_out, variable_out, local_out}
-use Rattle.tree_walk.specs.Events.{locals_out, expr_out, links_out, base_out, guard_out, tail_out, binding_out, bindings_out}
-use Rattle.tree_walk.specs.Events.{case_out, cases_out, argument_out, arguments_out, param_out, params_out, part_out, parts_out}
-use Rattle.tree_walk.specs.Events.{field_out, fields_out, mod_out, mod_argument_out, mod_arguments_out, functor_param_out}
-use Rattle.tree_walk.specs.Events.{functor_params_out, mod_type_out}
-use Rattle.tree_walk.specs.Events.{signature_out, item_out, items_out, sig_item_out, sig_items_out, file_out}
+use Rattle.ml_syntax.specs.Tree.{Items, no_item, more_item, SigItem, SeparatorSig, ValSig, ExternalSig, TypeSig, ExceptionSig, ModuleSig}
+use Rattle.ml_syntax.specs.Tree.{AliasSig}
+use Rattle.ml_syntax.specs.Tree.{ModuleTypeSig, OpenSig, IncludeSig, SigItems, no_sig_item, more_sig_item, FileTree, Body, Face}
+use Rattle.tree_walk.specs.Events.{Event, value, field, label, operator, minus, module_path, last_path, qualifier, group_begins, group_ends}
+use Rattle.tree_walk.specs.Events.{part_begins, part_ends, scope_begins, scope_ends, brings}
+use Rattle.tree_walk.specs.Events.{names_out, brings_out, pat_out, pats_out, pat_field_out, pat_fields_out, variable_out, local_out, locals_out}
+use Rattle.tree_walk.specs.Events.{expr_out, links_out, base_out, guard_out, tail_out, binding_out, bindings_out, case_out, cases_out}
+use Rattle.tree_walk.specs.Events.{argument_out, arguments_out, param_out, params_out, part_out, parts_out, field_out, fields_out, mod_out}
+use Rattle.tree_walk.specs.Events.{mod_argument_out, mod_arguments_out, functor_param_out, functor_params_out, mod_type_out, signature_out}
+use Rattle.tree_walk.specs.Events.{item_out, items_out, sig_item_out, sig_items_out, file_out}
 use Rattle.tree_walk.specs.Told.{names_told, brings_told, pat_told, pats_told, pat_field_told, pat_fields_told, variable_told, local_told}
-use Rattle.tree_walk.specs.Told.{locals_told, expr_told, links_told, base_told, guard_told, tail_told, binding_told, bindings_told}
-use Rattle.tree_walk.specs.Told.{case_told, cases_told, argument_told, arguments_told, param_told, params_told, part_told, parts_told}
-use Rattle.tree_walk.specs.Told.{field_told, fields_told, mod_told, mod_argument_told, mod_arguments_told, functor_param_told}
-use Rattle.tree_walk.specs.Told.{functor_params_told, mod_type_told}
-use Rattle.tree_walk.specs.Told.{signature_told, item_told, items_told, sig_item_told, sig_items_told, file_told}
+use Rattle.tree_walk.specs.Told.{locals_told, expr_told, links_told, base_told, guard_told, tail_told, binding_told, bindings_told, case_told}
+use Rattle.tree_walk.specs.Told.{cases_told, argument_told, arguments_told, param_told, params_told, part_told, parts_told, field_told}
+use Rattle.tree_walk.specs.Told.{fields_told, mod_told, mod_argument_told, mod_arguments_told, functor_param_told, functor_params_told}
+use Rattle.tree_walk.specs.Told.{mod_type_told, signature_told, item_told, items_told, sig_item_told, sig_items_told, file_told}
 use Rattle.rotor_base.specs.declared.token.Class.{Class}
 use Rattle.ml_syntax.specs.declared.word.Bracket.{Bracket}
 use Rattle.tree_walk.specs.Behind.{behind}
-use Rattle.tree_walk.proofs.Silent.{type_silent, optional_silent, bang_silent, open_silent, lowers_silent, module_name_silent}
-use Rattle.tree_walk.proofs.Silent.{withs_silent, texts_silent}
+use Rattle.tree_walk.proofs.Silent.{type_silent, optional_silent, bang_silent, open_silent, lowers_silent, module_name_silent, withs_silent}
+use Rattle.tree_walk.proofs.Silent.{texts_silent}
 
 names_goes_on : {S : Type 0} (step : S → Event → S) (x0 : List ValueName) (k : S → S) (z : S) → names_out (behind step) x0 k z ≡ k (names_told
     step z x0)

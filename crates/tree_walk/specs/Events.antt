@@ -282,24 +282,6 @@ module _ {A : Type 0} (◌▹◌ : Event → A → A) where
     fields_out no_field k = k
     fields_out (more_field f fs) k = fixed key.Semicolon ▸ field_out f (fields_out fs k)
 
-  -- ---- groups
-
-  -- the variable of a `for`
-  abbrev pub for_out : Variable → A → A
-  for_out x k = group_begins ▹ variable_out x (group_ends ▹ k)
-
-  -- the bindings of a `let`
-  abbrev pub group_out : Binding → Bindings → A → A
-  group_out b bs k = group_begins ▹ binding_out b (bindings_out bs (group_ends ▹ k))
-
-  -- a pattern whose values are a group
-  abbrev pub pat_group_out : Pat → A → A
-  pat_group_out p k = group_begins ▹ pat_out p (group_ends ▹ k)
-
-  -- a parameter's name that is a field too
-  abbrev pub field_group_out : Name → A → A
-  field_group_out x k = group_begins ▹ field true x ▹ group_ends ▹ k
-
   -- ---- modules
 
   abbrev pub module_name_out : ModuleName → A → A

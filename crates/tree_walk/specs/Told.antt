@@ -9,7 +9,8 @@ use Rattle.ml_syntax.specs.Tree.{Links}
 use Rattle.ml_syntax.specs.Tree.{MaybeExpr, Tail, Binding}
 use Rattle.ml_syntax.specs.Tree.{Bindings, Case, Cases, Argument}
 use Rattle.ml_syntax.specs.Tree.{Arguments, Param}
-use Rattle.ml_syntax.specs.Tree.{Params, Part, Parts}
+use Rattle.ml_syntax.specs.Tree.{Params, Part}
+use Rattle.ml_syntax.specs.Tree.{Parts}
 use Rattle.ml_syntax.specs.Tree.{Field, Fields, ModuleName}
 use Rattle.ml_syntax.specs.Tree.{ModExpr}
 use Rattle.ml_syntax.specs.Tree.{ModArgument, ModArguments}
@@ -18,12 +19,11 @@ use Rattle.ml_syntax.specs.Tree.{MaybeType, Item}
 use Rattle.ml_syntax.specs.Tree.{Items, SigItem}
 use Rattle.ml_syntax.specs.Tree.{SigItems, FileTree}
 use Rattle.tree_walk.specs.Events.{Event}
-use Rattle.tree_walk.specs.Events.{names_out, brings_out, pat_out, pats_out, pat_field_out, pat_fields_out, variable_out, local_out}
-use Rattle.tree_walk.specs.Events.{locals_out, expr_out, links_out, base_out, guard_out, tail_out, binding_out, bindings_out}
-use Rattle.tree_walk.specs.Events.{case_out, cases_out, argument_out, arguments_out, param_out, params_out, part_out, parts_out}
-use Rattle.tree_walk.specs.Events.{field_out, fields_out, mod_out, mod_argument_out, mod_arguments_out, functor_param_out}
-use Rattle.tree_walk.specs.Events.{functor_params_out, mod_type_out}
-use Rattle.tree_walk.specs.Events.{signature_out, item_out, items_out, sig_item_out, sig_items_out, file_out}
+use Rattle.tree_walk.specs.Events.{names_out, brings_out, pat_out, pats_out, pat_field_out, pat_fields_out, variable_out, local_out, locals_out}
+use Rattle.tree_walk.specs.Events.{expr_out, links_out, base_out, guard_out, tail_out, binding_out, bindings_out, case_out, cases_out}
+use Rattle.tree_walk.specs.Events.{argument_out, arguments_out, param_out, params_out, part_out, parts_out, field_out, fields_out, mod_out}
+use Rattle.tree_walk.specs.Events.{mod_argument_out, mod_arguments_out, functor_param_out, functor_params_out, mod_type_out, signature_out}
+use Rattle.tree_walk.specs.Events.{item_out, items_out, sig_item_out, sig_items_out, file_out}
 use Rattle.tree_walk.specs.Behind.{behind}
 
 unfoldable pub names_told : {S : Type 0} → (S → Event → S) → S → List ValueName → S

@@ -1,4 +1,4 @@
-//! What a walk tells, and who hears it.
+//! What a walk reports, and who hears it.
 
 ghost use Rattle.std.specs.Prelude.{◌≡◌, OnOk};
 ghost use Rattle.tree_walk.specs.Events as pure;

@@ -15,7 +15,7 @@ use crate::patterns::{name, pattern};
 use ml_syntax::{Argument, Binding, Case, Expr, Field, Fixed, Param, Part, Pat, Variable, Word};
 use rotor_base::Memory;
 
-/// Tells the events of an expression.
+/// Reports the events of an expression.
 #[cycle(expression_walk)]
 #[tactic(auto, using(ml_syntax::proofs::Variants::expr_views, crate::proofs::Tells::expr_tells))]
 pub fn expression<V: Visitor>(visitor: &mut V, e: &Expr) -> Result<(), Memory>
@@ -190,7 +190,7 @@ pub fn expression<V: Visitor>(visitor: &mut V, e: &Expr) -> Result<(), Memory>
     }
 }
 
-/// Tells the variable of a `for`, which is a group of its own.
+/// Reports the variable of a `for`, which is a group of its own.
 #[tactic(auto, using(crate::proofs::Tells::expr_tells))]
 fn variable<V: Visitor>(visitor: &mut V, variable: &Variable) -> Result<(), Memory>
     ensures { OnOk result (V.state visitor.new ≡ V.step (variable_told V.step (V.step (V.state visitor.old) group_begins) (view_variable variable.now)) group_ends) }
@@ -203,7 +203,7 @@ fn variable<V: Visitor>(visitor: &mut V, variable: &Variable) -> Result<(), Memo
     visitor.hear(Event::GroupEnds)
 }
 
-/// Tells the events of an optional expression.
+/// Reports the events of an optional expression.
 #[cycle(expression_walk)]
 #[tactic(auto, using(ml_syntax::proofs::Variants::expr_views, crate::proofs::Tells::expr_tells))]
 fn optional<V: Visitor>(visitor: &mut V, e: &Option<Box<Expr>>) -> Result<(), Memory>
@@ -216,7 +216,7 @@ fn optional<V: Visitor>(visitor: &mut V, e: &Option<Box<Expr>>) -> Result<(), Me
     }
 }
 
-/// Tells the events of expressions, each behind a `;`.
+/// Reports the events of expressions, each behind a `;`.
 #[cycle(expression_walk)]
 #[tactic(auto, using(ml_syntax::proofs::Variants::expr_views, crate::proofs::Tells::expr_tells))]
 fn steps<V: Visitor>(visitor: &mut V, list: &[Expr]) -> Result<(), Memory>
@@ -229,7 +229,7 @@ fn steps<V: Visitor>(visitor: &mut V, list: &[Expr]) -> Result<(), Memory>
     Ok(())
 }
 
-/// Tells the events of expressions, each behind a `,`.
+/// Reports the events of expressions, each behind a `,`.
 #[cycle(expression_walk)]
 #[tactic(auto, using(ml_syntax::proofs::Variants::expr_views, crate::proofs::Tells::expr_tells))]
 fn components<V: Visitor>(visitor: &mut V, list: &[Expr]) -> Result<(), Memory>
@@ -242,7 +242,7 @@ fn components<V: Visitor>(visitor: &mut V, list: &[Expr]) -> Result<(), Memory>
     Ok(())
 }
 
-/// Tells the events of operators and the operands behind them.
+/// Reports the events of operators and the operands behind them.
 #[cycle(expression_walk)]
 #[tactic(auto, using(ml_syntax::proofs::Variants::expr_views, crate::proofs::Tells::expr_tells))]
 fn operands<V: Visitor>(visitor: &mut V, list: &[(Word, Expr)]) -> Result<(), Memory>
@@ -255,7 +255,7 @@ fn operands<V: Visitor>(visitor: &mut V, list: &[(Word, Expr)]) -> Result<(), Me
     Ok(())
 }
 
-/// Tells the events of the bindings of a `let`, which are a group.
+/// Reports the events of the bindings of a `let`, which are a group.
 #[tactic(auto, using(ml_syntax::proofs::Variants::expr_views, crate::proofs::Tells::expr_tells))]
 pub fn group<V: Visitor>(visitor: &mut V, first: &Binding, rest: &[Binding]) -> Result<(), Memory>
     ensures { OnOk result (V.state visitor.new ≡ V.step (bindings_told V.step (binding_told V.step (V.step (V.state visitor.old) group_begins) (view_binding first.now)) (bindings rest.now)) group_ends) }
@@ -300,7 +300,7 @@ fn more_bindings<V: Visitor>(visitor: &mut V, list: &[Binding]) -> Result<(), Me
     Ok(())
 }
 
-/// Tells the events of a pattern whose values are a group.
+/// Reports the events of a pattern whose values are a group.
 fn pattern_group<V: Visitor>(visitor: &mut V, pat: &Pat) -> Result<(), Memory>
     ensures { OnOk result (V.state visitor.new ≡ V.step (pat_told V.step (V.step (V.state visitor.old) group_begins) (view_pat pat.now)) group_ends) }
 {
@@ -356,7 +356,7 @@ fn all_arguments<V: Visitor>(visitor: &mut V, list: &[Argument]) -> Result<(), M
     Ok(())
 }
 
-/// Tells a parameter's name that is a label or a field too, which is a group of its own.
+/// Reports a parameter's name that is a label or a field too, which is a group of its own.
 fn named_group<V: Visitor>(visitor: &mut V, word: &Word) -> Result<(), Memory>
     ensures { OnOk result (V.state visitor.new ≡ V.step (V.step (V.step (V.state visitor.old) group_begins) (out.field true (view_word word.now))) group_ends) }
 {

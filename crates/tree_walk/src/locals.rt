@@ -12,7 +12,7 @@ use crate::event::{Event, Visitor};
 use ml_syntax::{LocalArgument, LocalModule};
 use rotor_base::Memory;
 
-/// Tells the paths of a module and of its arguments.
+/// Reports the paths of a module and of its arguments.
 #[cycle(local_walk)]
 #[tactic(auto, using(crate::proofs::LocalViews::local_views, crate::proofs::Tells::local_tells))]
 pub fn local<V: Visitor>(visitor: &mut V, m: &LocalModule) -> Result<(), Memory>
@@ -22,7 +22,7 @@ pub fn local<V: Visitor>(visitor: &mut V, m: &LocalModule) -> Result<(), Memory>
     arguments(visitor, &m.arguments)
 }
 
-/// Tells the paths of an argument, before more arguments.
+/// Reports the paths of an argument, before more arguments.
 #[cycle(local_walk)]
 #[tactic(auto, using(crate::proofs::LocalViews::local_views, crate::proofs::Tells::local_tells))]
 fn argument<V: Visitor>(visitor: &mut V, part: &LocalArgument) -> Result<(), Memory>

@@ -15,7 +15,7 @@ use crate::patterns::name;
 use ml_syntax::{FileTree, FunctorParam, Item, ModArgument, ModExpr, ModType, ModuleName, SigItem};
 use rotor_base::Memory;
 
-/// Tells that a module of this name is bound from here on.
+/// Reports that a module of this name is bound from here on.
 #[tactic(auto, using(crate::proofs::Tells::module_tells))]
 fn bring<V: Visitor>(visitor: &mut V, name: &ModuleName) -> Result<(), Memory>
     ensures { OnOk result (V.state visitor.new ≡ brings_told V.step (V.state visitor.old) (view_module_name name.now)) }
@@ -26,7 +26,7 @@ fn bring<V: Visitor>(visitor: &mut V, name: &ModuleName) -> Result<(), Memory>
     }
 }
 
-/// Tells that the module of an item is bound from here on.
+/// Reports that the module of an item is bound from here on.
 #[tactic(auto, using(ml_syntax::proofs::Variants::item_views))]
 fn bring_name<V: Visitor>(visitor: &mut V, item: &Item) -> Result<(), Memory>
     ensures { OnOk result ((at : ℕ) (x : pure.ModuleName) (ps : pure.FunctorParams) (s : pure.MaybeType) (eq : ℕ) (m : pure.ModExpr) → view_item item.now ≡ pure.ModuleItem at x ps s eq m → V.state visitor.new ≡ brings_told V.step (V.state visitor.old) x) }
@@ -45,7 +45,7 @@ fn bring_name<V: Visitor>(visitor: &mut V, item: &Item) -> Result<(), Memory>
     }
 }
 
-/// Tells the events of a module expression.
+/// Reports the events of a module expression.
 #[cycle(module_walk)]
 #[tactic(auto, using(ml_syntax::proofs::Variants::mod_expr_views, crate::proofs::Tells::module_tells))]
 fn module<V: Visitor>(visitor: &mut V, m: &ModExpr) -> Result<(), Memory>
@@ -130,7 +130,7 @@ fn parameter<V: Visitor>(visitor: &mut V, part: &FunctorParam) -> Result<(), Mem
     }
 }
 
-/// Tells that a scope begins, and the events of parameters in it.
+/// Reports that a scope begins, and the events of parameters in it.
 #[cycle(module_walk)]
 #[tactic(auto, using(ml_syntax::proofs::Variants::functor_param_views, crate::proofs::Tells::module_tells))]
 fn scope_with<V: Visitor>(visitor: &mut V, list: &[FunctorParam]) -> Result<(), Memory>
@@ -143,7 +143,7 @@ fn scope_with<V: Visitor>(visitor: &mut V, list: &[FunctorParam]) -> Result<(), 
     Ok(())
 }
 
-/// Tells the events of a module type.
+/// Reports the events of a module type.
 #[cycle(module_walk)]
 #[tactic(auto, using(ml_syntax::proofs::Variants::mod_type_views, crate::proofs::Tells::module_tells))]
 fn module_type<V: Visitor>(visitor: &mut V, s: &ModType) -> Result<(), Memory>
@@ -188,7 +188,7 @@ fn optional<V: Visitor>(visitor: &mut V, s: &Option<Box<ModType>>) -> Result<(),
     }
 }
 
-/// Tells the events of an item of a structure.
+/// Reports the events of an item of a structure.
 #[cycle(module_walk)]
 #[tactic(auto, using(ml_syntax::proofs::Variants::item_views, crate::proofs::Tells::module_tells))]
 fn item<V: Visitor>(visitor: &mut V, part: &Item) -> Result<(), Memory>
@@ -219,7 +219,7 @@ fn item<V: Visitor>(visitor: &mut V, part: &Item) -> Result<(), Memory>
     }
 }
 
-/// Tells the events of the items of a structure.
+/// Reports the events of the items of a structure.
 #[cycle(module_walk)]
 #[tactic(auto, using(ml_syntax::proofs::Variants::item_views, crate::proofs::Tells::module_tells))]
 fn body<V: Visitor>(visitor: &mut V, list: &[Item]) -> Result<(), Memory>
@@ -231,7 +231,7 @@ fn body<V: Visitor>(visitor: &mut V, list: &[Item]) -> Result<(), Memory>
     Ok(())
 }
 
-/// Tells the events of an item of a signature.
+/// Reports the events of an item of a signature.
 #[cycle(module_walk)]
 #[tactic(auto, using(ml_syntax::proofs::Variants::sig_item_views, crate::proofs::Tells::module_tells))]
 fn signature_item<V: Visitor>(visitor: &mut V, part: &SigItem) -> Result<(), Memory>
@@ -268,7 +268,7 @@ fn signature_item<V: Visitor>(visitor: &mut V, part: &SigItem) -> Result<(), Mem
     }
 }
 
-/// Tells the events of the items of a signature.
+/// Reports the events of the items of a signature.
 #[cycle(module_walk)]
 #[tactic(auto, using(ml_syntax::proofs::Variants::sig_item_views, crate::proofs::Tells::module_tells))]
 fn face<V: Visitor>(visitor: &mut V, list: &[SigItem]) -> Result<(), Memory>
@@ -280,7 +280,7 @@ fn face<V: Visitor>(visitor: &mut V, list: &[SigItem]) -> Result<(), Memory>
     Ok(())
 }
 
-/// Tells a visitor the events of a file, in the order of its words.
+/// Reports the events of a file to a visitor, in the order of its words.
 ///
 /// # Errors
 ///

@@ -13,7 +13,7 @@ use crate::event::{Event, Visitor};
 use ml_syntax::{Fixed, Pat, PatField, ValueName};
 use rotor_base::Memory;
 
-/// Tells the name of a value.
+/// Reports the name of a value.
 pub fn name<V: Visitor>(visitor: &mut V, binds: bool, name: &ValueName) -> Result<(), Memory>
     ensures { OnOk result (V.state visitor.new ≡ V.step (V.state visitor.old) (value binds (view_name name.now))) }
 {
@@ -27,7 +27,7 @@ pub fn name<V: Visitor>(visitor: &mut V, binds: bool, name: &ValueName) -> Resul
     }
 }
 
-/// Tells the names after each `as`.
+/// Reports the names after each `as`.
 #[tactic(auto, using(crate::proofs::Tells::pat_tells))]
 fn names<V: Visitor>(visitor: &mut V, list: &[ValueName]) -> Result<(), Memory>
     ensures { OnOk result (V.state visitor.new ≡ names_told V.step (V.state visitor.old) (view_names list.now)) }
@@ -38,7 +38,7 @@ fn names<V: Visitor>(visitor: &mut V, list: &[ValueName]) -> Result<(), Memory>
     Ok(())
 }
 
-/// Tells the events of a pattern.
+/// Reports the events of a pattern.
 #[cycle(pattern_walk)]
 #[tactic(auto, using(ml_syntax::proofs::Variants::pat_views, ml_syntax::proofs::Variants::pat_field_views, crate::proofs::Tells::pat_tells))]
 pub fn pattern<V: Visitor>(visitor: &mut V, pat: &Pat) -> Result<(), Memory>
@@ -95,7 +95,7 @@ pub fn pattern<V: Visitor>(visitor: &mut V, pat: &Pat) -> Result<(), Memory>
     }
 }
 
-/// Tells the events of patterns, each behind the same fixed word.
+/// Reports the events of patterns, each behind the same fixed word.
 #[cycle(pattern_walk)]
 #[tactic(auto, using(ml_syntax::proofs::Variants::pat_views, ml_syntax::proofs::Variants::pat_field_views, crate::proofs::Tells::pat_tells))]
 fn patterns<V: Visitor>(visitor: &mut V, sign: Fixed, list: &[Pat]) -> Result<(), Memory>
@@ -109,7 +109,7 @@ fn patterns<V: Visitor>(visitor: &mut V, sign: Fixed, list: &[Pat]) -> Result<()
     Ok(())
 }
 
-/// Tells the events of a field.
+/// Reports the events of a field.
 #[cycle(pattern_walk)]
 #[tactic(auto, using(ml_syntax::proofs::Variants::pat_views, ml_syntax::proofs::Variants::pat_field_views, crate::proofs::Tells::pat_tells))]
 fn field<V: Visitor>(visitor: &mut V, field: &PatField) -> Result<(), Memory>

@@ -2,95 +2,71 @@
 use Rattle.std.proofs.Common.{◌≡◌, ◌∙◌, ◌∷◌, ◌++◌, ℕ, List, [], Some, ap, length, take}
 use Rattle.ml_syntax.specs.declared.fixed.Fixed.{Fixed}
 use Rattle.ml_syntax.specs.declared.fixed.Fixed.TheVariants as key
-use Rattle.ml_syntax.specs.Tree.{ValueName, Pat, AsPat, OrPat, TuplePat, ConsPat, ConstrApplyPat, TagApplyPat}
-use Rattle.ml_syntax.specs.Tree.{LazyPat}
-use Rattle.ml_syntax.specs.Tree.{ExceptionPat, AnyPat, ValuePat, LiteralPat, NegativePat, RangePat, ConstrPat, TagPat}
-use Rattle.ml_syntax.specs.Tree.{BoolPat, UnitPat, ParenPat}
-use Rattle.ml_syntax.specs.Tree.{TypedPat, EmptyPat, ListPat, RecordPat, OpenedPat, Pats, no_pat, more_pat}
-use Rattle.ml_syntax.specs.Tree.{PatField, PunnedField, MatchedField}
+use Rattle.ml_syntax.specs.Tree.{ValueName, Pat, AsPat, OrPat, TuplePat, ConsPat, ConstrApplyPat, TagApplyPat, LazyPat}
+use Rattle.ml_syntax.specs.Tree.{ExceptionPat, AnyPat, ValuePat, LiteralPat, NegativePat, RangePat, ConstrPat, TagPat, BoolPat, UnitPat}
+use Rattle.ml_syntax.specs.Tree.{ParenPat}
+use Rattle.ml_syntax.specs.Tree.{TypedPat, EmptyPat, ListPat, RecordPat, OpenedPat, Pats, no_pat, more_pat, PatField, PunnedField, MatchedField}
 use Rattle.ml_syntax.specs.Tree.{PatFields, no_pat_field, more_pat_field, Variable, PlainVariable, AnyVariable, LocalModule, LocalPath}
-use Rattle.ml_syntax.specs.Tree.{LocalArguments, no_local, more_local, no_module, Expr, Seq, Let, LetOpen}
-use Rattle.ml_syntax.specs.Tree.{LetModule, Fun, Function, Match, Try, If}
-use Rattle.ml_syntax.specs.Tree.{Chain, Minus, Apply, ConstrApply, TagApply, Assert, Lazy, Postfix}
-use Rattle.ml_syntax.specs.Tree.{Prefixed, Literal, BoolExpr, Value, Constr, Tag}
-use Rattle.ml_syntax.specs.Tree.{UnitExpr, Paren, Typed, Coerced, EmptyBegin, Begin, EmptyList, ListExpr}
-use Rattle.ml_syntax.specs.Tree.{Record, Opened, While, For, Links, no_link}
-use Rattle.ml_syntax.specs.Tree.{more_link, MaybeExpr, no_expr, some_expr, Tail, no_else, or_else, or_if}
-use Rattle.ml_syntax.specs.Tree.{Binding, PlainBinding, AppliedBinding}
-use Rattle.ml_syntax.specs.Tree.{Bindings, no_binding, more_binding, Case, CaseOf, Cases, no_case, more_case}
-use Rattle.ml_syntax.specs.Tree.{Argument, Positional, LabelPun}
-use Rattle.ml_syntax.specs.Tree.{Labelled, Arguments, no_argument, more_argument, Param, PatternParam, LabelParam, LabelPattern}
-use Rattle.ml_syntax.specs.Tree.{DefaultParam}
-use Rattle.ml_syntax.specs.Tree.{WrappedParam, WrappedDefault, TypesParam, Params, no_param, more_param, Part, LabelPart}
-use Rattle.ml_syntax.specs.Tree.{IndexPart, CharPart, Parts}
-use Rattle.ml_syntax.specs.Tree.{no_part, more_part, Field, FieldPun, AssignedField, Fields, no_field, more_field}
-use Rattle.ml_syntax.specs.Tree.{ModuleName, UpperName, AnyName}
+use Rattle.ml_syntax.specs.Tree.{LocalArguments, no_local, more_local, no_module, Expr, Seq, Let, LetOpen, LetModule, Fun, Function, Match, Try}
+use Rattle.ml_syntax.specs.Tree.{If}
+use Rattle.ml_syntax.specs.Tree.{Chain, Minus, Apply, ConstrApply, TagApply, Assert, Lazy, Postfix, Prefixed, Literal, BoolExpr, Value, Constr}
+use Rattle.ml_syntax.specs.Tree.{Tag}
+use Rattle.ml_syntax.specs.Tree.{UnitExpr, Paren, Typed, Coerced, EmptyBegin, Begin, EmptyList, ListExpr, Record, Opened, While, For}
+use Rattle.ml_syntax.specs.Tree.{Links, no_link}
+use Rattle.ml_syntax.specs.Tree.{more_link, MaybeExpr, no_expr, some_expr, Tail, no_else, or_else, or_if, Binding, PlainBinding, AppliedBinding}
+use Rattle.ml_syntax.specs.Tree.{Bindings, no_binding, more_binding, Case, CaseOf, Cases, no_case, more_case, Argument, Positional, LabelPun}
+use Rattle.ml_syntax.specs.Tree.{Labelled, Arguments, no_argument, more_argument, Param, PatternParam, LabelParam, LabelPattern, DefaultParam}
+use Rattle.ml_syntax.specs.Tree.{WrappedParam, WrappedDefault, TypesParam, Params, no_param, more_param, Part, LabelPart, IndexPart}
+use Rattle.ml_syntax.specs.Tree.{CharPart, Parts}
+use Rattle.ml_syntax.specs.Tree.{no_part, more_part, Field, FieldPun, AssignedField, Fields, no_field, more_field, ModuleName, UpperName}
+use Rattle.ml_syntax.specs.Tree.{AnyName}
 use Rattle.ml_syntax.specs.Tree.{ModExpr, ModPath, Struct, Functor, ModApply, ModParen, Sealed}
 use Rattle.ml_syntax.specs.Tree.{ModArgument, ModuleArgument, SealedArgument, NoArgument, ModArguments, no_mod_argument, more_mod_argument}
-use Rattle.ml_syntax.specs.Tree.{FunctorParam, NamedParam, NoParam, FunctorParams, no_functor_param, more_functor_param, ModType, TypePath}
-use Rattle.ml_syntax.specs.Tree.{Sig}
-use Rattle.ml_syntax.specs.Tree.{TypeOf, TypeParen, With, FunctorType, ParamArrow, Arrow, MaybeType, no_type}
-use Rattle.ml_syntax.specs.Tree.{some_type, Item, ExprItem}
+use Rattle.ml_syntax.specs.Tree.{FunctorParam, NamedParam, NoParam, FunctorParams, no_functor_param, more_functor_param, ModType, TypePath, Sig}
+use Rattle.ml_syntax.specs.Tree.{TypeOf, TypeParen, With, FunctorType, ParamArrow, Arrow, MaybeType, no_type, some_type, Item, ExprItem}
 use Rattle.ml_syntax.specs.Tree.{SeparatorItem, ValueItem, ExternalItem, TypeItem, ExceptionItem, ModuleItem, ModuleTypeItem, OpenItem}
 use Rattle.ml_syntax.specs.Tree.{IncludeItem}
-use Rattle.ml_syntax.specs.Tree.{Items, no_item, more_item, SigItem, SeparatorSig, ValSig, ExternalSig, TypeSig}
-use Rattle.ml_syntax.specs.Tree.{ExceptionSig, ModuleSig, AliasSig}
-use Rattle.ml_syntax.specs.Tree.{ModuleTypeSig, OpenSig, IncludeSig, SigItems, no_sig_item, more_sig_item, FileTree, Body}
-use Rattle.ml_syntax.specs.Tree.{Face}
+use Rattle.ml_syntax.specs.Tree.{Items, no_item, more_item, SigItem, SeparatorSig, ValSig, ExternalSig, TypeSig, ExceptionSig, ModuleSig}
+use Rattle.ml_syntax.specs.Tree.{AliasSig}
+use Rattle.ml_syntax.specs.Tree.{ModuleTypeSig, OpenSig, IncludeSig, SigItems, no_sig_item, more_sig_item, FileTree, Body, Face}
 use Rattle.tree_walk.specs.Events.{group_ends, part_ends, scope_begins, scope_ends, brings}
 use Rattle.tree_walk.specs.Told.{names_told, brings_told, pat_told, pats_told, pat_field_told, pat_fields_told, variable_told, local_told}
-use Rattle.tree_walk.specs.Told.{locals_told, expr_told, links_told, base_told, guard_told, tail_told, binding_told, bindings_told}
-use Rattle.tree_walk.specs.Told.{case_told, cases_told, argument_told, arguments_told, param_told, params_told, part_told, parts_told}
-use Rattle.tree_walk.specs.Told.{field_told, fields_told, mod_told, mod_argument_told, mod_arguments_told, functor_param_told}
-use Rattle.tree_walk.specs.Told.{functor_params_told, mod_type_told}
-use Rattle.tree_walk.specs.Told.{signature_told, item_told, items_told, sig_item_told, sig_items_told, file_told}
+use Rattle.tree_walk.specs.Told.{locals_told, expr_told, links_told, base_told, guard_told, tail_told, binding_told, bindings_told, case_told}
+use Rattle.tree_walk.specs.Told.{cases_told, argument_told, arguments_told, param_told, params_told, part_told, parts_told, field_told}
+use Rattle.tree_walk.specs.Told.{fields_told, mod_told, mod_argument_told, mod_arguments_told, functor_param_told, functor_params_told}
+use Rattle.tree_walk.specs.Told.{mod_type_told, signature_told, item_told, items_told, sig_item_told, sig_items_told, file_told}
 use Rattle.tree_walk.proofs.Tells.{told_AliasSig, told_AnyName, told_AnyPat, told_AnyVariable, told_AppliedBinding, told_Apply, told_Arrow}
-use Rattle.tree_walk.proofs.Tells.{told_AsPat}
-use Rattle.tree_walk.proofs.Tells.{told_Assert, told_AssignedField, told_Begin, told_Body, told_BoolExpr, told_BoolPat, told_CaseOf, told_Chain}
-use Rattle.tree_walk.proofs.Tells.{told_CharPart, told_Coerced, told_ConsPat, told_Constr, told_ConstrApply, told_ConstrApplyPat}
-use Rattle.tree_walk.proofs.Tells.{told_ConstrPat, told_DefaultParam}
-use Rattle.tree_walk.proofs.Tells.{told_EmptyBegin, told_EmptyList, told_EmptyPat, told_ExceptionItem, told_ExceptionPat}
-use Rattle.tree_walk.proofs.Tells.{told_ExceptionSig, told_ExprItem, told_ExternalItem}
-use Rattle.tree_walk.proofs.Tells.{told_ExternalSig, told_Face, told_FieldPun, told_For, told_Fun, told_Function, told_Functor, told_FunctorType}
-use Rattle.tree_walk.proofs.Tells.{told_If, told_IncludeItem, told_IncludeSig, told_IndexPart, told_LabelParam, told_LabelPart}
-use Rattle.tree_walk.proofs.Tells.{told_LabelPattern, told_LabelPun}
+use Rattle.tree_walk.proofs.Tells.{told_AsPat, told_Assert, told_AssignedField, told_Begin, told_Body, told_BoolExpr, told_BoolPat, told_CaseOf}
+use Rattle.tree_walk.proofs.Tells.{told_Chain, told_CharPart, told_Coerced, told_ConsPat, told_Constr, told_ConstrApply, told_ConstrApplyPat}
+use Rattle.tree_walk.proofs.Tells.{told_ConstrPat, told_DefaultParam, told_EmptyBegin, told_EmptyList, told_EmptyPat, told_ExceptionItem}
+use Rattle.tree_walk.proofs.Tells.{told_ExceptionPat, told_ExceptionSig, told_ExprItem, told_ExternalItem, told_ExternalSig, told_Face}
+use Rattle.tree_walk.proofs.Tells.{told_FieldPun, told_For, told_Fun, told_Function, told_Functor, told_FunctorType, told_If, told_IncludeItem}
+use Rattle.tree_walk.proofs.Tells.{told_IncludeSig, told_IndexPart, told_LabelParam, told_LabelPart, told_LabelPattern, told_LabelPun}
 use Rattle.tree_walk.proofs.Tells.{told_Labelled, told_Lazy, told_LazyPat, told_Let, told_LetModule, told_LetOpen, told_ListExpr, told_ListPat}
 use Rattle.tree_walk.proofs.Tells.{told_Literal, told_LiteralPat, told_LocalPath, told_Match, told_MatchedField, told_Minus, told_ModApply}
-use Rattle.tree_walk.proofs.Tells.{told_ModParen}
-use Rattle.tree_walk.proofs.Tells.{told_ModPath, told_ModuleArgument, told_ModuleItem, told_ModuleSig, told_ModuleTypeItem}
-use Rattle.tree_walk.proofs.Tells.{told_ModuleTypeSig, told_NamedParam, told_NegativePat}
-use Rattle.tree_walk.proofs.Tells.{told_NoArgument, told_NoParam, told_OpenItem, told_OpenSig, told_Opened, told_OpenedPat, told_OrPat}
-use Rattle.tree_walk.proofs.Tells.{told_ParamArrow}
-use Rattle.tree_walk.proofs.Tells.{told_Paren, told_ParenPat, told_PatternParam, told_PlainBinding, told_PlainVariable, told_Positional}
-use Rattle.tree_walk.proofs.Tells.{told_Postfix, told_Prefixed}
+use Rattle.tree_walk.proofs.Tells.{told_ModParen, told_ModPath, told_ModuleArgument, told_ModuleItem, told_ModuleSig, told_ModuleTypeItem}
+use Rattle.tree_walk.proofs.Tells.{told_ModuleTypeSig, told_NamedParam, told_NegativePat, told_NoArgument, told_NoParam, told_OpenItem}
+use Rattle.tree_walk.proofs.Tells.{told_OpenSig, told_Opened, told_OpenedPat, told_OrPat, told_ParamArrow, told_Paren, told_ParenPat}
+use Rattle.tree_walk.proofs.Tells.{told_PatternParam, told_PlainBinding, told_PlainVariable, told_Positional, told_Postfix, told_Prefixed}
 use Rattle.tree_walk.proofs.Tells.{told_PunnedField, told_RangePat, told_Record, told_RecordPat, told_Sealed, told_SealedArgument}
-use Rattle.tree_walk.proofs.Tells.{told_SeparatorItem, told_SeparatorSig}
-use Rattle.tree_walk.proofs.Tells.{told_Seq, told_Sig, told_Struct, told_Tag, told_TagApply, told_TagApplyPat, told_TagPat, told_Try}
-use Rattle.tree_walk.proofs.Tells.{told_TuplePat, told_TypeItem, told_TypeOf, told_TypeParen, told_TypePath, told_TypeSig, told_Typed}
-use Rattle.tree_walk.proofs.Tells.{told_TypedPat}
-use Rattle.tree_walk.proofs.Tells.{told_TypesParam, told_UnitExpr, told_UnitPat, told_UpperName, told_ValSig, told_Value, told_ValueItem}
-use Rattle.tree_walk.proofs.Tells.{told_ValuePat}
-use Rattle.tree_walk.proofs.Tells.{told_While, told_With, told_WrappedDefault, told_WrappedParam, told_base_no_expr, told_base_some_expr}
-use Rattle.tree_walk.proofs.Tells.{told_guard_no_expr, told_guard_some_expr}
-use Rattle.tree_walk.proofs.Tells.{told_more_argument, told_more_binding, told_more_case, told_more_field, told_more_functor_param}
-use Rattle.tree_walk.proofs.Tells.{told_more_item, told_more_link, told_more_local}
-use Rattle.tree_walk.proofs.Tells.{told_more_mod_argument, told_more_param, told_more_part, told_more_pat, told_more_pat_field}
-use Rattle.tree_walk.proofs.Tells.{told_more_sig_item, told_names_end, told_names_more}
-use Rattle.tree_walk.proofs.Tells.{told_no_argument, told_no_binding, told_no_case, told_no_else, told_no_field, told_no_functor_param}
-use Rattle.tree_walk.proofs.Tells.{told_no_item, told_no_link}
-use Rattle.tree_walk.proofs.Tells.{told_no_local, told_no_mod_argument, told_no_module, told_no_param, told_no_part, told_no_pat}
-use Rattle.tree_walk.proofs.Tells.{told_no_pat_field, told_no_sig_item}
-use Rattle.tree_walk.proofs.Tells.{told_no_type, told_or_else, told_or_if, told_some_type}
-use Rattle.unit_order.specs.Heads.{argument_heads, arguments_heads, binding_heads, bindings_heads, bound_by_item, bound_by_name}
-use Rattle.unit_order.specs.Heads.{bound_by_param, bound_by_params}
-use Rattle.unit_order.specs.Heads.{bound_by_sig_item, case_heads, cases_heads, expr_heads, field_heads, fields_heads, file_heads}
-use Rattle.unit_order.specs.Heads.{functor_param_heads}
-use Rattle.unit_order.specs.Heads.{functor_params_heads, item_heads, items_heads, links_heads, local_heads, locals_heads, maybe_heads}
-use Rattle.unit_order.specs.Heads.{mod_argument_heads}
-use Rattle.unit_order.specs.Heads.{mod_arguments_heads, mod_heads, mod_type_heads, module_head, param_heads, params_heads, part_heads, parts_heads}
-use Rattle.unit_order.specs.Heads.{pat_field_heads, pat_fields_heads, pat_heads, pats_heads, prefix_head, sig_item_heads, sig_items_heads}
-use Rattle.unit_order.specs.Heads.{signature_heads}
-use Rattle.unit_order.specs.Heads.{tail_heads}
+use Rattle.tree_walk.proofs.Tells.{told_SeparatorItem, told_SeparatorSig, told_Seq, told_Sig, told_Struct, told_Tag, told_TagApply}
+use Rattle.tree_walk.proofs.Tells.{told_TagApplyPat, told_TagPat, told_Try, told_TuplePat, told_TypeItem, told_TypeOf, told_TypeParen}
+use Rattle.tree_walk.proofs.Tells.{told_TypePath, told_TypeSig, told_Typed, told_TypedPat, told_TypesParam, told_UnitExpr, told_UnitPat}
+use Rattle.tree_walk.proofs.Tells.{told_UpperName, told_ValSig, told_Value, told_ValueItem, told_ValuePat, told_While, told_With}
+use Rattle.tree_walk.proofs.Tells.{told_WrappedDefault, told_WrappedParam, told_base_no_expr, told_base_some_expr, told_guard_no_expr}
+use Rattle.tree_walk.proofs.Tells.{told_guard_some_expr, told_more_argument, told_more_binding, told_more_case, told_more_field}
+use Rattle.tree_walk.proofs.Tells.{told_more_functor_param, told_more_item, told_more_link, told_more_local, told_more_mod_argument}
+use Rattle.tree_walk.proofs.Tells.{told_more_param, told_more_part, told_more_pat, told_more_pat_field, told_more_sig_item, told_names_end}
+use Rattle.tree_walk.proofs.Tells.{told_names_more, told_no_argument, told_no_binding, told_no_case, told_no_else, told_no_field}
+use Rattle.tree_walk.proofs.Tells.{told_no_functor_param, told_no_item, told_no_link, told_no_local, told_no_mod_argument, told_no_module}
+use Rattle.tree_walk.proofs.Tells.{told_no_param, told_no_part, told_no_pat, told_no_pat_field, told_no_sig_item, told_no_type, told_or_else}
+use Rattle.tree_walk.proofs.Tells.{told_or_if, told_some_type}
+use Rattle.unit_order.specs.Heads.{argument_heads, arguments_heads, binding_heads, bindings_heads, bound_by_item, bound_by_name, bound_by_param}
+use Rattle.unit_order.specs.Heads.{bound_by_params, bound_by_sig_item, case_heads, cases_heads, expr_heads, field_heads, fields_heads}
+use Rattle.unit_order.specs.Heads.{file_heads, functor_param_heads, functor_params_heads, item_heads, items_heads, links_heads, local_heads}
+use Rattle.unit_order.specs.Heads.{locals_heads, maybe_heads, mod_argument_heads, mod_arguments_heads, mod_heads, mod_type_heads, module_head}
+use Rattle.unit_order.specs.Heads.{param_heads, params_heads, part_heads, parts_heads, pat_field_heads, pat_fields_heads, pat_heads, pats_heads}
+use Rattle.unit_order.specs.Heads.{prefix_head, sig_item_heads, sig_items_heads, signature_heads, tail_heads}
 use Rattle.unit_order.specs.Hearing.{needed, hears}
 use Rattle.unit_order.proofs.Fronts.{all, in_front, behind_name, behind_param, behind_params, behind_item, behind_sig_item}
 
