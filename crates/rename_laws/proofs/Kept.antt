@@ -24,7 +24,7 @@ use Rattle.binding_model.specs.Renaming.{renaming}
 use Rattle.binding_model.specs.Renaming.{name_of, respell, IsValid, in_file}
 use Rattle.binding_model.proofs.Clashing.{groups_tell_clash, accepted_is_valid}
 use Rattle.binding_model.proofs.Telltale.{looks_tell_facts}
-use Rattle.binding_model.proofs.TreesBack.{undone_is_the_project}
+use Rattle.rename_laws.proofs.TreesBack.{undone_is_the_project}
 use Rattle.binding_model.proofs.Undoing.{accepted_goes_back}
 use Rattle.capture_check.specs.declared.fault.Fault.{Fault}
 use Rattle.capture_check.specs.declared.fault.Fault.TheVariants as fault

@@ -4,6 +4,7 @@ pub mod Free
 pub mod Kept
 pub mod Accepted
 pub mod Placed
+pub mod TreesBack
 pub mod Undone
 pub mod Ordered
 pub mod GoOn

@@ -1,5 +1,6 @@
 //! The laws of accepted renamings, each as the contract of a function.
 
+ghost use Rattle.binding_model.specs.Back.{UndoneIsTheProject};
 ghost use Rattle.rename_laws.specs.Laws.{ChangesAreListed, FootprintsAreLeast, KeptRunsGoOn, OperatorNamesAreNoValueNames, OperatorsAreNamed};
 ghost use Rattle.rename_laws.specs.Laws.{OperatorsAreOfTheTarget, RenamingsAreUndone, RenamingsAreValid, RenamingsKeepFacts, RenamingsKeepRuns};
 ghost use Rattle.rename_laws.specs.Laws.{RenamingsRewrite, ShownAreLeast, ShownOutsideIsKept, UndosHavePlaces};
@@ -49,6 +50,12 @@ pub fn shown_footprints_are_least()
 /// A renaming that is accepted is undone by the renaming of its target back, which gives the old files.
 pub fn renamings_are_undone()
     ensures { RenamingsAreUndone }
+{}
+
+/// An accepted renaming of trees that is followed by the renaming back gives the old trees.
+#[tactic(auto, using(crate::proofs::TreesBack::undone_is_the_project))]
+pub fn trees_go_back()
+    ensures { UndoneIsTheProject }
 {}
 
 /// The undo of an accepted renaming has a source's name and a token's number, and the old name is a value name.

@@ -7,5 +7,5 @@ mod laws;
 pub use laws::{
     changes_are_listed, footprints_are_least, kept_runs_go_on, operators_are_named,
     renamings_are_undone, renamings_are_valid, renamings_keep_facts, renamings_keep_runs,
-    renamings_rewrite, shown_footprints_are_least, undos_have_places,
+    renamings_rewrite, shown_footprints_are_least, trees_go_back, undos_have_places,
 };
