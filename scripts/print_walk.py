@@ -1,8 +1,8 @@
 #!/usr/bin/env python3
 """Prints the proofs that go over the trees form by form, from the clauses of crates/tree_walk/specs/Events.antt.
 
-It writes crates/tree_walk/specs/Told.antt, crates/tree_walk/proofs/Tells.antt and crates/unit_order/proofs/Needing.antt.
-Run it after a change of Events.antt, and then `rt fmt` in both crates.
+It writes crates/tree_walk/specs/Told.antt, crates/tree_walk/proofs/Tells.antt, crates/unit_order/proofs/Needing.antt
+and crates/group_walk/proofs/Grouped.antt. Run it after a change of Events.antt, and then `rt fmt` in these crates.
 """
 import os
 import re
@@ -17,7 +17,7 @@ INLINE = ["external", "open_item"]
 MOST_COLUMNS = 145
 EVENT_NAMES = (
     "Event said run_of value field label operator minus module_path last_path qualifier group_begins group_ends"
-    " part_begins part_ends scope_begins scope_ends brings"
+    " bindings_begin part_begins part_ends alternatives_end scope_begins scope_ends brings"
 ).split()
 
 
@@ -431,7 +431,251 @@ def print_needs():
     write("crates/unit_order/proofs/Needing.antt", head, uses, body)
 
 
+# what a tree declares in the group around it, and the groups inside it
+DECLARES = {
+    "names": "names",
+    "pat": "variables",
+    "pats": "pats_variables",
+    "pat_field": "field_variables",
+    "pat_fields": "fields_variables",
+    "variable": "for_variables",
+    "binding": "binding_variables",
+    "bindings": "bindings_variables",
+}
+PATTERN_STEPS = {"pat": "pat_steps", "pats": "pats_steps", "pat_field": "field_pat_steps", "pat_fields": "fields_pat_steps"}
+NO_GROUPS = ["names", "brings", "variable", "local", "locals"]
+GROUPS_OF = {"functor_params": "functor", "mod_type": "type", "signature": "maybe_type", "base": "optional", "guard": "optional"}
+# trees that no group is around
+OUTSIDE = (
+    "mod mod_argument mod_arguments functor_param functor_params mod_type signature item items sig_item sig_items"
+).split()
+JOINED = ["none_joined", None, "two_joined", "three_joined", "four_joined"]
+PLACES = "List Place"
+LISTS = "List (List Place)"
+
+
+def groups_in(function, args):
+    """The groups inside a tree, or nothing."""
+    k = kind(function)
+    of = " ".join(args[1:] if k == "pats" else args)
+    if k in NO_GROUPS:
+        return None
+    if k in PATTERN_STEPS:
+        return f"(groups_of ({PATTERN_STEPS[k]} file {of}))"
+    return f"({GROUPS_OF.get(k, k)}_groups file {of})"
+
+
+def declared_by(function, args):
+    return f"({DECLARES[kind(function)]} {args[-1]})"
+
+
+def with_places(places, values):
+    for xs in values:
+        places = f"({places} ++ decls (bound file {xs}))"
+    return places
+
+
+def stack(frames, base):
+    for start, values, position in frames:
+        base = f"begun {with_places(start, values)} [] {position} ∷ {base}"
+    return f"({base})" if frames else base
+
+
+def listed_as(lists):
+    found = "found"
+    for x in lists:
+        found = f"({found} ++ map decls {x})"
+    return found
+
+
+SITES = {"value": "(name_sites [] true {0})", "field": "(punned true {0}.at {0}.text ∷ [])", "label": "(label_site true {0} ∷ [])"}
+
+
+def groups(function, pattern, parts):
+    """The equations from what the steps make of a state to the groups that are listed then."""
+    k = kind(function)
+    base, frames, lists, out = "[]" if k in OUTSIDE else "around", [], [], []
+    if k in DECLARES:
+        frames.append(["places", [], "position"])
+    for i, x in enumerate(parts):
+        rest = parts[i + 1 :]
+        if x[0] == "ev":
+            event = atoms(x[1])
+            head, given = event[0], [show(y) for y in event[1:]]
+            if head in SITES and given[0] == "true" and frames:
+                frames[-1][1].append(SITES[head].format(given[1]))
+            elif head == "group_begins":
+                frames.append(["[]", [], "None"])
+            elif head == "group_ends":
+                values = frames.pop()[1]
+                assert len(values) == 1, (function, pattern)
+                lists.append(f"(bound file {values[0]} ∷ [])")
+            else:
+                assert k == "pats" or not head.startswith(("bindings", "part_", "alternatives")), (function, pattern)
+            continue
+        f, args = x[1], x[2]
+        if kind(f) in SILENT:
+            continue
+        found = listed_as(lists)
+        if kind(f) in DECLARES:
+            start, values, position = frames[-1]
+            around = stack(frames[:-1], base)
+            plain = " (λ s. refl) (λ s. refl)" if kind(f) == "pats" and args[0] != "sep" else " h h'" if kind(f) == "pats" else ""
+            law = f"{kind(f)}_grouped {' '.join(args)}{plain} file {found} {with_places(start, values)} {position} {around}"
+            frames[-1][1].append(declared_by(f, args))
+        elif kind(f) in OUTSIDE:
+            assert base == "[]" and not frames, (function, pattern)
+            law = f"{kind(f)}_grouped {' '.join(args)} file {found}"
+        else:
+            law = f"{kind(f)}_grouped {' '.join(args)} file {found} {stack(frames, base)}"
+        if groups_in(f, args):
+            lists.append(groups_in(f, args))
+        left = told_of(rest, "w", "hears")
+        out.append(law if left == "w" else f"ap (λ w. {bare(left)}) ({law})")
+    target = groups_in(function, [pattern] if len(TYPES[function]) == 1 else pattern_args(function, pattern))
+    if target and len(lists) != 1:
+        law = f"{JOINED[len(lists)]} found {' '.join(lists)}".strip()
+        out.append(f"ap (λ z. grouping file z {stack(frames, base)}) ({law})")
+    if frames:
+        start, values, position = frames[-1]
+        if len(values) != 1:
+            law = f"{['none_declared', None, 'two_declared'][len(values)]} file places {' '.join(values)}".strip()
+            found = f"(found ++ map decls {target})" if target else "found"
+            out.append(f"ap (λ z. grouping file {found} (begun z [] position ∷ {base})) ({law})")
+    return out
+
+
+def pattern_args(function, pattern):
+    return [show(x) for x in atoms(pattern)]
+
+
+LISTING = """-- the groups of the parts of an or-pattern after the first
+abbrev parts_of : ℕ → Pats → List Entries
+parts_of file no_pat = []
+parts_of file (more_pat p ps) = bound file (variables p) ∷ parts_of file ps
+
+ties_listed : (file : ℕ) (before : List Site) (ps : Pats) → groups_of (ties file before ps) ≡ parts_of file ps
+ties_listed file before no_pat = refl
+ties_listed file before (more_pat p ps) = ap (λ l. bound file (variables p) ∷ l) (ties_listed file (variables p) ps)
+
+"""
+OR_PATTERNS = """  alternatives_grouped : (ps : Pats) (file : ℕ) (g : List (List Place)) (b : List Place) (l : List (List Place)) (n : Option ℕ) (o : List Begun)
+      → pats_told hears (grouping file g (begun b l n ∷ o)) key.Bar ps
+      ≡ grouping file (g ++ map decls (groups_of (pats_steps file ps))) (begun b (l ++ map decls (parts_of file ps)) n ∷ o)
+  alternatives_grouped no_pat file g b l n o = told_no_pat hears (grouping file g (begun b l n ∷ o)) key.Bar
+      ∙ ap (λ z. grouping file z (begun b l n ∷ o)) (none_joined g)
+      ∙ ap (λ z. grouping file (g ++ map decls []) (begun b z n ∷ o)) (none_joined l)
+  alternatives_grouped (more_pat p ps) file g b l n o = told_more_pat hears (grouping file g (begun b l n ∷ o)) key.Bar p ps
+      ∙ ap (λ w. pats_told hears (hears w (part_ends key.Bar)) key.Bar ps) (pat_grouped p file g [] None (begun b l n ∷ o))
+      ∙ alternatives_grouped ps file (g ++ map decls (groups_of (pat_steps file p))) b (l ++ decls (bound file (variables p)) ∷ []) n o
+      ∙ ap (λ z. grouping file z (begun b ((l ++ decls (bound file (variables p)) ∷ []) ++ map decls (parts_of file ps)) n ∷ o))
+      (two_joined g (groups_of (pat_steps file p)) (groups_of (pats_steps file ps)))
+      ∙ ap (λ z. grouping file (g ++ map decls (groups_of (pat_steps file p) ++ groups_of (pats_steps file ps))) (begun b z n ∷ o))
+      (two_joined l (bound file (variables p) ∷ []) (parts_of file ps))
+
+"""
+OR_PATTERN = """  pat_grouped (OrPat p ps) file g b n o = told_OrPat hears (grouping file g (begun b [] n ∷ o)) p ps
+      ∙ ap (λ w. hears (pats_told hears w key.Bar ps) alternatives_end) (pat_grouped p file g b n o)
+      ∙ ap (λ w. hears w alternatives_end) (alternatives_grouped ps file (g ++ map decls (groups_of (pat_steps file p)))
+      (b ++ decls (bound file (variables p))) [] n o)
+      ∙ ap (λ z. grouping file z (begun (b ++ decls (bound file (variables p))) [] n ∷ o))
+      (three_joined g (groups_of (pat_steps file p)) (groups_of (pats_steps file ps)) (parts_of file ps)
+      ∙ ap (λ l. g ++ map decls (groups_of (pat_steps file p) ++ (groups_of (pats_steps file ps) ++ l))) (sym (ties_listed file (variables p) ps)))
+"""
+BINDINGS = """ hears (grouping file g {o}) at rec b bs{e}
+      ∙ ap (λ w. {before}hears (bindings_told hears w bs) group_ends{after}) (binding_grouped b file (g ++ [] ∷ []) [] (Some (length g)) {o})
+      ∙ ap (λ w. {before}hears w group_ends{after}) (bindings_grouped bs file ((g ++ [] ∷ []) ++ map decls (binding_groups file b))
+      (decls (bound file (binding_variables b))) (Some (length g)) {o})
+      ∙ ap (λ w. {before}grouping file w {o}{after}) (let_listed file g b bs)
+"""
+LET = """  expr_grouped (Let at rec b bs e) file g o = told_Let""" + BINDINGS.format(
+    o="o", e=" e", before="expr_told hears (", after=") e"
+) + """      ∙ expr_grouped e file (g ++ map decls (let_bound file b bs ∷ (binding_groups file b ++ bindings_groups file bs))) o
+      ∙ ap (λ z. grouping file z o) (two_joined g (let_bound file b bs ∷ (binding_groups file b ++ bindings_groups file bs)) (expr_groups file e)
+      ∙ ap (λ l. g ++ map decls (let_bound file b bs ∷ l)) (append_assoc (binding_groups file b) (bindings_groups file bs) (expr_groups file e)))
+"""
+VALUE_ITEM = "  item_grouped (ValueItem at rec b bs) file g = told_ValueItem" + BINDINGS.format(o="[]", e="", before="", after="")
+BY_HAND = {"OrPat": OR_PATTERN, "Let": LET, "ValueItem": VALUE_ITEM}
+FILES_GROUPED = """-- the groups of a file, behind those that were found before
+pub file_grouped : (t : FileTree) (g : List (List Place))
+    → (file_told hears (grouping (file_number t) g []) t).found ≡ g ++ map decls (file_groups t)
+file_grouped (Body file is) g = ap (λ w. w.found) (told_Body hears (grouping file g []) file is ∙ items_grouped is file g)
+file_grouped (Face file is) g = ap (λ w. w.found) (told_Face hears (grouping file g []) file is ∙ sig_items_grouped is file g)
+"""
+
+
+def print_groups():
+    body, rules = LISTING, {"told_Body", "told_Face"}
+    functions = [f for f in KINDS if kind(f) != "file"]
+    for block in BLOCKS:
+        here = [f for f in block if f in functions]
+        if not here:
+            continue
+        indent = "  " if len(here) > 1 else ""
+        if indent:
+            body += "mutual\n"
+        for f in here:
+            k, (names, typed) = kind(f), arguments(f)
+            xs, target = " ".join(names), groups_in(f, names)
+            found = f"(found ++ map decls {target})" if target else "found"
+            plain = " (h : (s : Grouping) → hears s (part_begins x0) ≡ s) (h' : (s : Grouping) → hears s (part_ends x0) ≡ s)" if k == "pats" else ""
+            if k in DECLARES:
+                given, state = f" (places : {PLACES}) (position : Option ℕ) (around : List Begun)", "grouping file found (begun places [] position ∷ around)"
+                left = f"grouping file {found} (begun (places ++ decls (bound file {declared_by(f, names)})) [] position ∷ around)"
+                last = " places position around"
+            elif k in OUTSIDE:
+                given, state, left, last = "", "grouping file found []", f"grouping file {found} []", ""
+            else:
+                given, state, left, last = " (around : List Begun)", "grouping file found around", f"grouping file {found} around", " around"
+            body += f"{indent}{k}_grouped : {typed}{plain} (file : ℕ) (found : {LISTS}){given}\n"
+            body += f"{indent}    → {told(f)} hears ({state}) {xs} ≡ {left}\n"
+            for f2, pattern, parts in FLAT:
+                if f2 != f:
+                    continue
+                rules.add(rule(f, pattern))
+                if constructor(f, pattern) in BY_HAND:
+                    body += BY_HAND[constructor(f, pattern)]
+                    continue
+                first = f"{rule(f, pattern)} hears ({state})" + "".join(f" {v}" for v, _ in variables(f, pattern))
+                body += f"{indent}{k}_grouped {pattern}{' h h' + chr(39) if k == 'pats' else ''} file found{last} = "
+                chain = groups(f, pattern, parts)
+                if k == "pats" and "more_pat" in pattern:
+                    chain = [
+                        "ap (λ w. pats_told hears (hears (pat_told hears w p) (part_ends sep)) sep ps) (h (grouping file found (begun places [] position ∷ around)))",
+                        chain[0],
+                        "ap (λ w. pats_told hears w sep ps) (h' (grouping file (found ++ map decls (groups_of (pat_steps file p)))"
+                        " (begun (places ++ decls (bound file (variables p))) [] position ∷ around)))",
+                        *chain[1:],
+                    ]
+                body += f"\n{indent}    ∙ ".join([first, *chain]) + "\n"
+            body += "\n"
+            if k == "pats":
+                body += OR_PATTERNS
+    body += FILES_GROUPED
+    words = words_of(body)
+    uses = [std_names(body, "Rattle.std.proofs.Common", ["length", "map", "append_assoc"]), *uses_of(body)]
+    uses.append("use Rattle.rotor_base.specs.declared.place.Place.{Place}")
+    uses += use("Rattle.ml_syntax.specs.Places", [x for x in ["Site", "punned", "name_sites", "label_site"] if x in words])
+    uses.append("use Rattle.shape_core.specs.Shape.{Entries}")
+    uses.append("use Rattle.binding_model.specs.Facts.{decls}")
+    uses.append("use Rattle.binding_model.specs.Scopes.{bound, let_bound}")
+    uses.append("use Rattle.binding_model.specs.Steps.{groups_of}")
+    uses += use("Rattle.binding_model.specs.Variables", sorted(set(DECLARES.values())))
+    uses.append("use Rattle.binding_model.specs.Walk.{ties, pat_steps, pats_steps, field_pat_steps, fields_pat_steps, file_number}")
+    uses += use("Rattle.tree_walk.specs.Told", [told(f) for f in KINDS if told(f) in words])
+    uses += use("Rattle.tree_walk.proofs.Tells", sorted(rules))
+    named = {groups_in(f, ["x"])[1:].split()[0] for f in functions if groups_in(f, ["x"]) and kind(f) not in PATTERN_STEPS} | {"file_groups"}
+    uses += use("Rattle.group_walk.specs.Groups", sorted(named))
+    uses.append("use Rattle.group_walk.specs.declared.groups.Begun.{Begun}")
+    uses.append("use Rattle.group_walk.specs.Grouping.{Grouping, begun, grouping, hears}")
+    laws = ["none_joined", "two_joined", "three_joined", "four_joined", "none_declared", "two_declared", "let_listed"]
+    uses += use("Rattle.group_walk.proofs.Listed", [x for x in laws if x in words])
+    head = "The groups of trees are those that their events make. Printed by scripts/print_walk.py."
+    write("crates/group_walk/proofs/Grouped.antt", head, uses, body)
+
+
 if __name__ == "__main__":
     print_told()
     print_tells()
     print_needs()
+    print_groups()

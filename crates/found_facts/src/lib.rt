@@ -6,4 +6,4 @@ mod results;
 mod sorting;
 
 pub use recorders::recorder_of;
-pub use results::{facts_in, from_nothing, from_sums, groups_in, looks_in};
+pub use results::{facts_in, from_nothing, from_sums, looks_in};

@@ -7,7 +7,7 @@ ghost use Rattle.found_facts.specs.Kept.{looks_kept, found_from};
 
 use crate::sorting::{looks_in_order, refs_in_order};
 use binding_model::{Found, Recorder, Sums};
-use rotor_base::{Facts, Looks, Memory, Place, Row};
+use rotor_base::{Facts, Looks, Memory, Row};
 use std::alloc::Global;
 
 /// The state of a resolver at its start, with a recorder or without.
@@ -56,13 +56,6 @@ pub fn facts_in(found: Found) -> Result<Facts, Memory>
         links,
         groups,
     })
-}
-
-/// The groups that are found.
-pub fn groups_in(found: Found) -> Row<Row<Place>>
-    ensures { result ≡ found.groups }
-{
-    found.groups
 }
 
 /// The recorded looks, those of references in the order of their places. `Memory` is the only error.

@@ -1,8 +1,5 @@
 -- The groups of trees are those of their steps, in any scope.
 use Rattle.std.proofs.Common.{◌≡◌, ℕ, suc, ◌-◌, List, [], ◌∷◌, ◌++◌, true, false, refl, sym, ap, ◌∙◌, append-nil, append_assoc, Option, Some, None}
-use Rattle.std.specs.Global.{Box}
-use Rattle.ml_syntax.specs.declared.expression.Branch.{Branch}
-use Rattle.ml_syntax.specs.declared.expression.Expr.{Expr as Expr_tree}
 use Rattle.ml_syntax.specs.Tok.{Name as Word}
 use Rattle.ml_syntax.specs.Places.{Site, punned, operated, operator_sites, name_sites, label_site}
 use Rattle.ml_syntax.specs.Tree.{ValueName, LocalModule, LocalPath, LocalArguments, no_local, more_local, no_module, Expr, Seq, Let, LetOpen}
@@ -20,7 +17,6 @@ use Rattle.ml_syntax.specs.Tree.{ParamArrow, Arrow, MaybeType, no_type, some_typ
 use Rattle.ml_syntax.specs.Tree.{ExceptionItem, ModuleItem, ModuleTypeItem, OpenItem, IncludeItem, Items, no_item, more_item, SigItem, SeparatorSig}
 use Rattle.ml_syntax.specs.Tree.{ValSig, ExternalSig, TypeSig, ExceptionSig, ModuleSig, AliasSig, ModuleTypeSig, OpenSig, IncludeSig, SigItems}
 use Rattle.ml_syntax.specs.Tree.{no_sig_item, more_sig_item, FileTree, Body, Face, UnitTree}
-use Rattle.ml_syntax.specs.View.{view, maybe, otherwise, tail, links, commas}
 use Rattle.shape_core.specs.Shape.{Shape, Struct as Structure, Functor as FunctorShape, Unitary, Opaque, Entries, none, a_mod, ◌⊕◌, brought}
 use Rattle.binding_model.specs.Variables.{variables, param_variables, for_variables}
 use Rattle.binding_model.specs.Scopes.{path_shape, applied, local_shape, here, bound, let_bound, let_scope, params_bound, opens, sig_opens, mod_shape}
@@ -36,7 +32,7 @@ use Rattle.group_walk.specs.Groups.{expr_groups, links_groups, optional_groups, 
 use Rattle.group_walk.specs.Groups.{cases_groups, argument_groups, arguments_groups, param_groups, params_groups, part_groups, parts_groups}
 use Rattle.group_walk.specs.Groups.{field_groups, fields_groups, mod_groups, mod_argument_groups, mod_arguments_groups, functor_param_groups}
 use Rattle.group_walk.specs.Groups.{functor_groups, type_groups, item_groups, items_groups, sig_item_groups, sig_items_groups, maybe_type_groups}
-use Rattle.group_walk.specs.Groups.{branches_groups, file_groups, maybe_groups, unit_groups, units_groups}
+use Rattle.group_walk.specs.Groups.{file_groups, maybe_groups, unit_groups, units_groups}
 
 -- two parts of some steps
 both : {A : Type 0} {a a' b b' : List A} → a ≡ a' → b ≡ b' → a ++ b ≡ a' ++ b'
@@ -271,27 +267,6 @@ module _ (file : ℕ) where
         → groups_of (sealing_steps file sc x b s) ≡ maybe_type_groups file x ++ gs
     sealed_found no_type sc b s gs h = h
     sealed_found (some_type t) sc b s gs h = both (type_found t sc) (last h)
-
--- expressions between commas, and an `if` branch by branch
-pub commas_same : (file : ℕ) (es : List Expr_tree) → links_groups file (commas es) ≡ links_groups file (links es)
-commas_same file [] = refl
-commas_same file (e ∷ es) = ap (λ l. expr_groups file (view e) ++ l) (commas_same file es)
-
-other_same : (file : ℕ) (o : Option (Box Expr_tree)) → tail_groups file (otherwise o) ≡ optional_groups file (maybe o)
-other_same file None = refl
-other_same file (Some e) = refl
-
-pub tail_same : (file : ℕ) (bs : List Branch) (o : Option (Box Expr_tree))
-    → tail_groups file (tail bs o) ≡ branches_groups file bs ++ optional_groups file (maybe o)
-tail_same file [] o = other_same file o
-tail_same file (b ∷ bs) o =
-    let t = expr_groups file (view b.test) in
-    let a = expr_groups file (view b.then) in
-    ap (λ l. t ++ (a ++ l)) (tail_same file bs o) ∙ ap (λ l. t ++ l) (sym (append_assoc a (branches_groups file bs) (optional_groups file (maybe o))))
-    ∙ sym (append_assoc t (a ++ branches_groups file bs) (optional_groups file (maybe o)))
-    ∙ ap (λ l. l ++ optional_groups file (maybe o)) (sym (append_assoc t a (branches_groups file bs)))
-
-pub ruleset rows_same = (commas_same, tail_same)
 
 file_found : (t : FileTree) (sc : Entries) → groups_of (file_steps sc t) ≡ file_groups t
 file_found (Body file is) sc = items_found file is sc

@@ -1,2 +1,4 @@
 pub mod Found
-pub mod Grown
+pub mod Grouped
+pub mod Listed
+pub mod Stacks

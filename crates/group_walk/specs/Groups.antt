@@ -1,6 +1,5 @@
 -- The groups of expressions, modules and units: they depend on no scope (own).
 use Rattle.std.specs.Prelude.{ℕ, List, [], Option, Some, None, true, ◌∷◌, ◌++◌}
-use Rattle.ml_syntax.specs.declared.expression.Branch.{Branch}
 use Rattle.ml_syntax.specs.Places.{punned, label_site}
 use Rattle.ml_syntax.specs.Tree.{Expr, Seq, Let, LetOpen, LetModule, Fun, Function, Match, Try, If, Chain, Minus, Apply, ConstrApply, TagApply}
 use Rattle.ml_syntax.specs.Tree.{Assert, Lazy, Postfix, Prefixed, Literal, BoolExpr, Value, Constr, Tag, UnitExpr, Paren, Typed, Coerced, EmptyBegin}
@@ -16,7 +15,6 @@ use Rattle.ml_syntax.specs.Tree.{TypeOf, TypeParen, With, FunctorType, ParamArro
 use Rattle.ml_syntax.specs.Tree.{SeparatorItem, ValueItem, ExternalItem, TypeItem, ExceptionItem, ModuleItem, ModuleTypeItem, OpenItem, IncludeItem}
 use Rattle.ml_syntax.specs.Tree.{Items, no_item, more_item, SigItem, SeparatorSig, ValSig, ExternalSig, TypeSig, ExceptionSig, ModuleSig, AliasSig}
 use Rattle.ml_syntax.specs.Tree.{ModuleTypeSig, OpenSig, IncludeSig, SigItems, no_sig_item, more_sig_item, FileTree, Body, Face, UnitTree}
-use Rattle.ml_syntax.specs.View.{view}
 use Rattle.shape_core.specs.Shape.{Entries}
 use Rattle.binding_model.specs.Scopes.{bound, let_bound}
 use Rattle.binding_model.specs.Steps.{groups_of}
@@ -200,11 +198,6 @@ module _ (file : ℕ) where
     pub maybe_type_groups : MaybeType → List Entries
     maybe_type_groups no_type = []
     maybe_type_groups (some_type s) = type_groups s
-
-  -- the branches of an `if`, without its `else`
-  abbrev pub branches_groups : List Branch → List Entries
-  branches_groups [] = []
-  branches_groups (b ∷ bs) = (expr_groups (view b.test) ++ expr_groups (view b.then)) ++ branches_groups bs
 
 abbrev pub file_groups : FileTree → List Entries
 file_groups (Body file is) = items_groups file is

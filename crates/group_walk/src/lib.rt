@@ -1,8 +1,6 @@
-//! The groups of expressions, modules and units, found without resolving them.
+//! The groups of a project's trees: the values that may not share a name. They are found without resolving.
 #![tactic(auto)]
 
-mod expressions;
-mod leaves;
-mod walk;
+mod groups;
 
-pub use walk::units;
+pub use groups::units;

@@ -13,7 +13,7 @@ ghost use Rattle.binding_model.specs.Scopes.{after_units};
 ghost use Rattle.binding_model.specs.Sums.{heavy};
 
 use crate::project::units;
-use found_facts::{facts_in, from_nothing, groups_in, looks_in, recorder_of};
+use found_facts::{facts_in, from_nothing, looks_in, recorder_of};
 use ml_syntax::Project;
 use rotor_base::{Facts, Looks, Memory, Place, Row, Watch};
 use shape_core::{FactError, Scope};
@@ -49,9 +49,7 @@ pub fn facts(alloc: Global, project: &Project) -> Result<Resolved, FactError>
 pub fn groups(alloc: Global, project: &Project) -> Result<Row<Row<Place>>, Memory>
     ensures { IfOk result (λ groups. groups ≡ (facts_of (view_project project.now)).groups) }
 {
-    let mut found = from_nothing(alloc, None);
-    group_walk::units(alloc, &mut found, &project.units)?;
-    Ok(groups_in(found))
+    group_walk::units(alloc, &project.units)
 }
 
 /// What the look-ups of the old or of the new name find in a project, and would find after the renaming. `Memory` is

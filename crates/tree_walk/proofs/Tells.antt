@@ -32,7 +32,7 @@ use Rattle.ml_syntax.specs.Tree.{Items, no_item, more_item, SigItem, SeparatorSi
 use Rattle.ml_syntax.specs.Tree.{AliasSig}
 use Rattle.ml_syntax.specs.Tree.{ModuleTypeSig, OpenSig, IncludeSig, SigItems, no_sig_item, more_sig_item, FileTree, Body, Face}
 use Rattle.tree_walk.specs.Events.{Event, value, field, label, operator, minus, module_path, last_path, qualifier, group_begins, group_ends}
-use Rattle.tree_walk.specs.Events.{part_begins, part_ends, scope_begins, scope_ends, brings}
+use Rattle.tree_walk.specs.Events.{bindings_begin, part_begins, part_ends, alternatives_end, scope_begins, scope_ends, brings}
 use Rattle.tree_walk.specs.Events.{names_out, brings_out, pat_out, pats_out, pat_field_out, pat_fields_out, variable_out, local_out, locals_out}
 use Rattle.tree_walk.specs.Events.{expr_out, links_out, base_out, guard_out, tail_out, binding_out, bindings_out, case_out, cases_out}
 use Rattle.tree_walk.specs.Events.{argument_out, arguments_out, param_out, params_out, part_out, parts_out, field_out, fields_out, mod_out}
@@ -63,7 +63,6 @@ brings_goes_on step (AnyName at) k z = refl
 
 mutual
   unfolding pat_told pats_told pat_field_told pat_fields_told
-
   pat_goes_on : {S : Type 0} (step : S → Event → S) (x0 : Pat) (k : S → S) (z : S) → pat_out (behind step) x0 k z ≡ k (pat_told step z x0)
   pat_goes_on step (AsPat p xs) k z = pat_goes_on step p _ _ ∙ names_goes_on step xs _ _ ∙ ap k (sym (pat_goes_on step p _ _ ∙ names_goes_on
       step xs _ _))
@@ -123,7 +122,6 @@ variable_goes_on step (AnyVariable at) k z = refl
 
 mutual
   unfolding local_told locals_told
-
   local_goes_on : {S : Type 0} (step : S → Event → S) (x0 : LocalModule) (k : S → S) (z : S) → local_out (behind step) x0 k z ≡ k (local_told
       step z x0)
   local_goes_on step (LocalPath path ms) k z = locals_goes_on step ms _ _ ∙ ap k (sym (locals_goes_on step ms _ _))
@@ -138,7 +136,6 @@ mutual
 mutual
   unfolding expr_told links_told base_told guard_told tail_told binding_told bindings_told case_told cases_told argument_told arguments_told
       param_told params_told part_told parts_told field_told fields_told
-
   expr_goes_on : {S : Type 0} (step : S → Event → S) (x0 : Expr) (k : S → S) (z : S) → expr_out (behind step) x0 k z ≡ k (expr_told step z x0)
   expr_goes_on step (Seq e es last) k z = expr_goes_on step e _ _ ∙ links_goes_on step es _ _ ∙ optional_silent step key.Semicolon last _ _ ∙ ap
       k (sym (expr_goes_on step e _ _ ∙ links_goes_on step es _ _ ∙ optional_silent step key.Semicolon last _ _))
@@ -299,7 +296,6 @@ mutual
 mutual
   unfolding mod_told mod_argument_told mod_arguments_told functor_param_told functor_params_told mod_type_told signature_told item_told
       items_told sig_item_told sig_items_told
-
   mod_goes_on : {S : Type 0} (step : S → Event → S) (x0 : ModExpr) (k : S → S) (z : S) → mod_out (behind step) x0 k z ≡ k (mod_told step z x0)
   mod_goes_on step (ModPath path) k z = refl
   mod_goes_on step (Struct at is) k z = items_goes_on step is _ _ ∙ ap k (sym (items_goes_on step is _ _))
@@ -425,8 +421,8 @@ pub told_AsPat : {S : Type 0} (step : S → Event → S) (z : S) (p : Pat) (xs :
 unfolding pat_told
 told_AsPat step z p xs = pat_goes_on step p _ _ ∙ names_goes_on step xs _ _
 
-pub told_OrPat : {S : Type 0} (step : S → Event → S) (z : S) (p : Pat) (ps : Pats) → pat_told step z (OrPat p ps) ≡ pats_told step (pat_told
-    step z p) key.Bar ps
+pub told_OrPat : {S : Type 0} (step : S → Event → S) (z : S) (p : Pat) (ps : Pats) → pat_told step z (OrPat p ps) ≡ step (pats_told step
+    (pat_told step z p) key.Bar ps) alternatives_end
 unfolding pat_told
 told_OrPat step z p ps = pat_goes_on step p _ _ ∙ pats_goes_on step key.Bar ps _ _
 
@@ -585,7 +581,7 @@ unfolding expr_told
 told_Seq step z e es last = expr_goes_on step e _ _ ∙ links_goes_on step es _ _ ∙ optional_silent step key.Semicolon last _ _
 
 pub told_Let : {S : Type 0} (step : S → Event → S) (z : S) (at : ℕ) (rec : Bool) (b : Binding) (bs : Bindings) (e : Expr) → expr_told step z
-    (Let at rec b bs e) ≡ expr_told step (step (bindings_told step (binding_told step (step z group_begins) b) bs) group_ends) e
+    (Let at rec b bs e) ≡ expr_told step (step (bindings_told step (binding_told step (step z bindings_begin) b) bs) group_ends) e
 unfolding expr_told
 told_Let step z at rec b bs e = optional_silent step key.Rec rec _ _ ∙ binding_goes_on step b _ _ ∙ bindings_goes_on step bs _ _ ∙ expr_goes_on
     step e _ _
@@ -742,8 +738,8 @@ unfolding expr_told
 told_While step z at c e = expr_goes_on step c _ _ ∙ expr_goes_on step e _ _
 
 pub told_For : {S : Type 0} (step : S → Event → S) (z : S) (at : ℕ) (x : Variable) (eq : ℕ) (a : Expr) (down : Bool) (b : Expr) (e : Expr) →
-    expr_told step z (For at x eq a down b e) ≡ expr_told step (expr_told step (expr_told step (step (variable_told step (step z group_begins)
-    x) group_ends) a) b) e
+    expr_told step z (For at x eq a down b e) ≡ expr_told step (step (expr_told step (expr_told step (variable_told step (step z group_begins)
+    x) a) b) group_ends) e
 unfolding expr_told
 told_For step z at x eq a down b e = variable_goes_on step x _ _ ∙ expr_goes_on step a _ _ ∙ expr_goes_on step b _ _ ∙ expr_goes_on step e _ _
 
@@ -855,7 +851,7 @@ unfolding param_told
 told_LabelPattern step z x p = pat_goes_on step p _ _
 
 pub told_DefaultParam : {S : Type 0} (step : S → Event → S) (z : S) (x : Name) (at : ℕ) (p : Pat) (run : Option (List Tok)) (eq : ℕ) (e : Expr)
-    → param_told step z (DefaultParam x at p run eq e) ≡ expr_told step (step (pat_told step (step z group_begins) p) group_ends) e
+    → param_told step z (DefaultParam x at p run eq e) ≡ step (expr_told step (pat_told step (step z group_begins) p) e) group_ends
 unfolding param_told
 told_DefaultParam step z x at p run eq e = pat_goes_on step p _ _ ∙ type_silent step run _ _ ∙ expr_goes_on step e _ _
 
@@ -865,7 +861,7 @@ unfolding param_told
 told_WrappedParam step z at optional at' x run = type_silent step run _ _
 
 pub told_WrappedDefault : {S : Type 0} (step : S → Event → S) (z : S) (at : ℕ) (at' : ℕ) (x : Name) (run : Option (List Tok)) (eq : ℕ) (e :
-    Expr) → param_told step z (WrappedDefault at at' x run eq e) ≡ expr_told step (step (step (step z group_begins) (field true x)) group_ends) e
+    Expr) → param_told step z (WrappedDefault at at' x run eq e) ≡ step (expr_told step (step (step z group_begins) (field true x)) e) group_ends
 unfolding param_told
 told_WrappedDefault step z at at' x run eq e = type_silent step run _ _ ∙ expr_goes_on step e _ _
 
@@ -1048,7 +1044,7 @@ unfolding item_told
 told_SeparatorItem step z = refl
 
 pub told_ValueItem : {S : Type 0} (step : S → Event → S) (z : S) (at : ℕ) (rec : Bool) (b : Binding) (bs : Bindings) → item_told step z
-    (ValueItem at rec b bs) ≡ step (bindings_told step (binding_told step (step z group_begins) b) bs) group_ends
+    (ValueItem at rec b bs) ≡ step (bindings_told step (binding_told step (step z bindings_begin) b) bs) group_ends
 unfolding item_told
 told_ValueItem step z at rec b bs = optional_silent step key.Rec rec _ _ ∙ binding_goes_on step b _ _ ∙ bindings_goes_on step bs _ _
 

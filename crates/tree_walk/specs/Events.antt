@@ -46,12 +46,16 @@ pub data Event : Type 0 where
   module_path : List Name → Event
   last_path : List Name → Event
   qualifier : List Name → Event
-  -- the values that are declared from here on are one group, and its end
+  -- the values that are declared from here on are one group, and its end: that of a `let` is listed where it begins, and
+  -- each other one where it ends
+  bindings_begin : Event
   group_begins : Event
   group_ends : Event
-  -- a part of a pattern behind this word, and its end: behind a `|` it is a group
+  -- a part of a pattern behind this word, and its end: behind a `|` its values are one group, which is listed where the
+  -- or-pattern ends
   part_begins : Fixed → Event
   part_ends : Fixed → Event
+  alternatives_end : Event
   -- a scope of modules, and its end: its modules are no longer bound
   scope_begins : Event
   scope_ends : Event
@@ -99,7 +103,7 @@ module _ {A : Type 0} (◌▹◌ : Event → A → A) where
   abbrev mutual
     pub pat_out : Pat → A → A
     pat_out (AsPat p xs) k = pat_out p (names_out xs k)
-    pat_out (OrPat p ps) k = pat_out p (pats_out key.Bar ps k)
+    pat_out (OrPat p ps) k = pat_out p (pats_out key.Bar ps (alternatives_end ▹ k))
     pat_out (TuplePat p ps) k = pat_out p (pats_out key.Comma ps k)
     pat_out (ConsPat p ps) k = pat_out p (pats_out key.ColonColon ps k)
     pat_out (ConstrApplyPat path p) k = last_path path ▹ pat_out p k
@@ -163,7 +167,7 @@ module _ {A : Type 0} (◌▹◌ : Event → A → A) where
     pub expr_out : Expr → A → A
     expr_out (Seq e es last) k = expr_out e (links_out es (optional_out key.Semicolon last k))
     expr_out (Let at rec b bs e) k =
-        placed key.Let at ▸ optional_out key.Rec rec (group_begins ▹ binding_out b (bindings_out bs (group_ends ▹ fixed key.In ▸ expr_out e k)))
+        placed key.Let at ▸ optional_out key.Rec rec (bindings_begin ▹ binding_out b (bindings_out bs (group_ends ▹ fixed key.In ▸ expr_out e k)))
     expr_out (LetOpen at at' bang path e) k = placed key.Let at ▸ placed key.Open at' ▸ bang_out bang (module_path path ▹ fixed key.In ▸ expr_out
         e k)
     expr_out (LetModule at at' x eq m e) k =
@@ -203,8 +207,8 @@ module _ {A : Type 0} (◌▹◌ : Event → A → A) where
     expr_out (Opened path e) k = module_path path ▹ fixed key.Dot ▸ expr_out e k
     expr_out (While at c e) k = placed key.While at ▸ expr_out c (fixed key.Do ▸ expr_out e (fixed key.Done ▸ k))
     expr_out (For at x eq a down b e) k =
-        placed key.For at ▸ group_begins ▹ variable_out x (group_ends ▹ placed key.Equals eq ▸ expr_out a (fixed (direction down) ▸
-        expr_out b (fixed key.Do ▸ expr_out e (fixed key.Done ▸ k))))
+        placed key.For at ▸ group_begins ▹ variable_out x (placed key.Equals eq ▸ expr_out a (fixed (direction down) ▸
+        expr_out b (group_ends ▹ fixed key.Do ▸ expr_out e (fixed key.Done ▸ k))))
 
     pub links_out : Links → A → A
     links_out no_link k = k
@@ -252,13 +256,13 @@ module _ {A : Type 0} (◌▹◌ : Event → A → A) where
     param_out (LabelParam x) k = group_begins ▹ label true x ▹ group_ends ▹ k
     param_out (LabelPattern x p) k = word class.Label x ▸ group_begins ▹ pat_out p (group_ends ▹ k)
     param_out (DefaultParam x at p run eq e) k =
-        word class.Label x ▸ placed key.LeftParen at ▸ group_begins ▹ pat_out p (group_ends ▹ type_out run (placed key.Equals eq ▸
-        expr_out e (fixed key.RightParen ▸ k)))
+        word class.Label x ▸ placed key.LeftParen at ▸ group_begins ▹ pat_out p (type_out run (placed key.Equals eq ▸
+        expr_out e (group_ends ▹ fixed key.RightParen ▸ k)))
     param_out (WrappedParam at optional at' x run) k =
         placed (wrap optional) at ▸ placed key.LeftParen at' ▸ group_begins ▹ field true x ▹ group_ends ▹ type_out run (fixed key.RightParen ▸ k)
     param_out (WrappedDefault at at' x run eq e) k =
-        placed key.Question at ▸ placed key.LeftParen at' ▸ group_begins ▹ field true x ▹ group_ends ▹ type_out run (placed key.Equals eq ▸
-        expr_out e (fixed key.RightParen ▸ k))
+        placed key.Question at ▸ placed key.LeftParen at' ▸ group_begins ▹ field true x ▹ type_out run (placed key.Equals eq ▸
+        expr_out e (group_ends ▹ fixed key.RightParen ▸ k))
     param_out (TypesParam at xs) k = placed key.LeftParen at ▸ fixed key.Type ▸ lowers_out xs (fixed key.RightParen ▸ k)
 
     pub params_out : Params → A → A
@@ -355,7 +359,7 @@ module _ {A : Type 0} (◌▹◌ : Event → A → A) where
     item_out (ExprItem e) k = expr_out e k
     item_out SeparatorItem k = fixed key.DoubleSemicolon ▸ k
     item_out (ValueItem at rec b bs) k =
-        placed key.Let at ▸ optional_out key.Rec rec (group_begins ▹ binding_out b (bindings_out bs (group_ends ▹ k)))
+        placed key.Let at ▸ optional_out key.Rec rec (bindings_begin ▹ binding_out b (bindings_out bs (group_ends ▹ k)))
     item_out (ExternalItem x run at texts) k = external_out x run at texts k
     item_out (TypeItem run) k = fixed key.Type ▸ run_of run ▹ k
     item_out (ExceptionItem at run) k = placed key.Exception at ▸ run_of run ▹ k

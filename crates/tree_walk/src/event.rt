@@ -45,12 +45,16 @@ pub enum Event<'a> {
     LastPath(&'a [Word]),
     /// The path of a module with a `.` behind it, or nothing.
     Qualifier(&'a [Word]),
-    /// The values that are declared from here on are a group.
+    /// The values that the parts of a `let` declare are a group, which is listed where it begins.
+    BindingsBegin,
+    /// The values that are declared from here on are a group, which is listed where it ends.
     GroupBegins,
     GroupEnds,
-    /// A part of a pattern behind this word.
+    /// A part of a pattern behind this word: behind a `|` its values are a group.
     PartBegins(Fixed),
     PartEnds(Fixed),
+    /// The end of an or-pattern, where the groups of its parts are listed.
+    AlternativesEnd,
     /// The modules that are bound from here on are bound up to the end of the scope.
     ScopeBegins,
     ScopeEnds,

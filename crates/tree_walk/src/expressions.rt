@@ -7,7 +7,7 @@ ghost use Rattle.std.specs.Prelude.{◌≡◌, true, OnOk};
 ghost use Rattle.ml_syntax.specs.View.{view, view_binding, view_argument, view_param, view_part, view_field, view_variable, view_pat, view_word, links, commas, ops, maybe, bindings, view_case, cases, arguments, params, parts, fields};
 ghost use Rattle.tree_walk.specs.Told.{pat_told, expr_told, links_told, base_told, guard_told, binding_told, bindings_told, case_told, cases_told, argument_told, arguments_told, param_told, params_told, part_told, parts_told, field_told, fields_told, variable_told};
 ghost use Rattle.tree_walk.specs.Events as out;
-ghost use Rattle.tree_walk.specs.Events.{group_begins, group_ends};
+ghost use Rattle.tree_walk.specs.Events.{bindings_begin, group_begins, group_ends};
 
 use crate::event::{Event, Visitor};
 use crate::locals::local;
@@ -32,7 +32,7 @@ pub fn expression<V: Visitor>(visitor: &mut V, e: &Expr) -> Result<(), Memory>
             body,
             ..
         } => {
-            visitor.hear(Event::GroupBegins)?;
+            visitor.hear(Event::BindingsBegin)?;
             binding(visitor, first)?;
             more_bindings(visitor, rest)?;
             visitor.hear(Event::GroupEnds)?;
@@ -182,25 +182,25 @@ pub fn expression<V: Visitor>(visitor: &mut V, e: &Expr) -> Result<(), Memory>
             body,
             ..
         } => {
+            visitor.hear(Event::GroupBegins)?;
             variable(visitor, x)?;
             expression(visitor, from)?;
             expression(visitor, to)?;
+            visitor.hear(Event::GroupEnds)?;
             expression(visitor, body)
         }
     }
 }
 
-/// Reports the variable of a `for`, which is a group of its own.
+/// Reports the variable of a `for`.
 #[tactic(auto, using(crate::proofs::Tells::expr_tells))]
 fn variable<V: Visitor>(visitor: &mut V, variable: &Variable) -> Result<(), Memory>
-    ensures { OnOk result (V.state visitor.new ≡ V.step (variable_told V.step (V.step (V.state visitor.old) group_begins) (view_variable variable.now)) group_ends) }
+    ensures { OnOk result (V.state visitor.new ≡ variable_told V.step (V.state visitor.old) (view_variable variable.now)) }
 {
-    visitor.hear(Event::GroupBegins)?;
     match variable {
-        Variable::Lower(word) => visitor.hear(Event::Plain { binds: true, word })?,
-        Variable::Any { .. } => {}
+        Variable::Lower(word) => visitor.hear(Event::Plain { binds: true, word }),
+        Variable::Any { .. } => Ok(()),
     }
-    visitor.hear(Event::GroupEnds)
 }
 
 /// Reports the events of an optional expression.
@@ -258,9 +258,9 @@ fn operands<V: Visitor>(visitor: &mut V, list: &[(Word, Expr)]) -> Result<(), Me
 /// Reports the events of the bindings of a `let`, which are a group.
 #[tactic(auto, using(ml_syntax::proofs::Variants::expr_views, crate::proofs::Tells::expr_tells))]
 pub fn group<V: Visitor>(visitor: &mut V, first: &Binding, rest: &[Binding]) -> Result<(), Memory>
-    ensures { OnOk result (V.state visitor.new ≡ V.step (bindings_told V.step (binding_told V.step (V.step (V.state visitor.old) group_begins) (view_binding first.now)) (bindings rest.now)) group_ends) }
+    ensures { OnOk result (V.state visitor.new ≡ V.step (bindings_told V.step (binding_told V.step (V.step (V.state visitor.old) bindings_begin) (view_binding first.now)) (bindings rest.now)) group_ends) }
 {
-    visitor.hear(Event::GroupBegins)?;
+    visitor.hear(Event::BindingsBegin)?;
     binding(visitor, first)?;
     more_bindings(visitor, rest)?;
     visitor.hear(Event::GroupEnds)
@@ -382,8 +382,10 @@ fn parameter<V: Visitor>(visitor: &mut V, part: &Param) -> Result<(), Memory>
         }
         Param::LabelPattern { pat, .. } => pattern_group(visitor, pat),
         Param::Default { pat, value, .. } => {
-            pattern_group(visitor, pat)?;
-            expression(visitor, value)
+            visitor.hear(Event::GroupBegins)?;
+            pattern(visitor, pat)?;
+            expression(visitor, value)?;
+            visitor.hear(Event::GroupEnds)
         }
         Param::Wrapped { name: word, .. } => named_group(visitor, word),
         Param::WrappedDefault {
@@ -391,8 +393,10 @@ fn parameter<V: Visitor>(visitor: &mut V, part: &Param) -> Result<(), Memory>
             value,
             ..
         } => {
-            named_group(visitor, word)?;
-            expression(visitor, value)
+            visitor.hear(Event::GroupBegins)?;
+            visitor.hear(Event::Field { binds: true, word })?;
+            expression(visitor, value)?;
+            visitor.hear(Event::GroupEnds)
         }
         Param::Types { .. } => Ok(()),
     }

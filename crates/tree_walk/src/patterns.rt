@@ -51,7 +51,8 @@ pub fn pattern<V: Visitor>(visitor: &mut V, pat: &Pat) -> Result<(), Memory>
         }
         Pat::Or { first, rest } => {
             pattern(visitor, first)?;
-            patterns(visitor, Fixed::Bar, rest)
+            patterns(visitor, Fixed::Bar, rest)?;
+            visitor.hear(Event::AlternativesEnd)
         }
         Pat::Tuple { first, rest } => {
             pattern(visitor, first)?;

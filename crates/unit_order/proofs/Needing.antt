@@ -29,7 +29,7 @@ use Rattle.ml_syntax.specs.Tree.{IncludeItem}
 use Rattle.ml_syntax.specs.Tree.{Items, no_item, more_item, SigItem, SeparatorSig, ValSig, ExternalSig, TypeSig, ExceptionSig, ModuleSig}
 use Rattle.ml_syntax.specs.Tree.{AliasSig}
 use Rattle.ml_syntax.specs.Tree.{ModuleTypeSig, OpenSig, IncludeSig, SigItems, no_sig_item, more_sig_item, FileTree, Body, Face}
-use Rattle.tree_walk.specs.Events.{group_ends, part_ends, scope_begins, scope_ends, brings}
+use Rattle.tree_walk.specs.Events.{group_ends, part_ends, alternatives_end, scope_begins, scope_ends, brings}
 use Rattle.tree_walk.specs.Told.{names_told, brings_told, pat_told, pats_told, pat_field_told, pat_fields_told, variable_told, local_told}
 use Rattle.tree_walk.specs.Told.{locals_told, expr_told, links_told, base_told, guard_told, tail_told, binding_told, bindings_told, case_told}
 use Rattle.tree_walk.specs.Told.{cases_told, argument_told, arguments_told, param_told, params_told, part_told, parts_told, field_told}
@@ -83,7 +83,7 @@ behind_items : (bound : List (List ℕ)) (is : Items) → take (length bound) (b
 behind_items bound no_item = all bound
 behind_items bound (more_item i is) =
     in_front bound (bound_by_item bound i) (bound_by_items (bound_by_item bound i) is) (behind_item bound i) (behind_items (bound_by_item bound
-    i) is)
+        i) is)
 
 behind_sig_items : (bound : List (List ℕ)) (is : SigItems) → take (length bound) (bound_by_sig_items bound is) ≡ bound
 behind_sig_items bound no_sig_item = all bound
@@ -109,8 +109,8 @@ mutual
       ∙ ap (λ w. names_told hears w xs) (pat_needs p bound outer found)
       ∙ names_needs xs bound outer (pat_heads bound found p)
   pat_needs (OrPat p ps) bound outer found = told_OrPat hears (needed bound outer found) p ps
-      ∙ ap (λ w. pats_told hears w key.Bar ps) (pat_needs p bound outer found)
-      ∙ pats_needs key.Bar ps bound outer (pat_heads bound found p)
+      ∙ ap (λ w. hears (pats_told hears w key.Bar ps) alternatives_end) (pat_needs p bound outer found)
+      ∙ ap (λ w. hears w alternatives_end) (pats_needs key.Bar ps bound outer (pat_heads bound found p))
   pat_needs (TuplePat p ps) bound outer found = told_TuplePat hears (needed bound outer found) p ps
       ∙ ap (λ w. pats_told hears w key.Comma ps) (pat_needs p bound outer found)
       ∙ pats_needs key.Comma ps bound outer (pat_heads bound found p)
@@ -272,9 +272,9 @@ mutual
       ∙ ap (λ w. expr_told hears w e) (expr_needs c bound outer found)
       ∙ expr_needs e bound outer (expr_heads bound found c)
   expr_needs (For at x eq a down b e) bound outer found = told_For hears (needed bound outer found) at x eq a down b e
-      ∙ ap (λ w. expr_told hears (expr_told hears (expr_told hears (hears w group_ends) a) b) e) (variable_needs x bound outer found)
-      ∙ ap (λ w. expr_told hears (expr_told hears w b) e) (expr_needs a bound outer found)
-      ∙ ap (λ w. expr_told hears w e) (expr_needs b bound outer (expr_heads bound found a))
+      ∙ ap (λ w. expr_told hears (hears (expr_told hears (expr_told hears w a) b) group_ends) e) (variable_needs x bound outer found)
+      ∙ ap (λ w. expr_told hears (hears (expr_told hears w b) group_ends) e) (expr_needs a bound outer found)
+      ∙ ap (λ w. expr_told hears (hears w group_ends) e) (expr_needs b bound outer (expr_heads bound found a))
       ∙ expr_needs e bound outer (expr_heads bound (expr_heads bound found a) b)
 
   links_needs : (x0 : Links) (bound : List (List ℕ)) (outer : List ℕ) (found : List (List ℕ))
@@ -359,11 +359,11 @@ mutual
   param_needs (LabelPattern x p) bound outer found = told_LabelPattern hears (needed bound outer found) x p
       ∙ ap (λ w. hears w group_ends) (pat_needs p bound outer found)
   param_needs (DefaultParam x at p run eq e) bound outer found = told_DefaultParam hears (needed bound outer found) x at p run eq e
-      ∙ ap (λ w. expr_told hears (hears w group_ends) e) (pat_needs p bound outer found)
-      ∙ expr_needs e bound outer (pat_heads bound found p)
+      ∙ ap (λ w. hears (expr_told hears w e) group_ends) (pat_needs p bound outer found)
+      ∙ ap (λ w. hears w group_ends) (expr_needs e bound outer (pat_heads bound found p))
   param_needs (WrappedParam at optional at' x run) bound outer found = told_WrappedParam hears (needed bound outer found) at optional at' x run
   param_needs (WrappedDefault at at' x run eq e) bound outer found = told_WrappedDefault hears (needed bound outer found) at at' x run eq e
-      ∙ expr_needs e bound outer found
+      ∙ ap (λ w. hears w group_ends) (expr_needs e bound outer found)
   param_needs (TypesParam at xs) bound outer found = told_TypesParam hears (needed bound outer found) at xs
 
   params_needs : (x0 : Params) (bound : List (List ℕ)) (outer : List ℕ) (found : List (List ℕ))
@@ -494,15 +494,15 @@ mutual
   item_needs (ExceptionItem at run) bound outer found = told_ExceptionItem hears (needed bound outer found) at run
   item_needs (ModuleItem at x ps s eq m) bound outer found = told_ModuleItem hears (needed bound outer found) at x ps s eq m
       ∙ ap (λ w. brings_told hears (hears (mod_told hears (signature_told hears w s) m) scope_ends) x) (functor_params_needs ps bound (length
-      bound ∷ outer) found)
+          bound ∷ outer) found)
       ∙ ap (λ w. brings_told hears (hears (mod_told hears w m) scope_ends) x) (signature_needs s (bound_by_params bound ps) (length bound ∷
-      outer) (functor_params_heads bound found ps))
+          outer) (functor_params_heads bound found ps))
       ∙ ap (λ w. brings_told hears (hears w scope_ends) x) (mod_needs m (bound_by_params bound ps) (length bound ∷ outer) (signature_heads
-      (bound_by_params bound ps) (functor_params_heads bound found ps) s))
+          (bound_by_params bound ps) (functor_params_heads bound found ps) s))
       ∙ ap (λ w. brings_told hears (needed w outer (mod_heads (bound_by_params bound ps) (signature_heads (bound_by_params bound ps)
-      (functor_params_heads bound found ps) s) m)) x) (behind_params bound ps)
+          (functor_params_heads bound found ps) s) m)) x) (behind_params bound ps)
       ∙ brings_needs x bound outer (mod_heads (bound_by_params bound ps) (signature_heads (bound_by_params bound ps) (functor_params_heads bound
-      found ps) s) m)
+          found ps) s) m)
   item_needs (ModuleTypeItem at x eq s) bound outer found = told_ModuleTypeItem hears (needed bound outer found) at x eq s
       ∙ mod_type_needs s bound outer found
   item_needs (OpenItem at bang path) bound outer found = told_OpenItem hears (needed bound outer found) at bang path
@@ -526,9 +526,9 @@ mutual
   sig_item_needs (ModuleSig at x ps s) bound outer found = told_ModuleSig hears (needed bound outer found) at x ps s
       ∙ ap (λ w. brings_told hears (hears (mod_type_told hears w s) scope_ends) x) (functor_params_needs ps bound (length bound ∷ outer) found)
       ∙ ap (λ w. brings_told hears (hears w scope_ends) x) (mod_type_needs s (bound_by_params bound ps) (length bound ∷ outer)
-      (functor_params_heads bound found ps))
+          (functor_params_heads bound found ps))
       ∙ ap (λ w. brings_told hears (needed w outer (mod_type_heads (bound_by_params bound ps) (functor_params_heads bound found ps) s)) x)
-      (behind_params bound ps)
+          (behind_params bound ps)
       ∙ brings_needs x bound outer (mod_type_heads (bound_by_params bound ps) (functor_params_heads bound found ps) s)
   sig_item_needs (AliasSig at x eq path) bound outer found = told_AliasSig hears (needed bound outer found) at x eq path
   sig_item_needs (ModuleTypeSig at x eq s) bound outer found = told_ModuleTypeSig hears (needed bound outer found) at x eq s

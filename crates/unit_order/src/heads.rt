@@ -55,8 +55,10 @@ impl Visitor for Heads {
             Event::Minus(_) => Ok(()),
             Event::GroupBegins => Ok(()),
             Event::GroupEnds => Ok(()),
+            Event::BindingsBegin => Ok(()),
             Event::PartBegins(_) => Ok(()),
             Event::PartEnds(_) => Ok(()),
+            Event::AlternativesEnd => Ok(()),
         }
     }
 }

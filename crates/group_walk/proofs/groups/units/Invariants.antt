@@ -2,8 +2,8 @@ use Rattle.std.proofs.Common.{◌≡◌, ◌++◌, drop, map}
 use Rattle.ml_syntax.specs.View.{view_unit}
 use Rattle.binding_model.specs.Facts.{decls}
 use Rattle.group_walk.specs.Groups.{units_groups}
-use Rattle.group_walk.proofs.walk.units.Given as goal
+use Rattle.group_walk.proofs.groups.units.Given as goal
 
 abbrev pub invariant-loop-tree : goal.invariant-loop-tree
-invariant-loop-tree l = l.found.groups ++ map decls (units_groups (map view_unit (drop l.tree-index l.list))) ≡ l.fn.found.groups ++ map decls
+invariant-loop-tree l = l.found.items ++ map decls (units_groups (map view_unit (drop l.tree-index l.list))) ≡ map decls
     (units_groups (map view_unit l.list))
