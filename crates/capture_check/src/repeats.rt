@@ -1,14 +1,14 @@
 //! The first name that occurs twice in a group.
 
 ghost use Rattle.std.specs.Prelude.{◌≡◌, ◌∷◌, ℕ, List, [], IfOk, OnOk, Some, bytes_eq, if◌then◌else◌};
-ghost use Rattle.shape_core.specs.Names.{at};
+ghost use Rattle.name_tables.specs.Names.{at};
 ghost use Rattle.capture_check.specs.Firsts.{IsFirstRepeat, is_lesser, earlier_repeat, repeat_of, lesser};
 ghost use Rattle.capture_check.specs.Tables.{named};
 
 use crate::fault::Repeat;
 use crate::order::is_before;
+use name_tables::Names;
 use rotor_base::{Memory, Name, Place, Row};
-use shape_core::Names;
 use std::alloc::Global;
 use std::collections::BTreeMap;
 

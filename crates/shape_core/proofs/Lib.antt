@@ -2,7 +2,6 @@ pub mod Lists
 pub mod Views
 pub mod Seen
 pub mod Weights
-pub mod NameTables
 pub mod Shown
 pub mod Telling
 pub mod Founds
@@ -11,3 +10,4 @@ pub mod Spelled
 pub mod Retold
 pub mod Rows
 pub mod Sizes
+pub mod Looked

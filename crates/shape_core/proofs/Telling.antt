@@ -14,13 +14,13 @@ use Rattle.shape_core.specs.declared.shared.SharedEntry.TheVariants as e
 use Rattle.shape_core.specs.declared.index.Spot.{Spot}
 use Rattle.shape_core.specs.declared.index.Tables.{Tables}
 use Rattle.shape_core.specs.declared.index.Before.{Before}
-use Rattle.shape_core.specs.declared.names.Names.{Names}
+use Rattle.name_tables.specs.declared.names.Names.{Names}
 use Rattle.shape_core.specs.declared.shape.Seen.{Seen}
 use Rattle.shape_core.specs.View.{Sees, entries, view_then}
 use Rattle.shape_core.specs.declared.shape.Entry.{Entry}
 use Rattle.shape_core.proofs.Views.{entries_more}
 use Rattle.std.proofs.Common.{append_assoc}
-use Rattle.shape_core.specs.Names.{at}
+use Rattle.name_tables.specs.Names.{at}
 use Rattle.shape_core.specs.Node.{and_then, entries_of}
 use Rattle.shape_core.specs.Index.{last_spot, is_mod, is_mty, last_at, before_of, befores_from, Tells}
 use Rattle.shape_core.specs.Shape.{Name, Shape, Entries, none, a_val, a_mod, a_mty, a_dark, ◌⊕◌, or_else, some_if, darks, passed, vals, last_of}

@@ -10,7 +10,7 @@ use Rattle.shape_core.specs.declared.index.Spot.{Spot}
 use Rattle.shape_core.specs.declared.index.Tables.{Tables}
 use Rattle.shape_core.specs.declared.index.Before.{Before}
 use Rattle.shape_core.specs.declared.index.Index.{Index}
-use Rattle.shape_core.specs.Names.{at}
+use Rattle.name_tables.specs.Names.{at}
 use Rattle.shape_core.specs.Node.{entries_of, shape_of}
 use Rattle.shape_core.specs.Shape.{Name, Shape, Entries, none, a_val, a_mod, a_mty, a_dark, or_else, some_if, darks, values_from, weight, depth}
 use Rattle.shape_core.specs.Shape.{capped}

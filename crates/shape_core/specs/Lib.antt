@@ -3,7 +3,6 @@ pub mod Codes
 pub mod View
 pub mod Links
 pub mod Looks
-pub mod Names
 pub mod Node
 pub mod Index
 pub mod Falls

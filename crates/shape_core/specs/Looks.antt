@@ -34,6 +34,10 @@ other_old w x g = bytes_eq x w.old && not (is_member w g)
 abbrev pub named_new : Watch → Test
 named_new w x g = bytes_eq x w.new
 
+-- a value of this name
+abbrev pub of_name : Name → Test
+of_name y x g = bytes_eq x y
+
 abbrev pub some_place : Option Place → Place
 some_place None = record { file = 0; token = 0 }
 some_place (Some p) = p

@@ -5,11 +5,12 @@ ghost use Rattle.shape_core.specs.Shape as pure;
 ghost use Rattle.shape_core.specs.declared.shared.SharedEntry.{SharedEntry};
 ghost use Rattle.shape_core.specs.Node.{entries_of, and_then};
 ghost use Rattle.shape_core.specs.View.{Sees};
+ghost use Rattle.shape_core.specs.Looks as looks;
 ghost use Rattle.shape_core.specs.Index.{Tells, IsIndexOf, before_of, there, mod_at, mty_at, position_is, position_of};
 
-use crate::names::Names;
 use crate::shape::Seen;
 use crate::shared::{Shared, SharedEntry};
+use name_tables::Names;
 use rotor_base::{Goal, Memory, Place};
 use std::alloc::Global;
 
@@ -19,6 +20,19 @@ pub struct Spot {
     pub goal: Goal,
     pub position: usize,
     pub darks: usize,
+}
+
+/// A position in a list, the declaration there, and the number of Dark entries after it.
+pub type LookSpot = (u64, Place, u64);
+
+/// The place of a declaration, and (0, 0) for another goal.
+pub fn place_of(goal: Goal) -> Place
+    ensures { result ≡ looks.some_place (pure.decl_of goal) }
+{
+    match goal {
+        Goal::Decl(place) => place,
+        _ => Place { file: 0, token: 0 },
+    }
 }
 
 /// What a list holds by name, and its Dark entries.
@@ -119,9 +133,9 @@ impl Tables {
         ensures { (list : List SharedEntry) → Tells self.old (list ++ entry.now ∷ []) → before ≡ before_of list entry.now → Tells self.new list }
     {
         match entry {
-            SharedEntry::Val(x, _) => self.vals.restore(x.as_bytes(), before.spot),
-            SharedEntry::Mod(x, _) => self.mods.restore(x.as_bytes(), before.position),
-            SharedEntry::Mty(x, _) => self.mtys.restore(x.as_bytes(), before.position),
+            SharedEntry::Val(x, _) => self.vals.set(x.as_bytes(), before.spot),
+            SharedEntry::Mod(x, _) => self.mods.set(x.as_bytes(), before.position),
+            SharedEntry::Mty(x, _) => self.mtys.set(x.as_bytes(), before.position),
             SharedEntry::Dark(_) => {
                 self.darks.pop();
             }
@@ -219,6 +233,24 @@ impl Index {
         ensures { (list : List SharedEntry) → IsIndexOf self.now list → result.now ≡ pure.values_from 0 (entries_of list) }
     {
         &self.values
+    }
+
+    /// The number of Dark entries of the list, and the place of the last one.
+    pub fn darks(&self) -> (u64, Option<Place>)
+        ensures number { (list : List SharedEntry) → IsIndexOf self.now list → result.0 ≡ length (pure.darks (entries_of list)) }
+        ensures last { (list : List SharedEntry) → IsIndexOf self.now list → result.1 ≡ pure.last_place (pure.darks (entries_of list)) }
+    {
+        let darks = &self.tables.darks;
+        (darks.len() as u64, darks.last().copied())
+    }
+
+    /// The last value of a name: its position in the list, its declaration, and the number of Dark entries after it.
+    pub fn last_val(&self, name: &[u8]) -> Option<LookSpot>
+        ensures { (list : List SharedEntry) → IsIndexOf self.now list → result ≡ looks.last_where (looks.of_name name.now) (entries_of list) }
+    {
+        let spot = self.tables.vals.get(name)?;
+        let after = self.tables.darks.len().saturating_sub(spot.darks);
+        Some((spot.position as u64, place_of(spot.goal), after as u64))
     }
 
     /// What a look-up of a value gives.

@@ -4,21 +4,21 @@
 mod error;
 mod index;
 mod kinds;
-mod names;
 mod scope;
 mod shape;
 mod shared;
 mod sharing;
 
 pub use error::FactError;
+pub use index::{LookSpot, place_of};
 pub use kinds::Kind;
-pub use names::Names;
-pub use scope::{Scope, mod_in, mty_in, val_in};
+pub use scope::{Scope, darks_in, last_val_in, mod_in, mty_in, val_in};
 pub use shape::{
     Entry, GREATEST_WEIGHT, Shape, copy, find_mod, find_mty, find_val, visible, walk, weight,
 };
 pub use shared::{
-    Shared, SharedEntry, entries, is_shown, kind, levels_of, make_functor, make_opaque,
-    make_struct, make_unitary, mod_of, mty_of, param, result, val_of, value_positions, weight_of,
+    Shared, SharedEntry, darks_of, entries, is_shown, kind, last_val_of, levels_of, make_functor,
+    make_opaque, make_struct, make_unitary, mod_of, mty_of, param, result, val_of, value_positions,
+    weight_of,
 };
 pub use sharing::{bring, share, share_again};

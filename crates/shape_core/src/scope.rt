@@ -1,17 +1,18 @@
 //! Scopes: lists of entries that grow at their end and are cut back.
 
 ghost use Rattle.std.specs.Prelude.{◌≡◌, ◌≤◌, [], ◌∷◌, ◌++◌, IfOk, OnOk, OnErr, length, take, option_copied};
+ghost use Rattle.shape_core.specs.Looks as looks;
 ghost use Rattle.shape_core.specs.Shape as pure;
 ghost use Rattle.shape_core.specs.Node.{entries_of};
 
-use crate::index::Index;
+use crate::index::{Index, LookSpot};
 use crate::shared::{Shared, SharedEntry};
-use rotor_base::{Goal, Memory};
+use rotor_base::{Goal, Memory, Place};
 use std::alloc::Global;
 use std::marker::Model;
 
-/// A scope, with its entries indexed by name. Contracts see it as the list of its entries. A look-up costs a hash,
-/// also behind many pushes and cuts.
+/// A scope, with its entries indexed by name. Contracts see it as the list of its entries. A look-up does not
+/// walk the list, also behind many pushes and cuts.
 pub struct Scope {
     alloc: Global,
     entries: Vec<SharedEntry>,
@@ -57,7 +58,7 @@ impl Scope {
         })
     }
 
-    /// Adds an entry at the end. An `Err` changes nothing. It costs a hash of the entry's name.
+    /// Adds an entry at the end. An `Err` changes nothing.
     pub fn push(&mut self, entry: SharedEntry) -> Result<(), Memory>
         ensures pushed { OnOk result (self.new ≡ self.old ++ entry ∷ []) }
         ensures kept { OnErr result (self.new ≡ self.old) }
@@ -86,7 +87,7 @@ impl Scope {
         &self.entries
     }
 
-    /// Keeps the first `len` entries. It costs a hash for each entry that goes, and takes no memory.
+    /// Keeps the first `len` entries. It costs a look-up for each entry that goes, and takes no memory.
     pub fn cut(&mut self, len: usize)
         requires { len ≤ length self.old }
         ensures { self.new ≡ take len self.old }
@@ -99,23 +100,39 @@ impl Scope {
     }
 }
 
-/// The goal that a look-up of a value gives, as [`crate::find_val`] does. It costs a hash, and takes no memory.
+/// The goal that a look-up of a value gives, as [`crate::find_val`] does. It takes no memory.
 pub fn val_in(scope: &Scope, name: &[u8]) -> Option<Goal>
     ensures { result ≡ pure.find_val (entries_of scope.now) name.now }
 {
     scope.index.val(name)
 }
 
-/// The shape of the last module of that name. It costs a hash, and takes no memory.
+/// The shape of the last module of that name. It takes no memory.
 pub fn mod_in<'a>(scope: &'a Scope, name: &[u8]) -> Option<&'a Shared>
     ensures { option_copied result ≡ pure.find_mod (entries_of scope.now) name.now }
 {
     scope.index.module(&scope.entries, name)
 }
 
-/// The shape of the last module type of that name. It costs a hash, and takes no memory.
+/// The shape of the last module type of that name. It takes no memory.
 pub fn mty_in<'a>(scope: &'a Scope, name: &[u8]) -> Option<&'a Shared>
     ensures { option_copied result ≡ pure.find_mty (entries_of scope.now) name.now }
 {
     scope.index.module_type(&scope.entries, name)
+}
+
+/// The number of Dark entries of a scope, and the place of the last one. It takes no memory.
+pub fn darks_in(scope: &Scope) -> (u64, Option<Place>)
+    ensures number { result.0 ≡ length (pure.darks (entries_of scope.now)) }
+    ensures last { result.1 ≡ pure.last_place (pure.darks (entries_of scope.now)) }
+{
+    scope.index.darks()
+}
+
+/// The last value of a name: its position in the scope, its declaration, and the number of Dark entries after it. It
+/// takes no memory.
+pub fn last_val_in(scope: &Scope, name: &[u8]) -> Option<LookSpot>
+    ensures { result ≡ looks.last_where (looks.of_name name.now) (entries_of scope.now) }
+{
+    scope.index.last_val(name)
 }

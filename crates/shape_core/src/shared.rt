@@ -1,12 +1,13 @@
 //! The shared form of shapes.
 
-ghost use Rattle.std.specs.Prelude.{◌≡◌, ◌≤◌, ◌+◌, IfOk, option_copied};
+ghost use Rattle.std.specs.Prelude.{◌≡◌, ◌≤◌, ◌+◌, IfOk, length, option_copied};
 ghost use Rattle.rotor_base.specs.Limits.{max_levels};
+ghost use Rattle.shape_core.specs.Looks as looks;
 ghost use Rattle.shape_core.specs.Shape as pure;
 ghost use Rattle.shape_core.specs.Node.{entries_of, and_then, shape_of, kind_of};
 ghost use Rattle.shape_core.specs.Index.{IsIndexed};
 
-use crate::index::Index;
+use crate::index::{Index, LookSpot};
 use crate::kinds::Kind;
 use crate::shape::plus;
 use rotor_base::{Goal, MAX_LEVELS, Memory, Name, Place};
@@ -183,7 +184,7 @@ fn levels_of_entry(entry: &SharedEntry) -> usize
 }
 
 /// The structure of these entries. `Memory` is the only error: there is no memory, or the shape would be deeper than
-/// [`MAX_LEVELS`]. It costs a hash for each entry.
+/// [`MAX_LEVELS`]. It costs a look-up for each entry.
 pub fn make_struct(alloc: Global, entries: Vec<SharedEntry>) -> Result<Shared, Memory>
     ensures { IfOk result (λ shape. shape ≡ pure.Struct (entries_of entries.items)) }
 {
@@ -285,7 +286,7 @@ pub fn result(shape: &Shared) -> Option<&Shared>
 }
 
 /// The goal that a look-up of a value in a structure gives, as [`crate::find_val`] does; `None` for another shape. It
-/// costs a hash, and takes no memory.
+/// takes no memory.
 pub fn val_of(shape: &Shared, name: &[u8]) -> Option<Goal>
     ensures { result ≡ pure.find_val (pure.entries_in shape.now) name.now }
 {
@@ -297,7 +298,32 @@ pub fn val_of(shape: &Shared, name: &[u8]) -> Option<Goal>
     }
 }
 
-/// The shape of the last module of that name in a structure; `None` for another shape. It costs a hash, and takes
+/// The number of Dark entries of a structure, and the place of the last one; none of another shape. It takes no memory.
+pub fn darks_of(shape: &Shared) -> (u64, Option<Place>)
+    ensures number { result.0 ≡ length (pure.darks (pure.entries_in shape.now)) }
+    ensures last { result.1 ≡ pure.last_place (pure.darks (pure.entries_in shape.now)) }
+{
+    match &shape.node.form {
+        Form::Struct(_, index) => index.darks(),
+        Form::Functor(_, _) => (0, None),
+        Form::Unitary(_) => (0, None),
+        Form::Opaque => (0, None),
+    }
+}
+
+/// The last value of a name in a structure, as [`crate::last_val_in`] says; `None` for another shape. It takes no memory.
+pub fn last_val_of(shape: &Shared, name: &[u8]) -> Option<LookSpot>
+    ensures { result ≡ looks.last_where (looks.of_name name.now) (pure.entries_in shape.now) }
+{
+    match &shape.node.form {
+        Form::Struct(_, index) => index.last_val(name),
+        Form::Functor(_, _) => None,
+        Form::Unitary(_) => None,
+        Form::Opaque => None,
+    }
+}
+
+/// The shape of the last module of that name in a structure; `None` for another shape. It takes
 /// no memory.
 pub fn mod_of<'a>(shape: &'a Shared, name: &[u8]) -> Option<&'a Shared>
     ensures { option_copied result ≡ pure.find_mod (pure.entries_in shape.now) name.now }
@@ -310,7 +336,7 @@ pub fn mod_of<'a>(shape: &'a Shared, name: &[u8]) -> Option<&'a Shared>
     }
 }
 
-/// The shape of the last module type of that name in a structure; `None` for another shape. It costs a hash, and
+/// The shape of the last module type of that name in a structure; `None` for another shape. It
 /// takes no memory.
 pub fn mty_of<'a>(shape: &'a Shared, name: &[u8]) -> Option<&'a Shared>
     ensures { option_copied result ≡ pure.find_mty (pure.entries_in shape.now) name.now }
@@ -324,7 +350,7 @@ pub fn mty_of<'a>(shape: &'a Shared, name: &[u8]) -> Option<&'a Shared>
 }
 
 /// Whether no later entry of a structure has the kind and name of the entry at a position, as [`crate::visible`]
-/// says; false for a Dark entry, past the end and for another shape. It costs a hash, and takes no memory.
+/// says; false for a Dark entry, past the end and for another shape. It takes no memory.
 pub fn is_shown(shape: &Shared, at: usize) -> bool
     ensures { result ≡ pure.is_shown (pure.entries_from at (pure.entries_in shape.now)) }
 {

@@ -1,44 +1,25 @@
 -- The counts of a list of names, behind a change at one name.
-use Rattle.std.proofs.Common.{◌≡◌, ℕ, ◌+◌, ◌-◌, suc, Bool, true, false, ◌||◌, cond, count_by, List, [], ◌∷◌, ◌++◌, Option, Some, None, unwrap_or}
-use Rattle.std.proofs.Common.{nat_lt, if◌then◌else◌, bytes_eq, refl, sym, ap, subst, ◌∙◌, true≢false, arith}
+use Rattle.std.proofs.Common.{◌≡◌, ℕ, ◌+◌, ◌-◌, Bool, true, false, ◌||◌, cond, count_by, List, [], ◌∷◌, ◌++◌, Some, unwrap_or}
+use Rattle.std.proofs.Common.{nat_lt, if◌then◌else◌, bytes_eq, refl, sym, ap, ◌∙◌, arith}
 use Rattle.std.proofs.lemmas.Grind.{common_steps}
 use Rattle.std.proofs.lemmas.List.Sums.{sum_by_push, sum_by-cons}
 use Rattle.std.proofs.lemmas.Slice.Eq.{bytes_eq-Decides}
-use Rattle.std.specs.Cmp.Lexicographic.{nat_list_eq_equiv}
 use Rattle.std.specs.List.{list_any}
-use Rattle.std.specs.Global.{Vec}
-use Rattle.std.specs.Map.{KeepsOthers}
-use Rattle.indexmap.specs.IndexMap.{UpdatesBy, get_by}
+use Rattle.name_tables.specs.Names.{at}
 use Rattle.unit_order.specs.declared.counts.Counts.{Counts}
 use Rattle.unit_order.specs.Counts.{AreCounts, count_of}
-
-abbrev Eq : Vec ℕ → Vec ℕ → Bool
-Eq a b = bytes_eq a.items b.items
-
-abbrev Test : List ℕ → Vec ℕ → Bool
-Test name key = bytes_eq name key.items
 
 abbrev Is : List ℕ → List ℕ → Bool
 Is name other = bytes_eq other name
 
-apart : (a b : List ℕ) → bytes_eq a b ≡ false → (key : Vec ℕ) → bytes_eq a key.items ≡ true → bytes_eq b key.items ≡ false
-apart a b e key h = go (bytes_eq b key.items) refl
-  where
-    go : (t : Bool) → bytes_eq b key.items ≡ t → bytes_eq b key.items ≡ false
-    go false f = f
-    go true f =
-        let same : a ≡ b = (bytes_eq-Decides a key.items).0 h ∙ sym ((bytes_eq-Decides b key.items).0 f) in
-        absurd (true≢false (sym ((bytes_eq-Decides a b).1 same) ∙ e))
-
 -- a change at one name changes the count of that name alone
-pub changed : (c d : Counts) (name : List ℕ) (n : ℕ) → UpdatesBy Eq (Test name) c.map d.map (Some n) → (x : List ℕ)
-    → count_of d x ≡ (if bytes_eq name x then n else count_of c x)
-unfolding KeepsOthers
-changed c d name n h x = go (bytes_eq name x) refl
+changed : (c d : Counts) (name : List ℕ) (n : ℕ) → ((x : List ℕ) → at d.numbers x ≡ (if bytes_eq name x then Some n else at c.numbers x))
+    → (x : List ℕ) → count_of d x ≡ (if bytes_eq name x then n else count_of c x)
+changed c d name n h x = ap (λ o. unwrap_or o 0) (h x) ∙ go (bytes_eq name x)
   where
-    go : (t : Bool) → bytes_eq name x ≡ t → count_of d x ≡ (if t then n else count_of c x)
-    go true e = ap (λ z. count_of d z) (sym ((bytes_eq-Decides name x).0 e)) ∙ ap (λ o. unwrap_or o 0) h.1
-    go false e = ap (λ o. unwrap_or o 0) (h.3 (Test x) (λ a b. nat_list_eq_equiv.congr x a.items b.items) (apart name x e))
+    go : (t : Bool) → unwrap_or (if t then Some n else at c.numbers x) 0 ≡ (if t then n else count_of c x)
+    go true = refl
+    go false = refl
 
 pushed : (x name : List ℕ) (list : List (List ℕ)) → count_by (Is x) (list ++ name ∷ []) ≡ count_by (Is x) list + cond (bytes_eq name x) 1 0
 pushed x name list = sum_by_push (λ other. cond (bytes_eq other x) 1 0) list name
@@ -60,12 +41,11 @@ one_more c d name h list are x = go (bytes_eq name x) refl
         h x ∙ ap (λ t. if t then count_of c name + 1 else count_of c x) e
         ∙ are x ∙ omega arith ∙ sym (pushed x name list ∙ ap (λ t. count_by (Is x) list + cond t 1 0) e)
 
-pub count_more : (c d : Counts) (name key : List ℕ) (n : ℕ) → key ≡ name → n ≡ count_of c name → UpdatesBy Eq (Test key) c.map d.map (Some (n + 1))
+pub count_more : (c d : Counts) (name : List ℕ) (n : ℕ) → n ≡ count_of c name
+    → ((x : List ℕ) → at d.numbers x ≡ (if bytes_eq name x then Some (n + 1) else at c.numbers x))
     → (list : List (List ℕ)) → AreCounts c list → AreCounts d (list ++ name ∷ [])
-count_more c d name key n same is updates =
-    let h = changed c d key (n + 1) updates in
-    one_more c d name (λ x. subst (λ k. count_of d x ≡ (if bytes_eq k x then n + 1 else count_of c x)) same (h x)
-    ∙ ap (λ m. if bytes_eq name x then m + 1 else count_of c x) is)
+count_more c d name n is put =
+    one_more c d name (λ x. changed c d name (n + 1) put x ∙ ap (λ m. if bytes_eq name x then m + 1 else count_of c x) is)
 
 -- one less of the name, and the list is without its last
 pub one_less : (c d : Counts) (name : List ℕ) → ((x : List ℕ) → count_of d x ≡ (if bytes_eq name x then count_of c name - 1 else count_of c x))
@@ -81,11 +61,11 @@ one_less c d name h list are x = go (bytes_eq name x) refl
         h x ∙ ap (λ t. if t then count_of c name - 1 else count_of c x) e
         ∙ are x ∙ pushed x name list ∙ ap (λ t. count_by (Is x) list + cond t 1 0) e ∙ omega arith
 
-pub count_less : (c d : Counts) (name : List ℕ) (n : ℕ) → n ≡ count_of c name - 1 → UpdatesBy Eq (Test name) c.map d.map (Some n)
+pub count_less : (c d : Counts) (name : List ℕ) (n : ℕ) → n ≡ count_of c name - 1
+    → ((x : List ℕ) → at d.numbers x ≡ (if bytes_eq name x then Some n else at c.numbers x))
     → (list : List (List ℕ)) → AreCounts c (list ++ name ∷ []) → AreCounts d list
-count_less c d name n is updates =
-    let h = changed c d name n updates in
-    one_less c d name (λ x. h x ∙ ap (λ m. if bytes_eq name x then m else count_of c x) is)
+count_less c d name n is set =
+    one_less c d name (λ x. changed c d name n set x ∙ ap (λ m. if bytes_eq name x then m else count_of c x) is)
 
 -- the last name of a list is counted
 pub counted : (c : Counts) (name : List ℕ) (list : List (List ℕ)) → AreCounts c (list ++ name ∷ []) → count_of c name ≡ count_by (Is name) list + 1

@@ -1,5 +1,5 @@
 -- What was bound before stays in front of what is bound behind it.
-use Rattle.std.proofs.Common.{◌≡◌, ℕ, ◌≤◌, List, [], ◌∷◌, ◌++◌, length, take, refl, sym, ap, subst, ◌∙◌, take-take, length-take, arith}
+use Rattle.std.proofs.Common.{◌≡◌, ℕ, ◌≤◌, List, [], ◌∷◌, ◌++◌, length, take, refl, sym, ap, ◌∙◌, take-take, length-take, arith}
 use Rattle.ml_syntax.specs.Tree.{ModuleName, UpperName, AnyName, FunctorParam, NamedParam, NoParam, FunctorParams, no_functor_param}
 use Rattle.ml_syntax.specs.Tree.{more_functor_param, Item, ExprItem, SeparatorItem, ValueItem, ExternalItem, TypeItem, ExceptionItem, ModuleItem}
 use Rattle.ml_syntax.specs.Tree.{ModuleTypeItem, OpenItem, IncludeItem, SigItem, SeparatorSig, ValSig, ExternalSig, TypeSig, ExceptionSig, ModuleSig}

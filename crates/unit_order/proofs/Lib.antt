@@ -1,4 +1,5 @@
 pub mod Counted
+pub mod Positioned
 pub mod Fronts
 pub mod Needing
 pub mod Chains

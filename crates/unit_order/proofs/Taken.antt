@@ -27,7 +27,7 @@ use Rattle.unit_order.specs.Turns.{is_free}
 abbrev pub AreApart : List UnitTree → Type 0
 AreApart units = (i j : ℕ) → i < length units → j < length units → i ≢ j → (unit_at units i).name ≢ (unit_at units j).name
 
-eq_is_same : (x y : List ℕ) → (eq_by_cmp (slice_cmp nat_cmp) x y ≡ true → x ≡ y) × (x ≡ y → eq_by_cmp (slice_cmp nat_cmp) x y ≡ true)
+pub eq_is_same : (x y : List ℕ) → (eq_by_cmp (slice_cmp nat_cmp) x y ≡ true → x ≡ y) × (x ≡ y → eq_by_cmp (slice_cmp nat_cmp) x y ≡ true)
 eq_is_same x y = Decides-at (eq_by_cmp (slice_cmp nat_cmp) x y) (bytes_eq x y) (is_eq-slice_cmp x y) (bytes_eq-Decides x y)
 
 -- names in strict order are apart

@@ -1,12 +1,12 @@
 -- How often each name is in a list of names (own).
 use Rattle.std.specs.Prelude.{◌≡◌, ℕ, List, count_by, unwrap_or}
 use Rattle.std.specs.Str.{bytes_eq}
-use Rattle.indexmap.specs.IndexMap.{get_by}
+use Rattle.name_tables.specs.Names.{at}
 use Rattle.unit_order.specs.declared.counts.Counts.{Counts}
 
 -- how often a name is counted
 abbrev pub count_of : Counts → List ℕ → ℕ
-count_of counts name = unwrap_or (get_by (λ key. bytes_eq name key.items) counts.map) 0
+count_of counts name = unwrap_or (at counts.numbers name) 0
 
 -- each name is counted as often as it is in the list
 abbrev pub AreCounts : Counts → List (List ℕ) → Type 0

@@ -1,6 +1,9 @@
 -- The needs of the units of a list, as a table and as lists of positions (own).
-use Rattle.std.specs.Prelude.{◌≡◌, ℕ, ◌+◌, ◌<◌, List, [], ◌∷◌, Bool, All, cond, count_by, get_or, length, map, nat_eq}
+use Rattle.std.specs.Prelude.{◌≡◌, ◌&&◌, ℕ, ◌+◌, ◌<◌, List, [], ◌∷◌, Bool, All, Some, cond, count_by, get_or, length, map, nat_eq, not}
 use Rattle.std.specs.List.{list_any}
+use Rattle.std.specs.Str.{bytes_eq}
+use Rattle.name_tables.specs.declared.names.Names.{Names}
+use Rattle.name_tables.specs.Names.{at}
 use Rattle.ml_syntax.specs.Tree.{UnitTree}
 use Rattle.unit_order.specs.Order.{needs_unit}
 use Rattle.unit_order.specs.Positions.{unit_at}
@@ -8,6 +11,15 @@ use Rattle.unit_order.specs.Positions.{unit_at}
 -- for each unit a row, which says of each whether it is needed
 abbrev pub need_table : List UnitTree → List (List Bool)
 need_table units = map (λ u. map (λ v. needs_unit u v.name) units) units
+
+-- a table has the position of each of these names, and no other name
+pub record ArePositions (positions : Names ℕ) (names : List (List ℕ)) : Type 0 where
+  pub found : (p : ℕ) → p < length names → at positions (get_or names p []) ≡ Some p
+  pub named : (x : List ℕ) (p : ℕ) → at positions x ≡ Some p → (p < length names) × (get_or names p [] ≡ x)
+
+-- a head is the name of a unit, and not that of the unit that has the head
+abbrev pub is_other_head : List ℕ → List ℕ → List ℕ → Bool
+is_other_head own name head = bytes_eq head name && not (bytes_eq head own)
 
 -- the positions at which a row says so, counted from one on
 abbrev pub positions_from : ℕ → List Bool → List ℕ

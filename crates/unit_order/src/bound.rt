@@ -9,7 +9,7 @@ use std::alloc::Global;
 use std::marker::Model;
 
 /// The names of modules that are bound around a tree, the innermost last. Contracts see it as their list. A look-up
-/// costs a hash of the name, however many names are bound.
+/// does not walk the list.
 #[derive(Drop)]
 pub struct Bound {
     names: Vec<Name>,
@@ -66,7 +66,7 @@ impl Bound {
         }
     }
 
-    /// Keeps the first `len` names. It costs a hash for each name that goes, and takes no memory.
+    /// Keeps the first `len` names. It costs a look-up for each name that goes, and takes no memory.
     pub fn cut(&mut self, len: usize)
         ensures { self.new ≡ take len self.old }
     {

@@ -4,14 +4,14 @@ ghost use Rattle.std.specs.Prelude.{◌≡◌, ◌<◌, ◌++◌, ◌∷◌, [],
 ghost use Rattle.unit_order.specs.Counts.{AreCounts, count_of};
 ghost use Rattle.unit_order.specs.Heads.{is_among};
 
-use indexmap::IndexMap;
+use name_tables::Names;
 use rotor_base::Memory;
 use std::alloc::Global;
 
-/// How often each name is in a list. A look-up costs a hash of the name, however long the list is.
+/// How often each name is in a list. A look-up does not walk the list.
 #[derive(Drop)]
 pub struct Counts {
-    map: IndexMap<Vec<u8>, usize>,
+    numbers: Names<usize>,
 }
 
 impl Counts {
@@ -20,7 +20,7 @@ impl Counts {
         ensures { AreCounts result [] }
     {
         Counts {
-            map: IndexMap::new(alloc),
+            numbers: Names::new(alloc),
         }
     }
 
@@ -28,7 +28,7 @@ impl Counts {
     fn get(&self, name: &[u8]) -> usize
         ensures { result ≡ count_of self.now name.now }
     {
-        self.map.get(name).copied().unwrap_or(0)
+        self.numbers.get(name).unwrap_or(0)
     }
 
     /// Whether a name is in the list.
@@ -45,8 +45,7 @@ impl Counts {
         ensures kept { OnErr result ((list : List (List ℕ)) → AreCounts self.old list → AreCounts self.new list) }
     {
         let more = self.get(name) + 1;
-        let key = Vec::from_slice(alloc, name)?;
-        self.map.insert(key, more)?;
+        self.numbers.put(alloc, name, more)?;
         Ok(())
     }
 
@@ -54,9 +53,8 @@ impl Counts {
     pub fn take_out(&mut self, name: &[u8])
         ensures { (list : List (List ℕ)) → AreCounts self.old (list ++ name.now ∷ []) → AreCounts self.new list }
     {
-        let fewer = self.get(name).saturating_sub(1);
-        if let Some(count) = self.map.get_mut(name) {
-            *count = fewer;
+        if let Some(count) = self.numbers.get(name) {
+            self.numbers.set(name, Some(count.saturating_sub(1)));
         }
     }
 }

@@ -1,69 +1,90 @@
 //! Which units need which.
 
-ghost use Rattle.std.specs.Prelude.{◌≡◌, ◌&&◌, ◌+◌, ◌<◌, ℕ, List, IfOk, OnOk, All, cond, count_by, length, map, nat_eq, not};
+ghost use Rattle.std.specs.Prelude.{◌≡◌, ◌||◌, ◌+◌, ◌<◌, ℕ, List, [], IfOk, OnOk, All, cond, count_by, false, get_or, length, map, nat_eq};
 ghost use Rattle.ml_syntax.specs.View.{view_unit};
-ghost use Rattle.std.specs.Str.{bytes_eq};
-ghost use Rattle.unit_order.specs.Counts.{AreCounts};
-ghost use Rattle.unit_order.specs.Heads.{is_among, unit_heads};
+ghost use Rattle.std.specs.List.Sorted.{IsStrictlySortedBy};
+ghost use Rattle.std.specs.Ordering.{nat_cmp};
+ghost use Rattle.std.specs.Cmp.Lexicographic.{slice_cmp};
 ghost use Rattle.unit_order.specs.Order.{needs_unit};
 ghost use Rattle.unit_order.specs.Positions.{views};
-ghost use Rattle.unit_order.specs.Needs.{need_table, positions_from, times};
+ghost use Rattle.unit_order.specs.Needs.{ArePositions, is_other_head, need_table, positions_from, times};
 
-use crate::counts::Counts;
 use crate::unit_needs::needs;
 use ml_syntax::UnitTree;
-use rotor_base::{Memory, Name};
+use name_tables::Names;
+use rotor_base::Memory;
 use std::alloc::Global;
 
 /// For each unit, the positions of those that it needs, in ascending order.
 pub fn need_lists(alloc: Global, units: &[UnitTree]) -> Result<Vec<Vec<usize>>, Memory>
+    requires sorted { IsStrictlySortedBy (slice_cmp nat_cmp) (map (λ unit. unit.name) units.now) }
     ensures { IfOk result (λ lists. map (λ list. list.items) lists.items ≡ map (positions_from 0) (need_table (views units.now))) }
 {
+    let positions = unit_positions(alloc, units)?;
     let mut lists = Vec::new(alloc);
     for unit in units {
-        lists.push(need_list(alloc, unit, units)?)?;
+        let row = need_row(alloc, unit, units, &positions)?;
+        lists.push(positions_in(alloc, &row)?)?;
     }
     Ok(lists)
 }
 
-/// The positions of the units that one needs.
-fn need_list(alloc: Global, unit: &UnitTree, units: &[UnitTree]) -> Result<Vec<usize>, Memory>
-    ensures { IfOk result (λ list. list.items ≡ positions_from 0 (map (λ v. needs_unit (view_unit unit.now) v.name) units.now)) }
+/// The position of each unit by its name.
+fn unit_positions(alloc: Global, units: &[UnitTree]) -> Result<Names<usize>, Memory>
+    requires sorted { IsStrictlySortedBy (slice_cmp nat_cmp) (map (λ unit. unit.name) units.now) }
+    ensures { IfOk result (λ positions. ArePositions positions (map (λ unit. unit.name) units.now)) }
 {
-    let heads = head_counts(alloc, unit)?;
-    let mut list = Vec::new(alloc);
+    let mut positions = Names::new(alloc);
     for at in 0..units.len() {
-        if is_needed(&heads, unit.name.as_bytes(), units[at].name.as_bytes()) {
+        positions.put(alloc, units[at].name.as_bytes(), at)?;
+    }
+    Ok(positions)
+}
+
+/// Of each unit, whether one needs it.
+fn need_row(
+    alloc: Global,
+    unit: &UnitTree,
+    units: &[UnitTree],
+    positions: &Names<usize>,
+) -> Result<Vec<bool>, Memory>
+    requires { ArePositions positions.now (map (λ unit. unit.name) units.now) }
+    ensures { IfOk result (λ row. row.items ≡ map (λ v. needs_unit (view_unit unit.now) v.name) units.now) }
+{
+    let heads = needs(alloc, unit)?;
+    let mut row = vec![in alloc; false; units.len()]?;
+    for head in &heads {
+        mark_head(&mut row, positions, unit.name.as_bytes(), head.as_bytes());
+    }
+    Ok(row)
+}
+
+/// Marks the unit of a head, if it is not the unit that has the head.
+fn mark_head(row: &mut [bool], positions: &Names<usize>, own: &[u8], head: &[u8])
+    ensures size { length row.new ≡ length row.old }
+    ensures marked { (names : List (List ℕ)) → ArePositions positions.now names → length row.old ≡ length names → (p : ℕ) → p < length names → get_or row.new p false ≡ (get_or row.old p false || is_other_head own.now (get_or names p []) head.now) }
+{
+    if head == own {
+        return;
+    }
+    if let Some(at) = positions.get(head) {
+        if at < row.len() {
+            row[at] = true;
+        }
+    }
+}
+
+/// The positions that are marked in a row.
+fn positions_in(alloc: Global, row: &[bool]) -> Result<Vec<usize>, Memory>
+    ensures { IfOk result (λ list. list.items ≡ positions_from 0 row.now) }
+{
+    let mut list = Vec::new(alloc);
+    for at in 0..row.len() {
+        if row[at] {
             list.push(at)?;
         }
     }
     Ok(list)
-}
-
-/// How often each name is in a list.
-fn counts_of(alloc: Global, names: &[Name]) -> Result<Counts, Memory>
-    ensures { IfOk result (λ counts. AreCounts counts names.now) }
-{
-    let mut counts = Counts::new(alloc);
-    for name in names {
-        counts.add(alloc, name.as_bytes())?;
-    }
-    Ok(counts)
-}
-
-/// How often each name is a head of a unit.
-fn head_counts(alloc: Global, unit: &UnitTree) -> Result<Counts, Memory>
-    ensures { IfOk result (λ counts. AreCounts counts (unit_heads (view_unit unit.now))) }
-{
-    let heads = needs(alloc, unit)?;
-    counts_of(alloc, &heads)
-}
-
-/// Whether a name is one of the heads that are counted, and not the unit's own.
-fn is_needed(heads: &Counts, own: &[u8], name: &[u8]) -> bool
-    ensures { (names : List (List ℕ)) → AreCounts heads.now names → result ≡ (is_among names name.now && not (bytes_eq name.now own.now)) }
-{
-    heads.contains(name) && name != own
 }
 
 /// For each unit, the positions of those that need it.

@@ -1,7 +1,7 @@
 use Rattle.std.proofs.Common.{◌≡◌, ℕ, ◌+◌, sym, subst, List, get_or, Option, Some, bytes_eq, if◌then◌else◌}
 use Rattle.std.proofs.lemmas.List.{get_or_default}
 use Rattle.rotor_base.specs.declared.place.Place.{Place}
-use Rattle.shape_core.specs.Names.{at}
+use Rattle.name_tables.specs.Names.{at}
 use Rattle.capture_check.specs.declared.fault.Repeat.{Repeat}
 use Rattle.capture_check.specs.Firsts.{repeat_of, lesser}
 use Rattle.capture_check.specs.Tables.{named}

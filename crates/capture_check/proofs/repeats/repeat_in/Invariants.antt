@@ -1,4 +1,4 @@
-use Rattle.shape_core.specs.Names.{at}
+use Rattle.name_tables.specs.Names.{at}
 use Rattle.capture_check.specs.Tables.{named}
 use Rattle.capture_check.proofs.Groups.{Scans}
 use Rattle.capture_check.proofs.repeats.repeat_in.Given as goal

@@ -1,4 +1,4 @@
-use Rattle.std.proofs.Common.{◌≡◌, nat_lt, sym, ap, ◌∙◌}
+use Rattle.std.proofs.Common.{nat_lt, ap, ◌∙◌}
 use Rattle.std.specs.Str.{bytes_eq}
 use Rattle.unit_order.proofs.Counted.{some_pass}
 use Rattle.unit_order.proofs.counts.Counts.contains.Goals as goal

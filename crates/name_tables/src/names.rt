@@ -1,16 +1,16 @@
-//! What is known by name.
+//! Values by name. The names are ordered and not hashed, so no choice of names makes a look-up slow.
 
 ghost use Rattle.std.specs.Prelude.{◌≡◌, IfOk, OnOk, OnErr, IsSome, if◌then◌else◌, None, ℕ, List, bytes_eq};
-ghost use Rattle.shape_core.specs.Names.{at};
+ghost use Rattle.name_tables.specs.Names.{at};
 
-use indexmap::IndexMap;
 use rotor_base::Memory;
 use std::alloc::Global;
+use std::collections::BTreeMap;
 
-/// A value for each of some names. A look-up costs a hash of the name.
+/// A value for each of some names. A look-up compares the name with as many others as the number of names has digits.
 #[derive(Drop)]
 pub struct Names<V: Copy> {
-    map: IndexMap<Vec<u8>, V>,
+    map: BTreeMap<Vec<u8>, V>,
 }
 
 impl<V: Copy> Names<V> {
@@ -19,7 +19,7 @@ impl<V: Copy> Names<V> {
         ensures { (x : List ℕ) → at result x ≡ None }
     {
         Names {
-            map: IndexMap::new(alloc),
+            map: BTreeMap::new(alloc),
         }
     }
 
@@ -40,14 +40,14 @@ impl<V: Copy> Names<V> {
         Ok(self.map.insert(key, value)?)
     }
 
-    /// Gives a name that has a value the one that it had before, or none.
-    pub fn restore(&mut self, name: &[u8], before: Option<V>)
+    /// Gives a name that has a value another one, or none. It takes no memory.
+    pub fn set(&mut self, name: &[u8], value: Option<V>)
         requires { IsSome (at self.old name.now) }
-        ensures { (x : List ℕ) → at self.new x ≡ (if bytes_eq name.now x then before else at self.old x) }
+        ensures { (x : List ℕ) → at self.new x ≡ (if bytes_eq name.now x then value else at self.old x) }
     {
-        match before {
+        match value {
             None => {
-                self.map.swap_remove(name);
+                self.map.remove(name);
             }
             Some(value) => {
                 if let Some(place) = self.map.get_mut(name) {

@@ -1,14 +1,14 @@
 use Rattle.std.proofs.Common.{◌≡◌, sym, Some, ℕ, List, subst, Option}
 use Rattle.std.specs.Prelude.{bytes_eq, if◌then◌else◌}
-use Rattle.shape_core.specs.Names.{at}
-use Rattle.shape_core.proofs.NameTables.{updated}
-use Rattle.shape_core.proofs.names.Names.restore.Goals as goal
+use Rattle.name_tables.specs.Names.{at}
+use Rattle.name_tables.proofs.Updates.{updated}
+use Rattle.name_tables.proofs.names.Names.set.Goals as goal
 
 pub returns-in-None : goal.returns-in-None
 returns-in-None g c =
-    let h = updated c.args.self.now.map c.swap_remove.new.self c.args.name.now _ c.swap_remove.ensures.updates in
+    let h = updated c.args.self.now.map c.remove.new.self c.args.name.now _ c.remove.ensures.updates in
     subst (λ (o : Option g.row.V.Denot). (x : List ℕ)
-    → at (record { map = c.swap_remove.new.self }) x ≡ (if bytes_eq c.args.name.now x then o else at c.args.self.now x)) (sym c.in-None.is) h
+    → at (record { map = c.remove.new.self }) x ≡ (if bytes_eq c.args.name.now x then o else at c.args.self.now x)) (sym c.in-None.is) h
 
 pub returns-in-Some-get_mut : goal.returns-in-Some-get_mut
 returns-in-Some-get_mut g c =

@@ -1,8 +1,8 @@
-use Rattle.shape_core.proofs.NameTables.{updated}
+use Rattle.name_tables.proofs.Updates.{updated}
 use Rattle.std.proofs.Common.{◌≡◌, ℕ, List, subst, Some}
-use Rattle.shape_core.specs.Names.{at}
+use Rattle.name_tables.specs.Names.{at}
 use Rattle.std.specs.Prelude.{bytes_eq, if◌then◌else◌}
-use Rattle.shape_core.proofs.names.Names.put.Goals as goal
+use Rattle.name_tables.proofs.names.Names.put.Goals as goal
 
 pub returns-clause-put : goal.returns-clause-put
 returns-clause-put g c =
