@@ -1,0 +1,4 @@
+pub mod SmallParts
+pub mod Leaves
+pub mod HaveIn
+pub mod Scan

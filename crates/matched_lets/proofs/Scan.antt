@@ -1,0 +1,103 @@
+-- The search for the `in` of a `let`.
+use Rattle.std.proofs.Common.{◌≡◌, ℕ, zero, suc, ◌+◌, ◌-◌, ◌<◌, ◌≤◌, List, [], ◌∷◌, ◌==◌, length, Bool, true, false, cond, Option, Some, None, refl, sym, ap, ◌∙◌}
+use Rattle.std.proofs.Common.{arith}
+use Rattle.std.proofs.lemmas.Bool.{eqb-true}
+use Rattle.rotor_base.specs.declared.token.Token.{Token}
+use Rattle.ml_syntax.specs.declared.fixed.Fixed.TheVariants as key
+use Rattle.ml_syntax.specs.Tok.{Tok, placed, fixed_at}
+use Rattle.parse_base.specs.declared.tokens.Kind.{Kind}
+use Rattle.parse_base.specs.declared.tokens.Kind.TheVariants as kind
+use Rattle.parse_base.specs.Gives.{Sees, IsThere, starts}
+use Rattle.parse_base.specs.Tokens.{from}
+use Rattle.parse_base.proofs.Places.{from_end}
+use Rattle.parse_base.proofs.Stepping.{some_is}
+use Rattle.matched_lets.specs.Matching.{open_ins, lacks_in, still_open}
+
+-- the first `let` has its `in` among the tokens behind it exactly if so many `let` and it have theirs here
+pub record Wants (more : ℕ) (here behind : List Tok) : Type 0 where
+  pub on : more < open_ins here → 0 < open_ins behind
+  pub back : 0 < open_ins behind → more < open_ins here
+
+none_some : (n : ℕ) → None ≡ Some n → ⊥
+none_some n q = absurd cc
+
+positive : (n : ℕ) → (n == 0) ≡ false → 0 < n
+positive zero e = absurd cc
+positive (suc n) e = omega arith
+
+less : (n now : ℕ) → cond {A = Option ℕ} (n == 0) None (Some (n - 1)) ≡ Some now → (0 < n) × (now ≡ n - 1)
+less n now e = by (n == 0) refl e
+  where
+    by : (b : Bool) → (n == 0) ≡ b → cond {A = Option ℕ} b None (Some (n - 1)) ≡ Some now → (0 < n) × (now ≡ n - 1)
+    by true h q = absurd (none_some now q)
+    by false h q = (positive n h, sym (some_is q))
+
+pub still : (k : Kind) (at : ℕ) (text : List ℕ) (here next behind : List Tok) (more now n m : ℕ) → Sees k at text here next → IsThere k m n → m < n
+    → still_open k more ≡ Some now → Wants more here behind → Wants now next behind
+still (kind.Fixed key.Let) at text here next behind more now n m s t lt e w =
+    let q : more + 1 ≡ now = some_is e in
+    record {
+      on = λ l. w.on (omega (arith, ap open_ins s, q, l));
+      back = λ l. omega (arith, ap open_ins s, q, w.back l);
+    }
+still (kind.Fixed key.In) at text here next behind more now n m s t lt e w =
+    let q = less more now e in
+    record {
+      on = λ l. w.on (omega (arith, ap open_ins s, q.0, q.1, l));
+      back = λ l. omega (arith, ap open_ins s, q.0, q.1, w.back l);
+    }
+still (kind.Fixed _) at text here next behind more now n m s t lt e w =
+    let q : more ≡ now = some_is e in
+    record {
+      on = λ l. w.on (omega (arith, ap open_ins s, q, l));
+      back = λ l. omega (arith, ap open_ins s, q, w.back l);
+    }
+still (kind.Word c) at text here next behind more now n m s t lt e w =
+    let q : more ≡ now = some_is e in
+    record {
+      on = λ l. w.on (omega (arith, ap open_ins s, q, l));
+      back = λ l. omega (arith, ap open_ins s, q, w.back l);
+    }
+still kind.End at text here next behind more now n m s t lt e w = absurd (omega (arith, t, lt))
+
+pub not_begun : (ts : List Tok) → false ≡ starts key.Let ts → false ≡ lacks_in ts
+not_begun [] e = refl
+not_begun (placed key.Let at ∷ ts) e = absurd cc
+not_begun (_ ∷ ts) e = refl
+
+some_left : (n : ℕ) → 0 < n → false ≡ (n == 0)
+some_left n lt = by (n == 0) refl
+  where
+    by : (b : Bool) → (n == 0) ≡ b → false ≡ (n == 0)
+    by true h = absurd (omega (arith, eqb-true n 0 h, lt))
+    by false h = sym h
+
+none_left : (n : ℕ) → (0 < n → ⊥) → true ≡ (n == 0)
+none_left n never = by (n == 0) refl
+  where
+    by : (b : Bool) → (n == 0) ≡ b → true ≡ (n == 0)
+    by true h = sym h
+    by false h = absurd (never (positive n h))
+
+-- the token is the `in` that is looked for
+found : (k : Kind) (at : ℕ) (text : List ℕ) (here next : List Tok) (more : ℕ) → Sees k at text here next → still_open k more ≡ None
+    → more < open_ins here
+found (kind.Fixed key.Let) at text here next more s e = absurd (none_some (more + 1) (sym e))
+found (kind.Fixed key.In) at text here next more s e = by (more == 0) refl e
+  where
+    by : (b : Bool) → (more == 0) ≡ b → cond {A = Option ℕ} b None (Some (more - 1)) ≡ None → more < open_ins here
+    by true h q = omega (arith, eqb-true more 0 h, ap open_ins s)
+    by false h q = absurd (none_some (more - 1) (sym q))
+found (kind.Fixed _) at text here next more s e = absurd (none_some more (sym e))
+found (kind.Word c) at text here next more s e = absurd (none_some more (sym e))
+found kind.End at text here next more s e = absurd (none_some more (sym e))
+
+pub has_in : (k : Kind) (at at' : ℕ) (text : List ℕ) (whole here next behind : List Tok) (more : ℕ) → Sees k at text here next
+    → still_open k more ≡ None → Wants more here behind → whole ≡ fixed_at at' key.Let ∷ behind → false ≡ lacks_in whole
+has_in k at at' text whole here next behind more s e w b =
+    some_left (open_ins behind) (w.on (found k at text here next more s e)) ∙ sym (ap lacks_in b)
+
+pub has_none : (ts : List Token) (at next more : ℕ) → length ts ≤ next → Wants more (from ts next) (from ts (at + 1))
+    → from ts at ≡ fixed_at (at + 1) key.Let ∷ from ts (at + 1) → true ≡ lacks_in (from ts at)
+has_none ts at next more le w b =
+    none_left (open_ins (from ts (at + 1))) (λ l. omega (arith, w.back l, ap open_ins (from_end ts next le))) ∙ sym (ap lacks_in b)

@@ -1,0 +1,7 @@
+use Rattle.std.proofs.Common.{rules, arith}
+use Rattle.matched_lets.proofs.Scan.{has_none}
+use Rattle.matched_lets.proofs.matching.lacks_in.Goals as goal
+
+pub returns : goal.returns
+returns c = has_none c.args.tokens.now c.args.at c.loop-next.next c.loop-next.more (omega (arith, c.loop-next-test.false))
+    c.loop-next.invariant.wants (c.is.ensures.there (search rules))
