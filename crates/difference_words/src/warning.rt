@@ -1,9 +1,9 @@
 //! The warning of a place.
 ghost use Rattle.std.specs.Prelude.{◌≡◌, IfOk, map};
 ghost use Rattle.refusal_words.specs.Cut.{view_cut};
-ghost use Rattle.difference_words.specs.Warning.{applied as applied_of, commented as commented_of, index_help as index_help_of, index_text as index_text_of, indexed as indexed_of, late as late_of, module_of, form_of, warned, warning_of as warning_for};
+ghost use Rattle.difference_words.specs.Warning.{applied as applied_of, commented as commented_of, index_help as index_help_of, index_text as index_text_of, indexed as indexed_of, late as late_of, module_of, form_of, opened as opened_of, opened_note as opened_note_of, opened_text as opened_text_of, opened_words as opened_words_of, warned, warning_of as warning_for};
 
-use messages::{Kind, Message, Severity, Spot, joined};
+use messages::{Kind, Message, Note, Severity, Spot, joined, spot_text};
 use reading_differences::{Difference, Indexed, Parting};
 use refusal_words::{CutSource, byte_spot, place_spot};
 use rotor_base::{Memory, Place, Row};
@@ -20,6 +20,11 @@ pub fn warning_of(
     let at = difference.at;
     match &difference.how {
         Parting::Indexing(form) => indexed(alloc, cuts, at, *form),
+        Parting::Opened {
+            name,
+            by,
+            is_outside,
+        } => opened(alloc, cuts, at, name.as_bytes(), *by, *is_outside),
         Parting::Types(argument) => applied(alloc, cuts, at, argument.as_bytes()),
         Parting::Comment(offset) => commented(alloc, cuts, at, *offset),
         Parting::Order { unit, needed } => {
@@ -102,6 +107,72 @@ fn form_text(form: Indexed) -> &'static [u8]
     match form {
         Indexed::Array => b"a.(i)",
         Indexed::String => b"s.[i]",
+    }
+}
+
+/// The warning of a module that is used behind the opening of a module that may be outside.
+fn opened(
+    alloc: Global,
+    cuts: &[CutSource<'_>],
+    at: Place,
+    name: &[u8],
+    by: Place,
+    is_outside: bool,
+) -> Result<Message, Memory>
+    ensures { IfOk result (λ message. message ≡ opened_of (map view_cut cuts.now) at name.now by is_outside) }
+{
+    let opening = place_spot(alloc, cuts, by)?;
+    let opening = spot_text(alloc, &opening)?;
+    let mut notes = Row::new(alloc);
+    notes.push(opened_note(alloc, cuts, by, is_outside)?)?;
+    Ok(Message {
+        severity: Severity::Warning,
+        kind: Kind::Opened,
+        text: opened_text(alloc, opening.as_slice(), name)?,
+        at: Some(place_spot(alloc, cuts, at)?),
+        notes,
+        help: None,
+    })
+}
+
+/// The sentence of an opening and the name of a module.
+fn opened_text<'a>(alloc: Global, by: &'a [u8], name: &'a [u8]) -> Result<Row<u8>, Memory>
+    ensures { IfOk result (λ text. text ≡ opened_text_of by.entry.now name.entry.now) }
+{
+    joined(
+        alloc,
+        &[
+            b"if the module opened at ",
+            by,
+            b" has a module `",
+            name,
+            b"` of its own, OCaml means that one",
+        ],
+    )
+}
+
+/// The note on the place of an opening.
+fn opened_note(
+    alloc: Global,
+    cuts: &[CutSource<'_>],
+    by: Place,
+    is_outside: bool,
+) -> Result<Note, Memory>
+    ensures { IfOk result (λ note. note ≡ opened_note_of (map view_cut cuts.now) by is_outside) }
+{
+    let at = place_spot(alloc, cuts, by)?;
+    let text = Row::from_vec(opened_words(is_outside).to_vec(alloc)?);
+    Ok(Note { at, text })
+}
+
+/// What is said of an opening.
+fn opened_words(is_outside: bool) -> &'static [u8]
+    ensures { result.now ≡ opened_words_of is_outside }
+{
+    if is_outside {
+        b"opened here, from outside the folder"
+    } else {
+        b"opened here"
     }
 }
 

@@ -1,6 +1,6 @@
 -- The places at which OCaml may read a project otherwise than the book (its decisions, "Where this reading differs from
 -- OCaml's own").
-use Rattle.std.specs.Prelude.{◌≡◌, ℕ, ◌+◌, List, [], ◌∷◌, ◌++◌, Bool, true, false, is_some}
+use Rattle.std.specs.Prelude.{◌≡◌, ℕ, ◌+◌, List, [], ◌∷◌, ◌++◌, Bool, true, false, is_some, map}
 use Rattle.rotor_base.specs.Files.{FileSet}
 use Rattle.rotor_base.specs.declared.source.SourceFile.{SourceFile}
 use Rattle.ml_lexer.specs.Lexed.{Lexeme}
@@ -11,10 +11,13 @@ use Rattle.project_reading.specs.Sources.{AreCut}
 use Rattle.reading_differences.specs.Applied.{applications_in}
 use Rattle.reading_differences.specs.Comments.{comments_in}
 use Rattle.reading_differences.specs.Indexed.{indexing}
+use Rattle.module_openings.specs.Opened.{opened_modules}
+use Rattle.module_openings.specs.Sources.{lexemes_of}
+use Rattle.module_openings.specs.declared.opened.OpenedUse.{OpenedUse}
 use Rattle.reading_differences.specs.Late.{late_needs}
-use Rattle.reading_differences.specs.Sources.{lexemes_of}
 use Rattle.reading_differences.specs.declared.difference.Difference.{Difference}
 use Rattle.reading_differences.specs.declared.difference.Indexed.TheVariants.{Array, String}
+use Rattle.reading_differences.specs.declared.difference.Parting.TheVariants.{Opened}
 
 -- the functors that are applied in types, of sources from this number on
 abbrev pub applications : ℕ → List (List Lexeme) → List Difference
@@ -31,10 +34,15 @@ abbrev pub late_if : Bool → List (List Lexeme) → List UnitTree → List Diff
 late_if true lists us = late_needs lists us
 late_if false lists us = []
 
+-- the use of a module behind an opening
+abbrev pub opened_use : OpenedUse → Difference
+opened_use u = record { at = u.at; how = Opened u.name u.by u.is_outside }
+
 -- of all kinds
 abbrev pub found_among : Bool → List SourceFile → List UnitTree → List (List Lexeme) → List Difference
 found_among listed sources us lists =
-    indexing Array lists us ++ indexing String lists us ++ applications 0 lists ++ comments lists 0 sources ++ late_if listed lists us
+    indexing Array lists us ++ indexing String lists us ++ map opened_use (opened_modules lists us) ++ applications 0 lists
+    ++ comments lists 0 sources ++ late_if listed lists us
 
 -- in the order of their places
 abbrev pub differences_of : FileSet → List UnitTree → List (List Lexeme) → List Difference

@@ -6,8 +6,8 @@ use Rattle.rotor_base.specs.declared.place.Place.{Place}
 use Rattle.ml_lexer.specs.Lexed.{Lexeme}
 use Rattle.ml_syntax.specs.Tree.{FileTree, UnitTree}
 use Rattle.binding_model.specs.Facts.{earlier}
-use Rattle.reading_differences.specs.Lexemes.{is, is_lower, is_upper}
-use Rattle.reading_differences.specs.Sources.{file_of, lexemes_of}
+use Rattle.module_openings.specs.Lexemes.{is, is_lower, is_upper}
+use Rattle.module_openings.specs.Sources.{file_of, lexemes_of}
 use Rattle.reading_differences.specs.declared.difference.Difference.{Difference}
 use Rattle.reading_differences.specs.declared.difference.Indexed.{Indexed}
 use Rattle.reading_differences.specs.declared.difference.Indexed.TheVariants as form

@@ -6,8 +6,8 @@ use Rattle.ml_lexer.specs.Lexed.{Lexeme}
 use Rattle.ml_syntax.specs.Tree.{FileTree, UnitTree}
 use Rattle.unit_order.specs.Heads.{is_among, unit_heads}
 use Rattle.shape_core.specs.Shape.{or_else}
-use Rattle.reading_differences.specs.Lexemes.{is, is_upper}
-use Rattle.reading_differences.specs.Sources.{file_of, lexemes_of}
+use Rattle.module_openings.specs.Lexemes.{is, is_upper}
+use Rattle.module_openings.specs.Sources.{file_of, lexemes_of}
 use Rattle.reading_differences.specs.declared.difference.Difference.{Difference}
 use Rattle.reading_differences.specs.declared.difference.Parting.TheVariants.{Order}
 

@@ -1,5 +1,3 @@
-pub mod Lexemes
-pub mod Sources
 pub mod Comments
 pub mod Applied
 pub mod Late

@@ -6,7 +6,7 @@ ghost use Rattle.ml_lexer.specs.Lexed.{view_token, view_tokens};
 ghost use Rattle.reading_differences.specs.Applied.{application, applications_in, applied_to as applied_to_of, argument_behind as argument_behind_of, argument_in as argument_in_of, begins_field as begins_field_of, begins_module as begins_module_of};
 
 use crate::difference::{Difference, Parting};
-use crate::lexemes::{is_lower, is_upper, is_word};
+use module_openings::{is_lower, is_upper, is_word};
 use rotor_base::{Memory, Name, Place, Token};
 use std::alloc::Global;
 

@@ -7,10 +7,8 @@ mod comments;
 mod difference;
 mod indexed;
 mod late;
-mod lexemes;
 mod parts;
 mod project;
-mod sources;
 
 pub use difference::{Difference, Indexed, Parting};
 pub use project::differences;

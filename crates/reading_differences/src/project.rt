@@ -6,17 +6,19 @@ ghost use Rattle.ml_syntax.specs.View.{view_project, view_unit};
 ghost use Rattle.binding_model.specs.Facts.{in_order};
 ghost use Rattle.project_reading.specs.Sources.{AreCut};
 ghost use Rattle.reading_differences.specs.Comments.{comments_in};
-ghost use Rattle.reading_differences.specs.Sources.{lexemes_of};
-ghost use Rattle.reading_differences.specs.Differences.{applications, comments, differences_of, found_among, late_if};
+ghost use Rattle.module_openings.specs.Sources.{lexemes_of};
+ghost use Rattle.module_openings.specs.Opened.{opened_modules};
+ghost use Rattle.reading_differences.specs.Differences.{applications, comments, differences_of, found_among, late_if, opened_use as opened_use_of};
 
 use crate::applied::add_applications;
 use crate::comments::add_comments;
-use crate::difference::{Difference, Indexed};
+use crate::difference::{Difference, Indexed, Parting};
 use crate::indexed::add_indexing;
 use crate::late::add_late_needs;
 use ml_syntax::UnitTree;
+use module_openings::{OpenedUse, opened_uses};
 use project_reading::Read;
-use rotor_base::{Files, Memory, Row, SourceFile, Token};
+use rotor_base::{Files, Memory, Name, Row, SourceFile, Token};
 use std::alloc::Global;
 
 /// The places at which OCaml may read a project otherwise, in order, over the files and what they are read as. The one
@@ -63,6 +65,7 @@ fn found_differences(
     let mut found = Vec::new(alloc);
     add_indexing(alloc, &mut found, Indexed::Array, sources, units)?;
     add_indexing(alloc, &mut found, Indexed::String, sources, units)?;
+    add_opened(alloc, &mut found, sources, units)?;
     add_all_applications(alloc, &mut found, sources)?;
     add_all_comments(&mut found, files, sources)?;
     add_listed(alloc, &mut found, is_listed, sources, units)?;
@@ -84,6 +87,35 @@ fn add_listed(
         return add_late_needs(alloc, found, sources, units);
     }
     Ok(())
+}
+
+/// Adds the modules that are used behind the opening of a module that may be outside.
+fn add_opened(
+    alloc: Global,
+    found: &mut Vec<Difference>,
+    sources: &[Vec<Token<'_>>],
+    units: &[UnitTree],
+) -> Result<(), Memory>
+    requires { All (λ list. length list.items ≤ max_file_bytes) sources.now }
+    ensures { OnOk result (found.new.items ≡ found.old.items ++ map opened_use_of (opened_modules (map (λ list. view_tokens list.items) sources.now) (map view_unit units.now))) }
+{
+    let opened = opened_uses(alloc, sources, units)?;
+    for used in &opened {
+        found.push(opened_use(alloc, used)?)?;
+    }
+    Ok(())
+}
+
+/// The use of a module behind an opening.
+fn opened_use(alloc: Global, used: &OpenedUse) -> Result<Difference, Memory>
+    ensures { IfOk result (λ difference. difference ≡ opened_use_of used.now) }
+{
+    let how = Parting::Opened {
+        name: Name::new(alloc, used.name.as_bytes())?,
+        by: used.by,
+        is_outside: used.is_outside,
+    };
+    Ok(Difference { at: used.at, how })
 }
 
 /// Adds the functors that are applied in types, of the sources in order.

@@ -1,12 +1,12 @@
 //! The numbers of files.
 ghost use Rattle.std.specs.Prelude.{◌≡◌};
 ghost use Rattle.ml_syntax.specs.View.{view_file};
-ghost use Rattle.reading_differences.specs.Sources.{file_of};
+ghost use Rattle.module_openings.specs.Sources.{file_of};
 
 use ml_syntax::FileTree;
 
 /// The number of a file.
-pub(crate) fn file_number(tree: &FileTree) -> u32
+pub fn file_number(tree: &FileTree) -> u32
     ensures { result ≡ file_of (view_file tree.now) }
 {
     match tree {

@@ -1,0 +1,5 @@
+pub mod Lexemes
+pub mod Sources
+pub mod Names
+pub mod Opened
+pub mod Named

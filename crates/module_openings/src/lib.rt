@@ -1,0 +1,15 @@
+//! The openings of modules that may be outside a project, and the modules of the project that are used behind them. They
+//! are found in the tokens alone.
+#![tactic(auto)]
+
+mod lexemes;
+mod names;
+mod opened;
+mod opening;
+mod openings;
+mod sources;
+
+pub use lexemes::{is_lower, is_upper, is_word};
+pub use names::is_among;
+pub use opened::{OpenedUse, opened_uses};
+pub use sources::file_number;
