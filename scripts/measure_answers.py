@@ -4,8 +4,10 @@
 Usage: scripts/measure_answers.py ROTOR ROTOR_EXPLAIN [ROTOR_LSP]
 
 For each folder the script prints the processor time of ROTOR for `check`, `footprint` and a dry `rename`, and the ratio of
-ROTOR_EXPLAIN to it. Of ROTOR_LSP it prints the time of a first rename request, of a second one for the same bytes, and
-their ratios to the dry `rename`. Each time is the least of three runs. The script leaves nothing behind.
+ROTOR_EXPLAIN to it; of 1,000 sources for `verify` of two versions too. Of ROTOR_LSP it prints the time of a first rename
+request, of a second one for the same bytes, and their ratios to the dry `rename`. Each time is the least of five runs, and
+the two programs run in turn, so that both find the same machine. The last line has the greatest ratio of ROTOR_EXPLAIN.
+The script leaves nothing behind.
 """
 import json
 import os
@@ -15,7 +17,9 @@ import sys
 import tempfile
 import time
 
-RUNS = 3
+RUNS = 5
+# Of a folder of so many sources two versions are verified too.
+VERSIONS = 1_000
 
 
 def unit_text(number, lines):
@@ -33,15 +37,35 @@ def make_folder(folder, units, lines):
             it.write(unit_text(number, lines))
 
 
-def seconds_of(words, folder):
-    """The least processor time of some runs, and the status."""
-    least, status = float("inf"), None
+def make_versions(folder, units):
+    """Two lists of sources: those of the folder, and the same after a renaming."""
+    with open(os.path.join(folder, "old.list"), "w", encoding="utf-8") as old, open(os.path.join(folder, "new.list"), "w", encoding="utf-8") as new:
+        for number in range(units):
+            name = f"u{number}.ml"
+            old.write(f"{name} {name}\n")
+            new.write(f"{name} u{number}.new\n")
+            with open(os.path.join(folder, name), encoding="utf-8") as it:
+                text = it.read().replace("shared", "common_value")
+            with open(os.path.join(folder, f"u{number}.new"), "w", encoding="utf-8") as it:
+                it.write(text)
+
+
+def run_once(words, folder):
+    """The processor time of a run, and the status."""
+    before = resource.getrusage(resource.RUSAGE_CHILDREN)
+    status = subprocess.run(words, cwd=folder, stdout=subprocess.DEVNULL).returncode
+    after = resource.getrusage(resource.RUSAGE_CHILDREN)
+    return after.ru_utime + after.ru_stime - before.ru_utime - before.ru_stime, status
+
+
+def in_turn(programs, words, folder):
+    """The least processor time of each program over some runs in turn, and their statuses."""
+    least, statuses = [float("inf")] * len(programs), [None] * len(programs)
     for _ in range(RUNS):
-        before = resource.getrusage(resource.RUSAGE_CHILDREN)
-        status = subprocess.run(words, cwd=folder, stdout=subprocess.DEVNULL).returncode
-        after = resource.getrusage(resource.RUSAGE_CHILDREN)
-        least = min(least, after.ru_utime + after.ru_stime - before.ru_utime - before.ru_stime)
-    return least, status
+        for index, program in enumerate(programs):
+            seconds, statuses[index] = run_once([program] + words, folder)
+            least[index] = min(least[index], seconds)
+    return least, statuses
 
 
 class Server:
@@ -87,19 +111,25 @@ def measure(programs, units, lines):
         make_folder(folder, units, lines)
         size = sum(os.path.getsize(os.path.join(folder, name)) for name in os.listdir(folder))
         print(f"{units} sources, {size / 1e6:.1f} MB")
-        dry = None
-        for words in (["check"], ["footprint", "U0.shared"], ["rename", "U0.shared", "common_value"]):
-            one, status = seconds_of([rotor] + words, folder)
-            other, other_status = seconds_of([explain] + words, folder)
+        dry, greatest = None, 0.0
+        commands = [["check"], ["footprint", "U0.shared"], ["rename", "U0.shared", "common_value"]]
+        if units == VERSIONS:
+            make_versions(folder, units)
+            commands.append(["verify", "old.list", "new.list"])
+        for words in commands:
+            (one, other), (status, other_status) = in_turn([rotor, explain], words, folder)
             same = "" if status == other_status else f" (status {status} and {other_status})"
             print(f"  {words[0]:10} {one:.3f} s, explained {other:.3f} s: {other / one:.2f}{same}")
-            dry = one
+            greatest = max(greatest, other / one)
+            if words[0] == "rename":
+                dry = one
         if server:
             it = Server(server)
             for order in ("first", "second"):
                 spent, done = it.timed_rename(os.path.join(folder, "u0.ml"))
                 print(f"  {order} request to rename {spent:.2f} s: {spent / dry:.2f}" + ("" if done else " (an error)"))
             it.end()
+    return greatest
 
 
 def main():
@@ -107,8 +137,9 @@ def main():
         sys.exit(__doc__)
     programs = [os.path.abspath(it) for it in sys.argv[1:]]
     print(time.strftime("%Y-%m-%d"), os.uname().machine)
-    for units, lines in ((1, 8_000), (100, 100), (1_000, 35), (2_000, 35)):
-        measure(programs, units, lines)
+    loads = ((1, 8_000), (100, 100), (VERSIONS, 35), (2_000, 35))
+    greatest = max([measure(programs, units, lines) for units, lines in loads])
+    print(f"greatest ratio of the explanations: {greatest:.2f}")
 
 
 main()
