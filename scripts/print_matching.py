@@ -10,7 +10,7 @@ of its form in WellFormed.
 import re
 from pathlib import Path
 
-SYNTAX = Path(__file__).resolve().parent.parent / "crates" / "ml_syntax" / "specs"
+SYNTAX = Path(__file__).resolve().parent.parent / "crates" / "ml_trees" / "specs"
 
 # the functions that write out parts: the type of the part, the parameters before it, and what it has to be
 PARTS = {
@@ -283,12 +283,12 @@ def main():
         "-- The words of a tree take no `in` from behind it. Printed by scripts/print_matching.py from the clauses of Words.",
         "use Rattle.std.proofs.Common.{ℕ, ◌≤◌, List, ◌∷◌, ◌++◌, Bool, arith}",
         "use Rattle.rotor_base.specs.declared.token.Class.TheVariants as class",
-        "use Rattle.ml_syntax.specs.declared.fixed.Fixed.{Fixed}",
-        "use Rattle.ml_syntax.specs.declared.fixed.Fixed.TheVariants as key",
-        "use Rattle.ml_syntax.specs.Tok.{Tok, fixed, placed, word}",
-        imports("Rattle.ml_syntax.specs.Words", used("Words.antt")),
-        imports("Rattle.ml_syntax.specs.WellFormed", [n for n in used("WellFormed.antt")]),
-        imports("Rattle.ml_syntax.specs.Tree", trees),
+        "use Rattle.ml_trees.specs.declared.fixed.Fixed.{Fixed}",
+        "use Rattle.ml_trees.specs.declared.fixed.Fixed.TheVariants as key",
+        "use Rattle.ml_trees.specs.Tok.{Tok, fixed, placed, word}",
+        imports("Rattle.ml_trees.specs.Words", used("Words.antt")),
+        imports("Rattle.ml_trees.specs.WellFormed", [n for n in used("WellFormed.antt")]),
+        imports("Rattle.ml_trees.specs.Tree", trees),
         "use Rattle.matched_lets.specs.Matching.{open_ins}",
         imports("Rattle.matched_lets.proofs.SmallParts", small),
     ])

@@ -9,7 +9,7 @@ import re
 
 TOP = os.path.dirname(os.path.dirname(os.path.abspath(__file__)))
 EVENTS = f"{TOP}/crates/tree_walk/specs/Events.antt"
-TREE = f"{TOP}/crates/ml_syntax/specs/Tree.antt"
+TREE = f"{TOP}/crates/ml_trees/specs/Tree.antt"
 # phrases of words alone: they leave a state as it is (proofs/Silent.antt)
 SILENT = "type optional bang open lowers module_name constraint constraints withs texts".split()
 # phrases that stand in no clause of their own
@@ -297,7 +297,7 @@ def print_tells():
     uses = [std_names(body, "Rattle.std.proofs.Common"), *uses_of(body), *use("Rattle.tree_walk.specs.Events", outs)]
     uses += use("Rattle.tree_walk.specs.Told", map(told, KINDS))
     uses.append("use Rattle.rotor_base.specs.declared.token.Class.{Class}")
-    uses.append("use Rattle.ml_syntax.specs.declared.word.Bracket.{Bracket}")
+    uses.append("use Rattle.ml_trees.specs.declared.word.Bracket.{Bracket}")
     uses.append("use Rattle.tree_walk.specs.Behind.{behind}")
     uses += use("Rattle.tree_walk.proofs.Silent", [f"{x}_silent" for x in SILENT if f"{x}_silent" in words])
     head = "What each form makes of a state: what its parts make of it, one behind another. Printed by scripts/print_walk.py."

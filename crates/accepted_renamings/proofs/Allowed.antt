@@ -23,7 +23,7 @@ use Rattle.ml_lexer.specs.Lexed.{Lexeme}
 use Rattle.ml_syntax.specs.Places.{Site}
 use Rattle.ml_syntax.specs.RespelledSource.{AreRespelled}
 use Rattle.ml_syntax.specs.Sound.{IsSound}
-use Rattle.ml_syntax.specs.Tree.{FileTree, UnitTree}
+use Rattle.ml_trees.specs.Tree.{FileTree, UnitTree}
 use Rattle.shape_core.specs.Shape.{Name, some_if}
 use Rattle.dependency_kernel.specs.Foot.{IsFoot, IsFixedBy, IsLeastFixed}
 use Rattle.dependency_kernel.specs.Foot as links

@@ -5,7 +5,7 @@ use Rattle.rotor_base.specs.declared.place.Foot.{Foot}
 use Rattle.rotor_base.specs.declared.report.Renamed.{Renamed}
 use Rattle.rotor_base.specs.declared.target.Target.{Target}
 use Rattle.rotor_base.specs.Files.{FileSet, IsProject}
-use Rattle.ml_syntax.specs.Tree.{UnitTree}
+use Rattle.ml_trees.specs.Tree.{UnitTree}
 use Rattle.shape_core.specs.Shape.{Name}
 use Rattle.dependency_kernel.specs.Foot.{IsFoot}
 use Rattle.dependency_kernel.proofs.Only.{is_the_only}

@@ -4,11 +4,12 @@
 //! than the bound on levels.
 
 ghost use Rattle.std.specs.Prelude.{◌≡◌, ◌++◌, ◌∷◌, [], true, false, IfOk, OnOk, map};
-ghost use Rattle.ml_syntax.specs.View.{view_name, view_names, view_pat, view_pat_field, pats, pat_fields};
+ghost use Rattle.ml_trees.specs.View.{view_name, view_names, view_pat, view_pat_field, pats, pat_fields};
 ghost use Rattle.ml_syntax.specs.Places.{mark, name_sites};
 ghost use Rattle.binding_model.specs.Variables.{names as names_bound, variables as vars, pats_variables, field_variables, fields_variables};
 
-use ml_syntax::{Mark, Pat, PatField, ValueName, Word, operator_of};
+use ml_syntax::{Mark, operator_of};
+use ml_trees::{Pat, PatField, ValueName, Word};
 use rotor_base::{Memory, Name};
 use std::alloc::Global;
 
@@ -24,7 +25,7 @@ pub fn variables(alloc: Global, pat: &Pat) -> Result<Vec<Mark>, Memory>
 
 /// Adds the variables of a pattern.
 #[cycle(variables)]
-#[tactic(auto, using(ml_syntax::proofs::Variants::pat_views, ml_syntax::proofs::Variants::pat_field_views, crate::proofs::Marked::marks_joined))]
+#[tactic(auto, using(ml_trees::proofs::Variants::pat_views, ml_trees::proofs::Variants::pat_field_views, crate::proofs::Marked::marks_joined))]
 fn pattern(alloc: Global, pat: &Pat, marks: &mut Vec<Mark>) -> Result<(), Memory>
     ensures { OnOk result (marks.new.items ≡ marks.old.items ++ map mark (vars (view_pat pat.now))) }
 {
@@ -82,7 +83,7 @@ fn patterns(alloc: Global, list: &[Pat], marks: &mut Vec<Mark>) -> Result<(), Me
 }
 
 #[cycle(variables)]
-#[tactic(auto, using(ml_syntax::proofs::Variants::pat_field_views, crate::proofs::Marked::marks_joined))]
+#[tactic(auto, using(ml_trees::proofs::Variants::pat_field_views, crate::proofs::Marked::marks_joined))]
 fn field(alloc: Global, field: &PatField, marks: &mut Vec<Mark>) -> Result<(), Memory>
     ensures { OnOk result (marks.new.items ≡ marks.old.items ++ map mark (field_variables (view_pat_field field.now))) }
 {

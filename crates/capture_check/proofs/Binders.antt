@@ -8,7 +8,7 @@ use Rattle.rotor_base.specs.declared.place.Goal.TheVariants.{Decl, Outside, Miss
 use Rattle.rotor_base.specs.Place.{same_place}
 use Rattle.ml_syntax.specs.Places.{Site}
 use Rattle.ml_syntax.specs.Sound.{IsSound}
-use Rattle.ml_syntax.specs.Tree.{UnitTree}
+use Rattle.ml_trees.specs.Tree.{UnitTree}
 use Rattle.shape_core.specs.Shape.{Name, Entries, none, a_val, a_mod, a_mty, a_dark, or_else, some_if}
 use Rattle.ml_syntax.specs.Each.{Each}
 use Rattle.binding_model.specs.Steps.{Steps, quiet, ◌⨾◌, UseAlone, UseUnder, MatchOf, PinOf, TieOf, GroupOf, WeighedSite, OpenedSite, UnitStart}

@@ -11,7 +11,7 @@ use Rattle.rotor_base.specs.declared.place.Facts.{Facts}
 use Rattle.rotor_base.specs.declared.looks.Watch.{Watch}
 use Rattle.rotor_base.specs.Place.{same_goal, same_place, same_behind}
 use Rattle.ml_syntax.specs.Sound.{IsSound}
-use Rattle.ml_syntax.specs.Tree.{UnitTree}
+use Rattle.ml_trees.specs.Tree.{UnitTree}
 use Rattle.ml_syntax.specs.Each.{Each}
 use Rattle.binding_model.specs.Facts.{facts}
 use Rattle.binding_model.specs.Looks.{looks}

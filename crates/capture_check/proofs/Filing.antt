@@ -10,7 +10,7 @@ use Rattle.rotor_base.specs.Place.{same_place, place_cmp}
 use Rattle.rotor_base.proofs.Places.{place_found, place_total}
 use Rattle.ml_syntax.specs.declared.place.Mark.{Mark}
 use Rattle.ml_syntax.specs.Places.{Site, mark, sites, binder_sites}
-use Rattle.ml_syntax.specs.Tree.{FileTree, Body, Face, UnitTree}
+use Rattle.ml_trees.specs.Tree.{FileTree, Body, Face, UnitTree}
 use Rattle.binding_model.specs.Scopes.{here}
 use Rattle.binding_model.specs.Renaming.{places, placed_sites, file_places}
 use Rattle.binding_model.proofs.LastEntries.{same_is}

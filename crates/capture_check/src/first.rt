@@ -1,7 +1,7 @@
 //! The first fault of two lists of facts.
 
 ghost use Rattle.std.specs.Prelude.{◌≡◌, IfOk, map};
-ghost use Rattle.ml_syntax.specs.View.{view_project};
+ghost use Rattle.ml_trees.specs.View.{view_project};
 ghost use Rattle.ml_syntax.specs.Sound.{IsSound};
 ghost use Rattle.binding_model.specs.Facts.{facts};
 ghost use Rattle.binding_model.specs.Renaming.{name_of};
@@ -12,7 +12,7 @@ use crate::changes::{first_capture, first_mislink};
 use crate::fault::{Change, Fault, Repeat};
 use crate::repeats::first_repeat;
 use crate::table::names_of;
-use ml_syntax::Project;
+use ml_trees::Project;
 use rotor_base::{Facts, Goal, Memory};
 use std::alloc::Global;
 

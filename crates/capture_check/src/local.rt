@@ -4,7 +4,7 @@ ghost use Rattle.std.specs.Prelude.{◌≡◌, IfOk, OnOk};
 ghost use Rattle.std.specs.BTreeMap.{get};
 ghost use Rattle.rotor_base.specs.declared.place.Place.{Place};
 ghost use Rattle.rotor_base.specs.Place.{place_cmp};
-ghost use Rattle.ml_syntax.specs.View.{view_project};
+ghost use Rattle.ml_trees.specs.View.{view_project};
 ghost use Rattle.ml_syntax.specs.Sound.{IsSound};
 ghost use Rattle.binding_model.specs.Facts.{facts as project_facts};
 ghost use Rattle.binding_model.specs.Looks.{looks as project_looks};
@@ -18,7 +18,7 @@ use crate::first::fault_of;
 use crate::looked::{link_table, members_of, ref_table, would_links, would_refs};
 use crate::repeats::{NameTable, first_repeat};
 use crate::table::names_of;
-use ml_syntax::Project;
+use ml_trees::Project;
 use rotor_base::{Facts, Looks, Memory, Name, Place, Watch};
 use std::alloc::Global;
 

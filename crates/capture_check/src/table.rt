@@ -4,12 +4,13 @@ ghost use Rattle.std.specs.Prelude.{◌≡◌, IfOk, OnOk, Some};
 ghost use Rattle.std.specs.BTreeMap.{get};
 ghost use Rattle.rotor_base.specs.declared.place.Place.{Place};
 ghost use Rattle.rotor_base.specs.Place.{place_cmp};
-ghost use Rattle.ml_syntax.specs.View.{view_project, view_part_of, view_file};
+ghost use Rattle.ml_trees.specs.View.{view_project, view_part_of, view_file};
 ghost use Rattle.binding_model.specs.Renaming.{file_places};
 ghost use Rattle.capture_check.specs.Tables.{filed, number_of, IsTableOf};
 
 use crate::repeats::NameTable;
-use ml_syntax::{FileTree, Project, binders};
+use ml_syntax::binders;
+use ml_trees::{FileTree, Project};
 use rotor_base::{Memory, Name, Place};
 use std::alloc::Global;
 use std::collections::BTreeMap;

@@ -16,9 +16,9 @@ use Rattle.ml_lexer.specs.Lexed.{Lexeme}
 use Rattle.ml_syntax.specs.Places.{Site, sites}
 use Rattle.ml_syntax.specs.Sound.{AreDistinct, IsBodyPart, IsFacePart, IsSound, IsSoundFile, IsSoundUnit, part_files, unit_files}
 use Rattle.ml_syntax.specs.Standing.{StandFrom, StandsAt}
-use Rattle.ml_syntax.specs.Tok.{Tok}
-use Rattle.ml_syntax.specs.Tree.{Body, Face, FileTree, UnitTree}
-use Rattle.ml_syntax.specs.Words.{words}
+use Rattle.ml_trees.specs.Tok.{Tok}
+use Rattle.ml_trees.specs.Tree.{Body, Face, FileTree, UnitTree}
+use Rattle.ml_trees.specs.Words.{words}
 use Rattle.ml_syntax.proofs.Standing.{sites_stand}
 use Rattle.binding_model.specs.Facts.{in_order, is_before, put}
 use Rattle.binding_model.specs.Renaming.{file_places, placed_sites, places}

@@ -4,7 +4,7 @@ use Rattle.std.proofs.Common.{take, map, refl, sym, ap, subst, ◌∙◌, arith}
 use Rattle.std.proofs.lemmas.Bool.{cases_Bool, cases_order, true≢false}
 use Rattle.std.proofs.lemmas.List.{take_all}
 use Rattle.std.proofs.lemmas.List.Elements.{All-nil}
-use Rattle.ml_syntax.specs.Tree.{UnitTree}
+use Rattle.ml_trees.specs.Tree.{UnitTree}
 use Rattle.unit_order.specs.Needs.{AreNeeds, need_table, positions_from}
 use Rattle.unit_order.specs.Order.{LiesOnCycle}
 use Rattle.unit_order.specs.Positions.{unit_at}

@@ -5,7 +5,7 @@ use Rattle.std.proofs.lemmas.Bool.{and_parts, eq-eqb, not-true}
 use Rattle.std.proofs.lemmas.List.{take_all}
 use Rattle.std.proofs.lemmas.List.Elements.{All-more, All-nil}
 use Rattle.std.proofs.lemmas.List.Sums.{sum_by-cons}
-use Rattle.ml_syntax.specs.Tree.{UnitTree}
+use Rattle.ml_trees.specs.Tree.{UnitTree}
 use Rattle.unit_order.specs.Heads.{is_among}
 use Rattle.unit_order.specs.Order.{IsStuck, LiesOnCycle, derived_order, first_ready, go_on, is_ready, takes_all, taking}
 use Rattle.unit_order.specs.Positions.{blank, unit_at}

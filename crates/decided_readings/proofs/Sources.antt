@@ -6,7 +6,7 @@ use Rattle.rotor_base.specs.declared.source.SourceFile.{SourceFile}
 use Rattle.rotor_base.specs.declared.token.FormKind.{FormKind}
 use Rattle.ml_lexer.specs.Lexed.{Bad, Fault, LexFault, Lexed, Lexeme, LongName}
 use Rattle.ml_syntax.specs.RespelledFile.{lexeme_toks}
-use Rattle.ml_syntax.specs.Tree.{FileTree}
+use Rattle.ml_trees.specs.Tree.{FileTree}
 use Rattle.parse_module.specs.Whole.{HasNoTree, IsTreeOf}
 use Rattle.project_reading.specs.Source.{IsDeepAt, IsPlain, IsUnread, ReadsAs, form_among, kind_of_source, place, tokens_of}
 use Rattle.project_reading.specs.Source as source

@@ -1,9 +1,9 @@
 -- Tokens are the words of one file of a kind, or of none.
 use Rattle.std.proofs.Common.{◌≡◌, ◌⊎◌, inl, inr, ℕ, ◌≤◌, List, [], ◌∷◌, Option, Some, None, length, refl, sym, ◌∙◌, arith}
-use Rattle.ml_syntax.specs.Tok.{Tok}
-use Rattle.ml_syntax.specs.Tree.{Items, SigItems, FileTree, Body, Face}
-use Rattle.ml_syntax.specs.Words.{words}
-use Rattle.ml_syntax.specs.WellFormed.{WfFile}
+use Rattle.ml_trees.specs.Tok.{Tok}
+use Rattle.ml_trees.specs.Tree.{Items, SigItems, FileTree, Body, Face}
+use Rattle.ml_trees.specs.Words.{words}
+use Rattle.ml_trees.specs.WellFormed.{WfFile}
 use Rattle.parse_base.proofs.Stepping.{from_some}
 use Rattle.parse_module.specs.declared.files.FileKind.{FileKind}
 use Rattle.parse_module.specs.declared.files.FileKind.TheVariants as kind

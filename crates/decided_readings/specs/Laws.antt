@@ -4,7 +4,7 @@ use Rattle.rotor_base.specs.Files.{FileSet}
 use Rattle.rotor_base.specs.declared.refusal.Refusal.{Refusal}
 use Rattle.rotor_base.specs.declared.source.SourceFile.{SourceFile}
 use Rattle.ml_lexer.specs.Lexed.{Fault, LexFault, Lexed, Lexeme}
-use Rattle.ml_syntax.specs.Tree.{FileTree, UnitTree}
+use Rattle.ml_trees.specs.Tree.{FileTree, UnitTree}
 use Rattle.unit_order.specs.Order.{IsStuck, takes_all}
 use Rattle.unit_order.specs.Positions.{unit_at}
 use Rattle.project_reading.specs.Reads.{Reads, Unread}

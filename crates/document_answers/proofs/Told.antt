@@ -6,7 +6,7 @@ use Rattle.rotor_base.specs.declared.refusal.Refusal.{Refusal}
 use Rattle.rotor_base.specs.declared.source.SourceFile.{SourceFile}
 use Rattle.text_places.specs.declared.counting.Counting.{Counting}
 use Rattle.text_places.specs.declared.counting.Position.{Position}
-use Rattle.ml_syntax.specs.Tree.{UnitTree}
+use Rattle.ml_trees.specs.Tree.{UnitTree}
 use Rattle.rename_files.specs.Answer.{Rejects}
 use Rattle.open_documents.specs.Documents.{DocumentMap}
 use Rattle.refusal_words.specs.Cut.{Cut}

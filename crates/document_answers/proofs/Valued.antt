@@ -4,7 +4,7 @@ use Rattle.std.specs.Borrow.{Bor}
 use Rattle.report.specs.Pieces.{Word}
 use Rattle.rotor_base.specs.Files.{FileSet}
 use Rattle.rotor_base.specs.declared.place.Place.{Place}
-use Rattle.ml_syntax.specs.Tree.{UnitTree}
+use Rattle.ml_trees.specs.Tree.{UnitTree}
 use Rattle.refusal_words.specs.Cut.{Cut}
 use Rattle.value_at.specs.declared.value.ValueAt.{ValueAt}
 use Rattle.lsp_answers.specs.declared.answer.Answer.{Answer}

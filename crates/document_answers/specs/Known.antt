@@ -2,7 +2,7 @@
 use Rattle.std.specs.Prelude.{◌≡◌, ◌≤◌, All, length, map}
 use Rattle.rotor_base.specs.Limits.{max_file_bytes}
 use Rattle.ml_lexer.specs.Lexed.{view_tokens}
-use Rattle.ml_syntax.specs.View.{view_project}
+use Rattle.ml_trees.specs.View.{view_project}
 use Rattle.project_reading.specs.Sources.{AreCut}
 use Rattle.kept_projects.specs.Kept.{IsKept}
 use Rattle.refusal_words.specs.Cut.{AreCuts, view_cut}

@@ -8,7 +8,7 @@ use Rattle.text_places.specs.declared.counting.Counting.{Counting}
 use Rattle.text_places.specs.declared.counting.Counting.TheVariants.{Utf16, Utf8}
 use Rattle.text_places.specs.declared.counting.Position.{Position}
 use Rattle.text_places.specs.Marks.{offset_of}
-use Rattle.ml_syntax.specs.Tree.{UnitTree}
+use Rattle.ml_trees.specs.Tree.{UnitTree}
 use Rattle.rename_model.specs.Target.{number_of}
 use Rattle.rename_files.specs.Answer.{Accepts, Rejects}
 use Rattle.open_documents.specs.Documents.{DocumentMap}

@@ -3,7 +3,7 @@ ghost use Rattle.std.specs.Prelude.{◌≡◌, ◌<◌, ◌≤◌, All, IfOk, So
 ghost use Rattle.rotor_base.specs.Limits.{max_file_bytes};
 ghost use Rattle.lsp_answers.specs.Plain.{IsPlain};
 ghost use Rattle.ml_lexer.specs.Lexed.{view_tokens};
-ghost use Rattle.ml_syntax.specs.View.{view_project};
+ghost use Rattle.ml_trees.specs.View.{view_project};
 ghost use Rattle.project_reading.specs.Sources.{AreCut};
 ghost use Rattle.rename_files.specs.Answer.{Rejects};
 ghost use Rattle.rename_model.specs.Target.{number_of as number_for};
@@ -28,7 +28,7 @@ use document_scene::Scene;
 use document_uris::FilePlace;
 use kept_projects::{KeptProject, open_project, read_of};
 use lsp_answers::{Answer, Reply};
-use ml_syntax::Project;
+use ml_trees::Project;
 use mod_shape::Resolved;
 use open_documents::Documents;
 use project_reading::Read;

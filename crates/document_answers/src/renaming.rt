@@ -1,7 +1,7 @@
 //! Renamings.
 ghost use Rattle.std.specs.Prelude.{◌≡◌, Err, IfOk};
 ghost use Rattle.lsp_answers.specs.Plain.{IsPlain};
-ghost use Rattle.ml_syntax.specs.View.{view_project};
+ghost use Rattle.ml_trees.specs.View.{view_project};
 ghost use Rattle.editor_renaming.specs.Asked.{name_at as name_at_of, target_of as target_for};
 ghost use Rattle.value_at.specs.Value.{IsValueAt};
 ghost use Rattle.value_at.specs.declared.value.ValueAt.TheVariants as value;

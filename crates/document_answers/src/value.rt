@@ -1,7 +1,7 @@
 //! What is told of a value.
 ghost use Rattle.std.specs.Prelude.{◌≡◌, IfOk, Some, false, map};
 ghost use Rattle.lsp_answers.specs.Plain.{IsPlain};
-ghost use Rattle.ml_syntax.specs.View.{view_project};
+ghost use Rattle.ml_trees.specs.View.{view_project};
 ghost use Rattle.refusal_words.specs.Cut.{view_cut};
 ghost use Rattle.requests.specs.Asked.{query_words};
 ghost use Rattle.value_at.specs.Value.{IsValueAt};

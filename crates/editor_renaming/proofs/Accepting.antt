@@ -7,7 +7,7 @@ use Rattle.rotor_base.specs.declared.place.Facts.{Facts}
 use Rattle.rotor_base.specs.declared.report.Renamed.{Renamed}
 use Rattle.rotor_base.specs.declared.target.Target.{Target}
 use Rattle.rotor_base.specs.Files.{FileSet, IsProject}
-use Rattle.ml_syntax.specs.Tree.{UnitTree}
+use Rattle.ml_trees.specs.Tree.{UnitTree}
 use Rattle.binding_model.specs.Facts.{facts as facts_of}
 use Rattle.binding_model.specs.Renaming.{IsBinder}
 use Rattle.project_reading.specs.Reads.{Reads}

@@ -7,7 +7,7 @@ use Rattle.rotor_base.specs.declared.target.Target.{Target}
 use Rattle.rotor_base.specs.declared.target.Target.TheVariants.{At}
 use Rattle.rotor_base.specs.Files.{FileSet}
 use Rattle.text_places.specs.declared.counting.Counting.{Counting}
-use Rattle.ml_syntax.specs.Tree.{UnitTree}
+use Rattle.ml_trees.specs.Tree.{UnitTree}
 use Rattle.shape_core.specs.Shape.{Name}
 use Rattle.rename_project.specs.Steps.{IsRefusedFor}
 use Rattle.rename_files.specs.Answer.{Renames}

@@ -1,7 +1,7 @@
 //! The edits of an accepted renaming.
 
 ghost use Rattle.std.specs.Prelude.{◌≡◌, All, IfErr, IfOk, List, Ok, OnOk};
-ghost use Rattle.ml_syntax.specs.Tree.{UnitTree};
+ghost use Rattle.ml_trees.specs.Tree.{UnitTree};
 ghost use Rattle.binding_model.specs.Facts.{facts as facts_of};
 ghost use Rattle.project_reading.specs.Reads.{Reads};
 ghost use Rattle.rename_files.specs.Answer.{Renames};

@@ -7,7 +7,7 @@ use Rattle.rotor_base.specs.declared.place.Place.{Place}
 use Rattle.rotor_base.specs.declared.refusal.Refusal.{Refusal}
 use Rattle.rotor_base.specs.declared.refusal.Refusal.TheVariants as refusal
 use Rattle.rotor_base.specs.declared.target.Target.{Target}
-use Rattle.ml_syntax.specs.Tree.{UnitTree}
+use Rattle.ml_trees.specs.Tree.{UnitTree}
 use Rattle.binding_model.specs.Facts.{facts as facts_of}
 use Rattle.dependency_kernel.specs.Foot.{IsFoot}
 use Rattle.project_reading.specs.Reads.{IsRefused, Reads, Unread}

@@ -6,7 +6,7 @@ use Rattle.rotor_base.specs.declared.refusal.LoadError.{LoadError}
 use Rattle.rotor_base.specs.declared.refusal.LoadError.TheVariants as load_error
 use Rattle.rotor_base.specs.declared.refusal.Refusal.{Refusal}
 use Rattle.rotor_base.specs.declared.source.SourceFile.{SourceFile}
-use Rattle.ml_syntax.specs.Tree.{UnitTree}
+use Rattle.ml_trees.specs.Tree.{UnitTree}
 use Rattle.messages.specs.declared.parts.Message.{Message}
 use Rattle.project_reading.specs.Reads.{IsRefused, Reads, Unread}
 use Rattle.refusal_words.specs.Cut.{AreCuts, Cut}

@@ -2,7 +2,7 @@
 use Rattle.std.proofs.Common.{◌≡◌, List, Result, Ok, Err, IfOk, inl, inr, subst, ap, ◌∙◌}
 use Rattle.rotor_base.specs.Files.{FileSet}
 use Rattle.rotor_base.specs.declared.refusal.Refusal.{Refusal}
-use Rattle.ml_syntax.specs.Tree.{UnitTree}
+use Rattle.ml_trees.specs.Tree.{UnitTree}
 use Rattle.project_reading.specs.Reads.{IsRefused}
 use Rattle.rename_files.specs.Answer.{Checks}
 use Rattle.rename_project.specs.Steps.{IsRefusedFor}

@@ -12,7 +12,7 @@ use Rattle.text_places.specs.declared.counting.Counting.TheVariants.{People}
 use Rattle.text_places.specs.declared.counting.Position.{Position}
 use Rattle.text_places.specs.Marks.{offset_of}
 use Rattle.cli_words.specs.Target.{target_of}
-use Rattle.ml_syntax.specs.Tree.{UnitTree}
+use Rattle.ml_trees.specs.Tree.{UnitTree}
 use Rattle.rename_model.specs.Target.{number_of}
 use Rattle.rename_files.specs.Answer.{Accepts, Checks}
 use Rattle.value_at.specs.declared.value.ValueAt.{ValueAt}

@@ -2,7 +2,7 @@
 ghost use Rattle.std.specs.Prelude.{◌≡◌, ◌≤◌, Err, IfOk, All, length, map};
 ghost use Rattle.rotor_base.specs.Limits.{max_file_bytes, max_sources};
 ghost use Rattle.ml_syntax.specs.Sound.{IsSound};
-ghost use Rattle.ml_syntax.specs.View.{view_project};
+ghost use Rattle.ml_trees.specs.View.{view_project};
 ghost use Rattle.binding_model.specs.Facts.{facts as facts_of};
 ghost use Rattle.rename_files.specs.Answer.{Accepts, Checks};
 ghost use Rattle.rename_project.specs.Steps.{IsRefusedFor};
@@ -15,7 +15,7 @@ use crate::spot::spot_told;
 use cli_words::read_target;
 use explain::{Told, explain_check};
 use messages::{Message, joined, shown_word};
-use ml_syntax::Project;
+use ml_trees::Project;
 use project_reading::read_project;
 use refusal_words::{CutSource, cut_sources, nameless};
 use rename_project::resolve;

@@ -1,7 +1,7 @@
 //! What is said of a token of a source.
 ghost use Rattle.std.specs.Prelude.{◌≡◌, ◌∷◌, [], IfOk, map};
 ghost use Rattle.ml_syntax.specs.Sound.{IsSound};
-ghost use Rattle.ml_syntax.specs.View.{view_project};
+ghost use Rattle.ml_trees.specs.View.{view_project};
 ghost use Rattle.binding_model.specs.Facts.{facts as facts_of};
 ghost use Rattle.refusal_words.specs.Cut.{view_cut};
 ghost use Rattle.refusal_words.specs.Parts.{placed as placed_of};
@@ -12,7 +12,7 @@ ghost use Rattle.explain_at.specs.At.{SaysPlace, declaration_message as declarat
 
 use explain::{Ending, Told, maybe_told, place_message, place_word};
 use messages::{Kind, Message, Severity, joined};
-use ml_syntax::Project;
+use ml_trees::Project;
 use refusal_words::{CutSource, place_spot, word_at};
 use report::number_text;
 use rotor_base::{Facts, Memory, Place, Row};

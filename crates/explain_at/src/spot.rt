@@ -2,14 +2,14 @@
 ghost use Rattle.std.specs.Prelude.{◌≡◌, ◌<◌, ◌≤◌, All, IfOk, length, map};
 ghost use Rattle.rotor_base.specs.Limits.{max_file_bytes, max_sources};
 ghost use Rattle.ml_syntax.specs.Sound.{IsSound};
-ghost use Rattle.ml_syntax.specs.View.{view_project};
+ghost use Rattle.ml_trees.specs.View.{view_project};
 ghost use Rattle.binding_model.specs.Facts.{facts as facts_of};
 ghost use Rattle.refusal_words.specs.Cut.{view_cut};
 ghost use Rattle.explain_at.specs.At.{SaysCut, SaysSpot};
 
 use crate::place::{place_told, refused_at};
 use explain::Told;
-use ml_syntax::Project;
+use ml_trees::Project;
 use refusal_words::{CutSource, nameless, no_line, no_source, no_token_at};
 use rename_parts::number_of;
 use rotor_base::{Facts, Memory, Place, SourceFile};

@@ -1,12 +1,12 @@
 -- Readings that depend on whether a list of parameters or names is empty, or on the token behind a `~` or `?`.
 use Rattle.std.proofs.Common.{◌≡◌, ℕ, ◌<◌, List, [], ◌∷◌, length, Bool, Some, None, refl, arith}
 use Rattle.rotor_base.specs.declared.token.Class.TheVariants as class
-use Rattle.ml_syntax.specs.declared.word.Word.{Word}
-use Rattle.ml_syntax.specs.declared.expression.Param.{Param}
-use Rattle.ml_syntax.specs.declared.fixed.Fixed.TheVariants as key
-use Rattle.ml_syntax.specs.Tok.{Tok, placed, word}
-use Rattle.ml_syntax.specs.Tree as pure
-use Rattle.ml_syntax.specs.View.{params, view_words}
+use Rattle.ml_trees.specs.declared.word.Word.{Word}
+use Rattle.ml_trees.specs.declared.expression.Param.{Param}
+use Rattle.ml_trees.specs.declared.fixed.Fixed.TheVariants as key
+use Rattle.ml_trees.specs.Tok.{Tok, placed, word}
+use Rattle.ml_trees.specs.Tree as pure
+use Rattle.ml_trees.specs.View.{params, view_words}
 use Rattle.parse_base.specs.Steps.{◌>>=◌, expect, expect_at}
 use Rattle.expr_reading.specs.declared.wanted.Wanted.TheVariants as wanted
 use Rattle.expr_reading.specs.ExprReading.{read_expr, bound, plain_binding, named_binding, fun_end, types_end, wrapped_param, let_module}

@@ -1,9 +1,9 @@
 -- The parts of forms, as the code reads them (own).
 use Rattle.std.specs.Prelude.{ℕ, List, ◌∷◌, Bool, Option, Some, None}
-use Rattle.ml_syntax.specs.declared.fixed.Fixed.TheVariants as key
-use Rattle.ml_syntax.specs.Tok.{Name, Tok, placed}
-use Rattle.ml_syntax.specs.Tree.{Pat, Expr, LetModule, Param, DefaultParam}
-use Rattle.ml_syntax.specs.View.{view}
+use Rattle.ml_trees.specs.declared.fixed.Fixed.TheVariants as key
+use Rattle.ml_trees.specs.Tok.{Name, Tok, placed}
+use Rattle.ml_trees.specs.Tree.{Pat, Expr, LetModule, Param, DefaultParam}
+use Rattle.ml_trees.specs.View.{view}
 use Rattle.parse_base.specs.Steps.{Read, ◌>>=◌, expect, expect_at}
 use Rattle.parse_base.specs.Pieces.{lower_word, optional_type}
 use Rattle.expr_reading.specs.declared.wanted.Wanted.TheVariants as wanted

@@ -5,8 +5,8 @@ use denote.Ref.{Bor}
 use Rattle.std.specs.Global.{Box}
 use Rattle.rotor_base.specs.Limits.{max_file_bytes}
 use Rattle.rotor_base.specs.declared.token.Token.{Token}
-use Rattle.ml_syntax.specs.declared.expression.Expr.{Expr as Source}
-use Rattle.ml_syntax.specs.View.{view}
+use Rattle.ml_trees.specs.declared.expression.Expr.{Expr as Source}
+use Rattle.ml_trees.specs.View.{view}
 use Rattle.parse_base.specs.declared.error.ReadError.{ReadError}
 use Rattle.parse_base.specs.Gives.{Gives}
 use Rattle.parse_base.specs.Tokens.{from}

@@ -2,8 +2,8 @@
 
 ghost use Rattle.std.specs.Prelude.{◌≤◌, length, Some};
 ghost use Rattle.rotor_base.specs.Limits.{max_file_bytes};
-ghost use Rattle.ml_syntax.specs.Tree as pure;
-ghost use Rattle.ml_syntax.specs.View.{view, view_name, view_type, view_pat, view_binding, bindings, params};
+ghost use Rattle.ml_trees.specs.Tree as pure;
+ghost use Rattle.ml_trees.specs.View.{view, view_name, view_type, view_pat, view_binding, bindings, params};
 ghost use Rattle.parse_base.specs.Steps.{many, always};
 ghost use Rattle.parse_base.specs.Gives.{Gives};
 ghost use Rattle.parse_base.specs.Tokens.{from};
@@ -14,7 +14,7 @@ ghost use Rattle.expr_forms.specs.Reads.{Nests};
 use crate::grammar::Grammar;
 use expr_parts::push_boxed;
 use expr_reading::Wanted;
-use ml_syntax::{Binding, Expr, Fixed, Param, Pat, Run, ValueName};
+use ml_trees::{Binding, Expr, Fixed, Param, Pat, Run, ValueName};
 use parse_base::{ReadError, expect, expect_at, optional_type, value_name};
 use rotor_base::Token;
 use std::alloc::Global;
@@ -49,7 +49,7 @@ impl<
     }
 
     /// A pattern and what it is bound to.
-    #[tactic(auto, using(ml_syntax::proofs::Variants::binding_views))]
+    #[tactic(auto, using(ml_trees::proofs::Variants::binding_views))]
     #[inline(never)]
     pub fn plain_binding(
         &self,
@@ -170,7 +170,7 @@ impl<
 }
 
 /// A pattern and what it is bound to.
-#[tactic(auto, using(ml_syntax::proofs::Variants::binding_views))]
+#[tactic(auto, using(ml_trees::proofs::Variants::binding_views))]
 #[inline(never)]
 fn plain(
     alloc: Global,
@@ -195,7 +195,7 @@ fn plain(
 }
 
 /// A name with parameters and what it is bound to.
-#[tactic(auto, using(ml_syntax::proofs::Variants::binding_views))]
+#[tactic(auto, using(ml_trees::proofs::Variants::binding_views))]
 #[inline(never)]
 fn named(
     alloc: Global,

@@ -2,8 +2,8 @@
 
 ghost use Rattle.std.specs.Prelude.{◌≤◌, ◌<◌, ◌+◌, length, Some};
 ghost use Rattle.rotor_base.specs.Limits.{max_file_bytes};
-ghost use Rattle.ml_syntax.specs.Tree as pure;
-ghost use Rattle.ml_syntax.specs.View.{view, tail};
+ghost use Rattle.ml_trees.specs.Tree as pure;
+ghost use Rattle.ml_trees.specs.View.{view, tail};
 ghost use Rattle.parse_base.specs.Steps.{many};
 ghost use Rattle.parse_base.specs.Gives.{Gives};
 ghost use Rattle.parse_base.specs.Tokens.{from};
@@ -15,7 +15,7 @@ ghost use Rattle.expr_forms.specs.Forms.{otherwise_of};
 use crate::grammar::Grammar;
 use expr_parts::{Edge, on_edge};
 use expr_reading::Wanted;
-use ml_syntax::{Branch, Expr, Fixed};
+use ml_trees::{Branch, Expr, Fixed};
 use parse_base::{ReadError, expect, is, number};
 use rotor_base::Token;
 use std::alloc::Global;
@@ -136,7 +136,7 @@ impl<
     }
 
     /// After the `if` at a place.
-    #[tactic(auto, unfolding(expr_reading::specs::ExprReading::if_expr), using(ml_syntax::proofs::Variants::expr_views))]
+    #[tactic(auto, unfolding(expr_reading::specs::ExprReading::if_expr), using(ml_trees::proofs::Variants::expr_views))]
     #[inline(never)]
     pub fn if_expr(&self, tokens: &[Token<'_>], at: usize) -> Result<(Box<Expr>, usize), ReadError>
         requires nests { Nests self.now.depth (F.pre self.now.sub) (F.post self.now.sub) }

@@ -2,8 +2,8 @@
 
 ghost use Rattle.std.specs.Prelude.{◌≡◌, ◌≤◌, ◌<◌, ◌+◌, Bool, length, Some};
 ghost use Rattle.rotor_base.specs.Limits.{max_file_bytes};
-ghost use Rattle.ml_syntax.specs.Tree as pure;
-ghost use Rattle.ml_syntax.specs.View.{view, view_pat, view_case, maybe, cases};
+ghost use Rattle.ml_trees.specs.Tree as pure;
+ghost use Rattle.ml_trees.specs.View.{view, view_pat, view_case, maybe, cases};
 ghost use Rattle.parse_base.specs.Steps.{many};
 ghost use Rattle.parse_base.specs.Gives.{Gives};
 ghost use Rattle.parse_base.specs.Tokens.{from};
@@ -14,7 +14,7 @@ ghost use Rattle.expr_forms.specs.Reads.{Nests};
 use crate::grammar::Grammar;
 use expr_parts::{Edge, first_bar, on_edge, push_boxed};
 use expr_reading::Wanted;
-use ml_syntax::{Case, Expr, Fixed, Pat};
+use ml_trees::{Case, Expr, Fixed, Pat};
 use parse_base::{Kind, ReadError, expect, kind_at, number};
 use rotor_base::Token;
 use std::alloc::Global;
@@ -147,7 +147,7 @@ impl<
     }
 
     /// After the `function` at a place.
-    #[tactic(auto, using(ml_syntax::proofs::Variants::expr_views))]
+    #[tactic(auto, using(ml_trees::proofs::Variants::expr_views))]
     #[inline(never)]
     pub fn function_expr(
         &self,
@@ -175,7 +175,7 @@ impl<
     }
 
     /// After the `match` at a place.
-    #[tactic(auto, unfolding(expr_reading::specs::ExprReading::match_expr), using(ml_syntax::proofs::Variants::expr_views))]
+    #[tactic(auto, unfolding(expr_reading::specs::ExprReading::match_expr), using(ml_trees::proofs::Variants::expr_views))]
     #[inline(never)]
     pub fn match_expr(
         &self,
@@ -206,7 +206,7 @@ impl<
     }
 
     /// After the `try` at a place.
-    #[tactic(auto, unfolding(expr_reading::specs::ExprReading::match_expr), using(ml_syntax::proofs::Variants::expr_views))]
+    #[tactic(auto, unfolding(expr_reading::specs::ExprReading::match_expr), using(ml_trees::proofs::Variants::expr_views))]
     #[inline(never)]
     pub fn try_expr(&self, tokens: &[Token<'_>], at: usize) -> Result<(Box<Expr>, usize), ReadError>
         requires nests { Nests self.now.depth (F.pre self.now.sub) (F.post self.now.sub) }

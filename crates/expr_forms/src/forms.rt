@@ -2,7 +2,7 @@
 
 ghost use Rattle.std.specs.Prelude.{◌≤◌, ◌<◌, ◌+◌, length};
 ghost use Rattle.rotor_base.specs.Limits.{max_file_bytes};
-ghost use Rattle.ml_syntax.specs.View.{view, view_word, params};
+ghost use Rattle.ml_trees.specs.View.{view, view_word, params};
 ghost use Rattle.parse_base.specs.Gives.{Gives};
 ghost use Rattle.parse_base.specs.Tokens.{from};
 ghost use Rattle.expr_reading.specs.ExprReading as r;
@@ -13,7 +13,7 @@ ghost use Rattle.expr_forms.specs.Forms.{module_in, module_named};
 use crate::grammar::Grammar;
 use expr_parts::{bang, local_module, path, upper_word};
 use expr_reading::Wanted;
-use ml_syntax::{Expr, Fixed, Param, Word};
+use ml_trees::{Expr, Fixed, Param, Word};
 use parse_base::{Kind, ReadError, expect, kind_at, number, word};
 use rotor_base::{Class, Token};
 use std::alloc::Global;
@@ -30,7 +30,7 @@ impl<
         ) -> Result<(Box<Expr>, usize), ReadError>,
 > Grammar<F> {
     /// The bindings and the body of the `let` at `start`.
-    #[tactic(auto, unfolding(expr_reading::specs::ExprReading::let_values), using(ml_syntax::proofs::Variants::expr_views))]
+    #[tactic(auto, unfolding(expr_reading::specs::ExprReading::let_values), using(ml_trees::proofs::Variants::expr_views))]
     #[inline(never)]
     pub fn let_values(
         &self,
@@ -59,7 +59,7 @@ impl<
     }
 
     /// After the `let open` at `start`.
-    #[tactic(auto, unfolding(expr_reading::specs::ExprReading::let_open), using(ml_syntax::proofs::Variants::expr_views))]
+    #[tactic(auto, unfolding(expr_reading::specs::ExprReading::let_open), using(ml_trees::proofs::Variants::expr_views))]
     #[inline(never)]
     pub fn let_open(
         &self,
@@ -92,7 +92,7 @@ impl<
     }
 
     /// After the `=` behind the name of a module that is bound at `start`.
-    #[tactic(auto, using(ml_syntax::proofs::Variants::expr_views))]
+    #[tactic(auto, using(ml_trees::proofs::Variants::expr_views))]
     #[inline(never)]
     fn module_in(
         &self,
@@ -179,7 +179,7 @@ impl<
     }
 
     /// After the parameters of the `fun` at `start`.
-    #[tactic(auto, using(crate::proofs::Lists::functions, ml_syntax::proofs::Variants::expr_views))]
+    #[tactic(auto, using(crate::proofs::Lists::functions, ml_trees::proofs::Variants::expr_views))]
     #[inline(never)]
     fn fun_end(
         &self,

@@ -2,7 +2,7 @@
 
 ghost use Rattle.std.specs.Prelude.{IfOk, IfErr, ◌≡◌, ◌≤◌, length};
 ghost use Rattle.rotor_base.specs.Limits.{max_file_bytes};
-ghost use Rattle.ml_syntax.specs.View.{view};
+ghost use Rattle.ml_trees.specs.View.{view};
 ghost use Rattle.parse_base.specs.Gives.{Gives};
 ghost use Rattle.parse_base.specs.Tokens.{from};
 ghost use Rattle.expr_reading.specs.ExprReading.{read_expr};
@@ -10,7 +10,7 @@ ghost use Rattle.expr_forms.specs.Reads.{Nests};
 ghost use Rattle.parse_base.specs.declared.error.ReadError.TheVariants as unread;
 
 use expr_reading::Wanted;
-use ml_syntax::Expr;
+use ml_trees::Expr;
 use parse_base::ReadError;
 use rotor_base::Token;
 use std::alloc::Global;

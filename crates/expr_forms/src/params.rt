@@ -2,8 +2,8 @@
 
 ghost use Rattle.std.specs.Prelude.{◌≤◌, ◌<◌, ◌+◌, ◌∷◌, [], length, Some};
 ghost use Rattle.rotor_base.specs.Limits.{max_file_bytes};
-ghost use Rattle.ml_syntax.specs.Tree as pure;
-ghost use Rattle.ml_syntax.specs.View.{view, view_word, view_words, view_type, view_pat, view_param, params};
+ghost use Rattle.ml_trees.specs.Tree as pure;
+ghost use Rattle.ml_trees.specs.View.{view, view_word, view_words, view_type, view_pat, view_param, params};
 ghost use Rattle.parse_base.specs.Steps.{many, always};
 ghost use Rattle.parse_base.specs.PatReading.{read_pat};
 ghost use Rattle.parse_base.specs.Gives.{name_at, Gives};
@@ -17,7 +17,7 @@ ghost use Rattle.parse_base.specs.Pieces.{lower_word};
 use crate::grammar::Grammar;
 use expr_parts::{has_colon, is_optional, push_boxed};
 use expr_reading::Wanted;
-use ml_syntax::{Expr, Fixed, Param, Pat, Run, Word};
+use ml_trees::{Expr, Fixed, Param, Pat, Run, Word};
 use parse_base::{
     Kind, ReadError, expect, expect_at, is, kind_at, lower_word, number, optional_type, pattern,
     simple_pattern, text, word,
@@ -86,7 +86,7 @@ impl<
     }
 
     /// After the pattern of a default value and its type.
-    #[tactic(auto, using(ml_syntax::proofs::Variants::param_views))]
+    #[tactic(auto, using(ml_trees::proofs::Variants::param_views))]
     #[inline(never)]
     fn default_end(
         &self,
@@ -131,7 +131,7 @@ impl<
     }
 
     /// The parameter that the label at a place begins.
-    #[tactic(auto, using(ml_syntax::proofs::Variants::param_views))]
+    #[tactic(auto, using(ml_trees::proofs::Variants::param_views))]
     #[inline(never)]
     pub fn label_param(
         &self,
@@ -161,7 +161,7 @@ impl<
 
     /// After the label in parentheses and its type. `first` is the place of the `~` or `?`, and `paren` is the number
     /// of the `(`.
-    #[tactic(auto, using(ml_syntax::proofs::Variants::param_views))]
+    #[tactic(auto, using(ml_trees::proofs::Variants::param_views))]
     #[inline(never)]
     fn wrapped_end(
         &self,
@@ -258,7 +258,7 @@ impl<
     }
 
     /// After the names of types behind the `(` at `start`.
-    #[tactic(auto, using(crate::proofs::Lists::types, ml_syntax::proofs::Variants::param_views))]
+    #[tactic(auto, using(crate::proofs::Lists::types, ml_trees::proofs::Variants::param_views))]
     #[inline(never)]
     fn types_end(
         &self,
@@ -298,7 +298,7 @@ impl<
     }
 
     /// A parameter.
-    #[tactic(auto, unfolding(expr_reading::specs::ExprReading::param), using(ml_syntax::proofs::Variants::param_views))]
+    #[tactic(auto, unfolding(expr_reading::specs::ExprReading::param), using(ml_trees::proofs::Variants::param_views))]
     #[inline(never)]
     pub fn param(&self, tokens: &[Token<'_>], at: usize) -> Result<(Box<Param>, usize), ReadError>
         requires nests { Nests self.now.depth (F.pre self.now.sub) (F.post self.now.sub) }
@@ -352,7 +352,7 @@ impl<
 
 /// A pattern as a parameter.
 #[inline(never)]
-#[tactic(auto, using(ml_syntax::proofs::Variants::param_views))]
+#[tactic(auto, using(ml_trees::proofs::Variants::param_views))]
 fn pattern_param(alloc: Global, pat: Box<Pat>) -> Result<Box<Param>, ReadError>
     ensures { Gives (λ p. view_param p.value) result (Some (pure.PatternParam (view_pat pat.value))) }
 {
@@ -361,7 +361,7 @@ fn pattern_param(alloc: Global, pat: Box<Pat>) -> Result<Box<Param>, ReadError>
 
 /// A label and a pattern.
 #[inline(never)]
-#[tactic(auto, using(ml_syntax::proofs::Variants::param_views))]
+#[tactic(auto, using(ml_trees::proofs::Variants::param_views))]
 fn with_label(alloc: Global, label: Word, pat: Box<Pat>) -> Result<Box<Param>, ReadError>
     ensures { Gives (λ p. view_param p.value) result (Some (pure.LabelPattern (view_word label) (view_pat pat.value))) }
 {
@@ -371,7 +371,7 @@ fn with_label(alloc: Global, label: Word, pat: Box<Pat>) -> Result<Box<Param>, R
 
 /// A label, a pattern, its type or none, and a default value.
 #[inline(never)]
-#[tactic(auto, using(ml_syntax::proofs::Variants::param_views))]
+#[tactic(auto, using(ml_trees::proofs::Variants::param_views))]
 fn with_default(
     alloc: Global,
     label: Word,
@@ -400,7 +400,7 @@ fn with_default(
 
 /// A label in parentheses, and its type or none.
 #[inline(never)]
-#[tactic(auto, using(ml_syntax::proofs::Variants::param_views))]
+#[tactic(auto, using(ml_trees::proofs::Variants::param_views))]
 fn wrapped(
     alloc: Global,
     at: u32,
@@ -425,7 +425,7 @@ fn wrapped(
 
 /// The same with a default value.
 #[inline(never)]
-#[tactic(auto, using(ml_syntax::proofs::Variants::param_views))]
+#[tactic(auto, using(ml_trees::proofs::Variants::param_views))]
 fn wrapped_default(
     alloc: Global,
     at: u32,

@@ -1,14 +1,14 @@
 -- Comparing heights with levels.
 use Rattle.std.proofs.Common.{◌≡◌, ℕ, suc, ◌-◌, max, Bool, true, false, ◌&&◌, Option, Some, None, nat_le, nat_lt, refl, ap, ◌∙◌, arith}
 use Rattle.std.proofs.lemmas.Bool.Decides.{nat_tests}
-use Rattle.ml_syntax.specs.declared.expression.LocalModule.{LocalModule}
-use Rattle.ml_syntax.specs.declared.expression.LocalArgument.TheVariants as l_v
-use Rattle.ml_syntax.specs.Tree as pure
+use Rattle.ml_trees.specs.declared.expression.LocalModule.{LocalModule}
+use Rattle.ml_trees.specs.declared.expression.LocalArgument.TheVariants as l_v
+use Rattle.ml_trees.specs.Tree as pure
 use Rattle.std.specs.Global.{Box}
-use Rattle.ml_syntax.specs.declared.expression.Expr.{Expr}
-use Rattle.ml_syntax.specs.View.{view_path, view_local, view_local_then, maybe, otherwise}
+use Rattle.ml_trees.specs.declared.expression.Expr.{Expr}
+use Rattle.ml_trees.specs.View.{view_path, view_local, view_local_then, maybe, otherwise}
 use Rattle.expr_levels.specs.Height.{maybe_height, tail_height}
-use Rattle.ml_syntax.proofs.Views.{locals_of}
+use Rattle.ml_trees.proofs.Views.{locals_of}
 
 pub within_most : (a b k : ℕ) → nat_le (max a b) k ≡ (nat_le a k && nat_le b k)
 within_most a b k = grind (arith, nat_tests)

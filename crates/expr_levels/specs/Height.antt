@@ -1,18 +1,18 @@
 -- How high a tree is: an expression, a pattern and the module of a `let module` are a level above the highest of those
 -- inside them (the OCaml manual, "Patterns" and "Expressions"). If nothing nests, what is `inside` has no level.
 use Rattle.std.specs.Prelude.{ℕ, suc, max}
-use Rattle.ml_syntax.specs.Tree.{Pat, AsPat, OrPat, TuplePat, ConsPat, ConstrApplyPat, TagApplyPat, LazyPat, ExceptionPat, AnyPat, ValuePat}
-use Rattle.ml_syntax.specs.Tree.{LiteralPat, NegativePat, RangePat, ConstrPat, TagPat, BoolPat, UnitPat, ParenPat, TypedPat, EmptyPat, ListPat}
-use Rattle.ml_syntax.specs.Tree.{RecordPat, OpenedPat, Pats, no_pat, more_pat, PatField, PunnedField, MatchedField, PatFields, no_pat_field}
-use Rattle.ml_syntax.specs.Tree.{more_pat_field, LocalModule, LocalPath, LocalArguments, no_local, more_local, no_module, Expr, Seq, Let, LetOpen}
-use Rattle.ml_syntax.specs.Tree.{LetModule, Fun, Function, Match, Try, If, Chain, Minus, Apply, ConstrApply, TagApply, Assert, Lazy, Postfix}
-use Rattle.ml_syntax.specs.Tree.{Prefixed, Literal, BoolExpr, Value, Constr, Tag, UnitExpr, Paren, Typed, Coerced, EmptyBegin, Begin, EmptyList}
-use Rattle.ml_syntax.specs.Tree.{ListExpr, Record, Opened, While, For, Links, no_link, more_link, MaybeExpr, no_expr, some_expr, Tail, no_else}
-use Rattle.ml_syntax.specs.Tree.{or_else, or_if, Binding, PlainBinding, AppliedBinding, Bindings, no_binding, more_binding, Case, CaseOf, Cases}
-use Rattle.ml_syntax.specs.Tree.{no_case, more_case, Argument, Positional, LabelPun, Labelled, Arguments, no_argument, more_argument, Param}
-use Rattle.ml_syntax.specs.Tree.{PatternParam, LabelParam, LabelPattern, DefaultParam, WrappedParam, WrappedDefault, TypesParam, Params, no_param}
-use Rattle.ml_syntax.specs.Tree.{more_param, Part, LabelPart, IndexPart, CharPart, Parts, no_part, more_part, Field, FieldPun, AssignedField, Fields}
-use Rattle.ml_syntax.specs.Tree.{no_field, more_field}
+use Rattle.ml_trees.specs.Tree.{Pat, AsPat, OrPat, TuplePat, ConsPat, ConstrApplyPat, TagApplyPat, LazyPat, ExceptionPat, AnyPat, ValuePat}
+use Rattle.ml_trees.specs.Tree.{LiteralPat, NegativePat, RangePat, ConstrPat, TagPat, BoolPat, UnitPat, ParenPat, TypedPat, EmptyPat, ListPat}
+use Rattle.ml_trees.specs.Tree.{RecordPat, OpenedPat, Pats, no_pat, more_pat, PatField, PunnedField, MatchedField, PatFields, no_pat_field}
+use Rattle.ml_trees.specs.Tree.{more_pat_field, LocalModule, LocalPath, LocalArguments, no_local, more_local, no_module, Expr, Seq, Let, LetOpen}
+use Rattle.ml_trees.specs.Tree.{LetModule, Fun, Function, Match, Try, If, Chain, Minus, Apply, ConstrApply, TagApply, Assert, Lazy, Postfix}
+use Rattle.ml_trees.specs.Tree.{Prefixed, Literal, BoolExpr, Value, Constr, Tag, UnitExpr, Paren, Typed, Coerced, EmptyBegin, Begin, EmptyList}
+use Rattle.ml_trees.specs.Tree.{ListExpr, Record, Opened, While, For, Links, no_link, more_link, MaybeExpr, no_expr, some_expr, Tail, no_else}
+use Rattle.ml_trees.specs.Tree.{or_else, or_if, Binding, PlainBinding, AppliedBinding, Bindings, no_binding, more_binding, Case, CaseOf, Cases}
+use Rattle.ml_trees.specs.Tree.{no_case, more_case, Argument, Positional, LabelPun, Labelled, Arguments, no_argument, more_argument, Param}
+use Rattle.ml_trees.specs.Tree.{PatternParam, LabelParam, LabelPattern, DefaultParam, WrappedParam, WrappedDefault, TypesParam, Params, no_param}
+use Rattle.ml_trees.specs.Tree.{more_param, Part, LabelPart, IndexPart, CharPart, Parts, no_part, more_part, Field, FieldPun, AssignedField, Fields}
+use Rattle.ml_trees.specs.Tree.{no_field, more_field}
 
 -- ---- patterns
 

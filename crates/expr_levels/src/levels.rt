@@ -2,12 +2,12 @@
 //! number of levels.
 
 ghost use Rattle.std.specs.Prelude.{◌≡◌, ◌&&◌, nat_le};
-ghost use Rattle.ml_syntax.specs.Tree as pure;
-ghost use Rattle.ml_syntax.specs.View.{view, view_binding, view_case, view_argument, view_param, view_part, view_field, view_local, view_local_then, locals, links, commas, ops, maybe, tail_before, bindings, cases, arguments, params, parts, fields};
+ghost use Rattle.ml_trees.specs.Tree as pure;
+ghost use Rattle.ml_trees.specs.View.{view, view_binding, view_case, view_argument, view_param, view_part, view_field, view_local, view_local_then, locals, links, commas, ops, maybe, tail_before, bindings, cases, arguments, params, parts, fields};
 ghost use Rattle.expr_levels.specs.Height.{height, inside, links_height, maybe_height, tail_height, binding_height, bindings_height, case_height, cases_height, argument_height, arguments_height, param_height, params_height, part_height, parts_height, field_height, fields_height, local_height, locals_height};
 
 use crate::pattern_levels::pattern_fits;
-use ml_syntax::{
+use ml_trees::{
     Argument, Binding, Branch, Case, Expr, Field, LocalArgument, LocalModule, Param, Part, Word,
 };
 
@@ -24,7 +24,7 @@ pub fn fits(expr: &Expr, levels: usize) -> bool
 
 /// Whether the inside of an expression has at most so many levels.
 #[cycle(levels)]
-#[tactic(auto, using(crate::proofs::Heights::within, ml_syntax::proofs::Variants::expr_views))]
+#[tactic(auto, using(crate::proofs::Heights::within, ml_trees::proofs::Variants::expr_views))]
 fn inside_fits(expr: &Expr, levels: usize) -> bool
     ensures { result ≡ nat_le (inside (view expr.now)) levels }
 {
@@ -207,7 +207,7 @@ fn branches_fit(list: &[Branch], levels: usize) -> bool
 }
 
 #[cycle(levels)]
-#[tactic(auto, using(crate::proofs::Heights::within, ml_syntax::proofs::Variants::binding_views))]
+#[tactic(auto, using(crate::proofs::Heights::within, ml_trees::proofs::Variants::binding_views))]
 #[inline(never)]
 fn binding_fits(binding: &Binding, levels: usize) -> bool
     ensures { result ≡ nat_le (binding_height (view_binding binding.now)) levels }
@@ -272,7 +272,7 @@ fn arguments_fit(list: &[Argument], levels: usize) -> bool
 }
 
 #[cycle(levels)]
-#[tactic(auto, using(crate::proofs::Heights::within, ml_syntax::proofs::Variants::argument_views))]
+#[tactic(auto, using(crate::proofs::Heights::within, ml_trees::proofs::Variants::argument_views))]
 #[inline(never)]
 fn argument_fits(argument: &Argument, levels: usize) -> bool
     ensures { result ≡ nat_le (argument_height (view_argument argument.now)) levels }
@@ -299,7 +299,7 @@ fn params_fit(list: &[Param], levels: usize) -> bool
 }
 
 #[cycle(levels)]
-#[tactic(auto, using(crate::proofs::Heights::within, ml_syntax::proofs::Variants::param_views))]
+#[tactic(auto, using(crate::proofs::Heights::within, ml_trees::proofs::Variants::param_views))]
 #[inline(never)]
 fn param_fits(param: &Param, levels: usize) -> bool
     ensures { result ≡ nat_le (param_height (view_param param.now)) levels }
@@ -330,7 +330,7 @@ fn parts_fit(list: &[Part], levels: usize) -> bool
 }
 
 #[cycle(levels)]
-#[tactic(auto, using(crate::proofs::Heights::within, ml_syntax::proofs::Variants::part_views))]
+#[tactic(auto, using(crate::proofs::Heights::within, ml_trees::proofs::Variants::part_views))]
 #[inline(never)]
 fn part_fits(part: &Part, levels: usize) -> bool
     ensures { result ≡ nat_le (part_height (view_part part.now)) levels }
@@ -357,7 +357,7 @@ fn fields_fit(list: &[Field], levels: usize) -> bool
 }
 
 #[cycle(levels)]
-#[tactic(auto, using(crate::proofs::Heights::within, ml_syntax::proofs::Variants::field_views))]
+#[tactic(auto, using(crate::proofs::Heights::within, ml_trees::proofs::Variants::field_views))]
 #[inline(never)]
 fn field_fits(field: &Field, levels: usize) -> bool
     ensures { result ≡ nat_le (field_height (view_field field.now)) levels }

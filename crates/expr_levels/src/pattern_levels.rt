@@ -1,10 +1,10 @@
 //! The levels of patterns.
 
 ghost use Rattle.std.specs.Prelude.{◌≡◌, nat_le};
-ghost use Rattle.ml_syntax.specs.View.{view_pat, view_pat_field, pats, pat_fields};
+ghost use Rattle.ml_trees.specs.View.{view_pat, view_pat_field, pats, pat_fields};
 ghost use Rattle.expr_levels.specs.Height.{pat_height, inside_pat, pats_height, pat_field_height, pat_fields_height};
 
-use ml_syntax::{Pat, PatField};
+use ml_trees::{Pat, PatField};
 
 /// Whether a pattern has at most so many levels.
 #[cycle(pattern_levels)]
@@ -18,7 +18,7 @@ pub fn pattern_fits(pat: &Pat, levels: usize) -> bool
 
 /// Whether the inside of a pattern has at most so many levels.
 #[cycle(pattern_levels)]
-#[tactic(auto, using(crate::proofs::Heights::within, ml_syntax::proofs::Variants::pat_views))]
+#[tactic(auto, using(crate::proofs::Heights::within, ml_trees::proofs::Variants::pat_views))]
 fn inside_fits(pat: &Pat, levels: usize) -> bool
     ensures { result ≡ nat_le (inside_pat (view_pat pat.now)) levels }
 {
@@ -64,7 +64,7 @@ fn patterns_fit(list: &[Pat], levels: usize) -> bool
 }
 
 #[cycle(pattern_levels)]
-#[tactic(auto, using(crate::proofs::Heights::within, ml_syntax::proofs::Variants::pat_field_views))]
+#[tactic(auto, using(crate::proofs::Heights::within, ml_trees::proofs::Variants::pat_field_views))]
 #[inline(never)]
 fn field_fits(field: &PatField, levels: usize) -> bool
     ensures { result ≡ nat_le (pat_field_height (view_pat_field field.now)) levels }

@@ -2,15 +2,15 @@
 use Rattle.std.proofs.Common.{◌≡◌, ℕ, zero, suc, ◌-◌, ◌<◌, List, [], ◌∷◌, ◌++◌, length, Bool, true, false, Option, Some, None, refl, sym, ap, ◌∙◌}
 use Rattle.std.proofs.Common.{arith}
 use Rattle.std.specs.List.{slice_get}
-use Rattle.ml_syntax.specs.declared.word.Word.{Word}
-use Rattle.ml_syntax.specs.declared.expression.Case.{Case}
-use Rattle.ml_syntax.specs.declared.expression.Branch.{Branch}
-use Rattle.ml_syntax.specs.declared.expression.Field.{Field}
-use Rattle.ml_syntax.specs.declared.expression.Expr.{Expr as Source}
-use Rattle.ml_syntax.specs.Tree as pure
-use Rattle.ml_syntax.specs.Tree.{Expr, Links}
-use Rattle.ml_syntax.specs.WellFormed.{on_edge, on_links, on_body, on_cases, on_tail, has_else, is_open_if}
-use Rattle.ml_syntax.specs.View.{view, view_field, links, commas, ops, cases, fields, tail_before}
+use Rattle.ml_trees.specs.declared.word.Word.{Word}
+use Rattle.ml_trees.specs.declared.expression.Case.{Case}
+use Rattle.ml_trees.specs.declared.expression.Branch.{Branch}
+use Rattle.ml_trees.specs.declared.expression.Field.{Field}
+use Rattle.ml_trees.specs.declared.expression.Expr.{Expr as Source}
+use Rattle.ml_trees.specs.Tree as pure
+use Rattle.ml_trees.specs.Tree.{Expr, Links}
+use Rattle.ml_trees.specs.WellFormed.{on_edge, on_links, on_body, on_cases, on_tail, has_else, is_open_if}
+use Rattle.ml_trees.specs.View.{view, view_field, links, commas, ops, cases, fields, tail_before}
 use Rattle.expr_parts.specs.declared.edge.Edge.{Edge}
 use Rattle.expr_parts.specs.declared.edge.Edge.TheVariants as edge
 use Rattle.expr_parts.specs.Edges.{test_of}

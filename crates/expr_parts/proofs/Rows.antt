@@ -1,24 +1,24 @@
 -- What a loop found, as a row, and a row with the expression before it.
 use Rattle.std.proofs.Common.{◌≡◌, ℕ, ◌<◌, List, [], ◌∷◌, Bool, true, false, length, map, refl, ap, ◌∙◌, arith}
-use Rattle.ml_syntax.specs.declared.word.Word.{Word}
-use Rattle.ml_syntax.specs.declared.expression.LocalArgument.{LocalArgument}
-use Rattle.ml_syntax.specs.declared.expression.LocalArgument.TheBlock as l
-use Rattle.ml_syntax.specs.declared.expression.LocalArgument.TheVariants as l_v
-use Rattle.ml_syntax.specs.declared.expression.LocalModule.{LocalModule}
-use Rattle.ml_syntax.specs.declared.expression.Expr.{Expr}
-use Rattle.ml_syntax.specs.declared.expression.Binding.{Binding}
-use Rattle.ml_syntax.specs.declared.expression.Case.{Case}
-use Rattle.ml_syntax.specs.declared.expression.Branch.{Branch}
-use Rattle.ml_syntax.specs.declared.expression.Argument.{Argument}
-use Rattle.ml_syntax.specs.declared.expression.Param.{Param}
-use Rattle.ml_syntax.specs.declared.expression.Part.{Part}
-use Rattle.ml_syntax.specs.declared.expression.Field.{Field}
-use Rattle.ml_syntax.specs.declared.fixed.Fixed.TheVariants as key
-use Rattle.ml_syntax.specs.Tok.{fixed}
-use Rattle.ml_syntax.specs.Tree as pure
-use Rattle.ml_syntax.specs.View.{view, view_binding, view_case, view_argument, view_param, view_part, view_field, links, commas, ops, bindings, cases}
-use Rattle.ml_syntax.specs.View.{arguments, params, parts, fields, locals, view_path, view_local, view_local_then, tail_before}
-use Rattle.ml_syntax.proofs.Views.{locals_of}
+use Rattle.ml_trees.specs.declared.word.Word.{Word}
+use Rattle.ml_trees.specs.declared.expression.LocalArgument.{LocalArgument}
+use Rattle.ml_trees.specs.declared.expression.LocalArgument.TheBlock as l
+use Rattle.ml_trees.specs.declared.expression.LocalArgument.TheVariants as l_v
+use Rattle.ml_trees.specs.declared.expression.LocalModule.{LocalModule}
+use Rattle.ml_trees.specs.declared.expression.Expr.{Expr}
+use Rattle.ml_trees.specs.declared.expression.Binding.{Binding}
+use Rattle.ml_trees.specs.declared.expression.Case.{Case}
+use Rattle.ml_trees.specs.declared.expression.Branch.{Branch}
+use Rattle.ml_trees.specs.declared.expression.Argument.{Argument}
+use Rattle.ml_trees.specs.declared.expression.Param.{Param}
+use Rattle.ml_trees.specs.declared.expression.Part.{Part}
+use Rattle.ml_trees.specs.declared.expression.Field.{Field}
+use Rattle.ml_trees.specs.declared.fixed.Fixed.TheVariants as key
+use Rattle.ml_trees.specs.Tok.{fixed}
+use Rattle.ml_trees.specs.Tree as pure
+use Rattle.ml_trees.specs.View.{view, view_binding, view_case, view_argument, view_param, view_part, view_field, links, commas, ops, bindings, cases}
+use Rattle.ml_trees.specs.View.{arguments, params, parts, fields, locals, view_path, view_local, view_local_then, tail_before}
+use Rattle.ml_trees.proofs.Views.{locals_of}
 use Rattle.parse_base.proofs.Turns.{before}
 use Rattle.expr_reading.specs.ExprReading.{given_module, given_none, cons_link, cons_branch, cons_local, grown_seq, grown_chain, grown_apply}
 use Rattle.expr_reading.specs.ExprReading.{grown_postfix}

@@ -1,7 +1,7 @@
 -- What is looked for on the right edge of an expression (own).
 use Rattle.std.specs.Prelude.{Bool}
-use Rattle.ml_syntax.specs.Tree.{Expr}
-use Rattle.ml_syntax.specs.WellFormed.{is_form, is_if, is_open_if, has_cases}
+use Rattle.ml_trees.specs.Tree.{Expr}
+use Rattle.ml_trees.specs.WellFormed.{is_form, is_if, is_open_if, has_cases}
 use Rattle.expr_parts.specs.declared.edge.Edge.{Edge}
 use Rattle.expr_parts.specs.declared.edge.Edge.TheVariants as edge
 

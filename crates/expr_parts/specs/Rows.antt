@@ -1,17 +1,17 @@
 -- The parts of a reading, as the functions of the code read them (own).
 use Rattle.std.specs.Prelude.{ℕ, ◌-◌, List, [], ◌∷◌, Bool, true, false, not, Option, Some, None}
 use Rattle.rotor_base.specs.declared.token.Class.TheVariants as class
-use Rattle.ml_syntax.specs.declared.word.Word.{Word}
-use Rattle.ml_syntax.specs.declared.expression.Expr.{Expr as Source}
-use Rattle.ml_syntax.specs.declared.expression.Branch.{Branch}
-use Rattle.ml_syntax.specs.declared.expression.LocalArgument.{LocalArgument}
-use Rattle.ml_syntax.specs.declared.expression.LocalArgument.TheBlock as l
-use Rattle.ml_syntax.specs.declared.fixed.Fixed.TheVariants as key
-use Rattle.ml_syntax.specs.Tok.{Name, Tok, fixed, word}
-use Rattle.ml_syntax.specs.Tree.{no_part, more_part, Expr, Constr, Tag, ConstrApply, TagApply, LocalPath, Links, no_link, Field, Fields, no_field}
-use Rattle.ml_syntax.specs.Tree.{more_field}
-use Rattle.ml_syntax.specs.WellFormed.{op_level, is_constr}
-use Rattle.ml_syntax.specs.View.{view, view_tok, view_path, view_locals}
+use Rattle.ml_trees.specs.declared.word.Word.{Word}
+use Rattle.ml_trees.specs.declared.expression.Expr.{Expr as Source}
+use Rattle.ml_trees.specs.declared.expression.Branch.{Branch}
+use Rattle.ml_trees.specs.declared.expression.LocalArgument.{LocalArgument}
+use Rattle.ml_trees.specs.declared.expression.LocalArgument.TheBlock as l
+use Rattle.ml_trees.specs.declared.fixed.Fixed.TheVariants as key
+use Rattle.ml_trees.specs.Tok.{Name, Tok, fixed, word}
+use Rattle.ml_trees.specs.Tree.{no_part, more_part, Expr, Constr, Tag, ConstrApply, TagApply, LocalPath, Links, no_link, Field, Fields, no_field}
+use Rattle.ml_trees.specs.Tree.{more_field}
+use Rattle.ml_trees.specs.WellFormed.{op_level, is_constr}
+use Rattle.ml_trees.specs.View.{view, view_tok, view_path, view_locals}
 use Rattle.parse_base.specs.Steps.{Read, ◌>>=◌, expect, many_if, always}
 use Rattle.expr_reading.specs.declared.wanted.Wanted.TheVariants as wanted
 use Rattle.expr_reading.specs.ExprReading.{part_behind, grown_postfix, grown_seq, tier, operator_part, goes_on, cons_operand, grown_chain, read_expr}

@@ -1,12 +1,12 @@
 //! The right edge of an expression.
 
 ghost use Rattle.std.specs.Prelude.{◌≡◌};
-ghost use Rattle.ml_syntax.specs.View.{view};
-ghost use Rattle.ml_syntax.specs.WellFormed.{on_edge};
+ghost use Rattle.ml_trees.specs.View.{view};
+ghost use Rattle.ml_trees.specs.WellFormed.{on_edge};
 ghost use Rattle.expr_reading.specs.ExprReading.{is_calm};
 ghost use Rattle.expr_parts.specs.Edges.{test_of};
 
-use ml_syntax::{Case, Expr};
+use ml_trees::{Case, Expr};
 
 /// What is looked for on the right edge.
 #[derive(Clone, Copy, Debug, PartialEq, Eq)]
@@ -21,7 +21,7 @@ pub enum Edge {
 }
 
 /// Whether the right edge has what is looked for.
-#[tactic(auto, unfolding(ml_syntax::specs::View::view))]
+#[tactic(auto, unfolding(ml_trees::specs::View::view))]
 #[inline(never)]
 pub fn on_edge(looked_for: Edge, expr: &Expr) -> bool
     ensures { result ≡ on_edge (test_of looked_for) (view expr.now) }

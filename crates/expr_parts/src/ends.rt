@@ -1,18 +1,18 @@
 //! Small tests of expressions.
 
 ghost use Rattle.std.specs.Prelude.{◌≡◌};
-ghost use Rattle.ml_syntax.specs.View.{view, view_field, links, fields};
+ghost use Rattle.ml_trees.specs.View.{view, view_field, links, fields};
 ghost use Rattle.parse_base.specs.Tokens.{from};
 ghost use Rattle.expr_reading.specs.ExprReading as r;
-ghost use Rattle.ml_syntax.specs.WellFormed.{is_constr, is_bare, is_postfix};
+ghost use Rattle.ml_trees.specs.WellFormed.{is_constr, is_bare, is_postfix};
 
 use crate::edge::{Edge, is_calm, on_edge};
-use ml_syntax::{Expr, Field, Fixed};
+use ml_trees::{Expr, Field, Fixed};
 use parse_base::{Kind, kind_at};
 use rotor_base::Token;
 
 /// Whether it is a constructor, alone or behind Prefix words.
-#[tactic(auto, unfolding(ml_syntax::specs::View::view))]
+#[tactic(auto, unfolding(ml_trees::specs::View::view))]
 #[inline(never)]
 pub fn is_constr(expr: &Expr) -> bool
     ensures { result ≡ is_constr (view expr.now) }
@@ -25,7 +25,7 @@ pub fn is_constr(expr: &Expr) -> bool
 }
 
 /// Whether it is a constructor or a tag without an argument.
-#[tactic(auto, unfolding(ml_syntax::specs::View::view))]
+#[tactic(auto, unfolding(ml_trees::specs::View::view))]
 #[inline(never)]
 pub fn is_bare(expr: &Expr) -> bool
     ensures { result ≡ is_bare (view expr.now) }
@@ -34,7 +34,7 @@ pub fn is_bare(expr: &Expr) -> bool
 }
 
 /// Whether it has parts behind it.
-#[tactic(auto, unfolding(ml_syntax::specs::View::view))]
+#[tactic(auto, unfolding(ml_trees::specs::View::view))]
 #[inline(never)]
 pub fn is_postfix(expr: &Expr) -> bool
     ensures { result ≡ is_postfix (view expr.now) }
@@ -57,7 +57,7 @@ pub fn goes_on(expr: &Expr, tokens: &[Token<'_>], at: usize) -> bool
 }
 
 /// Whether a `;` may follow a field.
-#[tactic(auto, using(ml_syntax::proofs::Variants::field_views))]
+#[tactic(auto, using(ml_trees::proofs::Variants::field_views))]
 #[inline(never)]
 pub fn ends_field(field: &Field) -> bool
     ensures { result ≡ r.ends_field (view_field field.now) }

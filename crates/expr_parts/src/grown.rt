@@ -1,13 +1,13 @@
 //! An expression and the row behind it, as one expression.
 
 ghost use Rattle.std.specs.Prelude.{◌≡◌, ◌+◌, ◌∷◌, [], Some};
-ghost use Rattle.ml_syntax.specs.View.{view, links, commas, ops, arguments, parts};
+ghost use Rattle.ml_trees.specs.View.{view, links, commas, ops, arguments, parts};
 ghost use Rattle.parse_base.specs.Gives.{Gives};
 ghost use Rattle.expr_reading.specs.ExprReading as r;
 ghost use Rattle.std.specs.Prelude.{◌++◌, OnOk, IfErr};
 ghost use Rattle.parse_base.specs.declared.error.ReadError.TheVariants as unread;
 
-use ml_syntax::{Argument, Expr, Part, Word};
+use ml_trees::{Argument, Expr, Part, Word};
 use parse_base::ReadError;
 use std::alloc::Global;
 
@@ -22,7 +22,7 @@ pub fn push_boxed<T: Drop>(row: &mut Vec<T>, next: Box<T>) -> Result<(), ReadErr
 }
 
 /// Expressions between `;`, with or without a last `;`.
-#[tactic(auto, using(crate::proofs::Rows::grown, ml_syntax::proofs::Variants::expr_views))]
+#[tactic(auto, using(crate::proofs::Rows::grown, ml_trees::proofs::Variants::expr_views))]
 #[inline(never)]
 pub fn grown_seq(
     alloc: Global,
@@ -39,7 +39,7 @@ pub fn grown_seq(
 }
 
 /// Operands between `:=` or `<-`.
-#[tactic(auto, using(crate::proofs::Rows::grown, ml_syntax::proofs::Variants::expr_views))]
+#[tactic(auto, using(crate::proofs::Rows::grown, ml_trees::proofs::Variants::expr_views))]
 #[inline(never)]
 pub fn grown_assign(
     alloc: Global,
@@ -55,7 +55,7 @@ pub fn grown_assign(
 }
 
 /// Operands between `,`.
-#[tactic(auto, using(crate::proofs::Rows::grown, ml_syntax::proofs::Variants::expr_views))]
+#[tactic(auto, using(crate::proofs::Rows::grown, ml_trees::proofs::Variants::expr_views))]
 #[inline(never)]
 pub fn grown_tuple(alloc: Global, first: Box<Expr>, rest: Vec<Expr>) -> Result<Box<Expr>, ReadError>
     ensures { Gives (λ e. view e.value) result (Some (r.grown_chain 4 (view first.value) (commas rest.items))) }
@@ -67,7 +67,7 @@ pub fn grown_tuple(alloc: Global, first: Box<Expr>, rest: Vec<Expr>) -> Result<B
 }
 
 /// Operands between operators of one level.
-#[tactic(auto, using(crate::proofs::Rows::grown, ml_syntax::proofs::Variants::expr_views))]
+#[tactic(auto, using(crate::proofs::Rows::grown, ml_trees::proofs::Variants::expr_views))]
 #[inline(never)]
 pub fn grown_chain(
     alloc: Global,
@@ -84,7 +84,7 @@ pub fn grown_chain(
 }
 
 /// A function and its arguments.
-#[tactic(auto, using(crate::proofs::Rows::grown, ml_syntax::proofs::Variants::expr_views))]
+#[tactic(auto, using(crate::proofs::Rows::grown, ml_trees::proofs::Variants::expr_views))]
 #[inline(never)]
 pub fn grown_apply(
     alloc: Global,
@@ -106,7 +106,7 @@ pub fn grown_apply(
 }
 
 /// An expression and the parts behind it.
-#[tactic(auto, using(crate::proofs::Rows::grown, ml_syntax::proofs::Variants::expr_views))]
+#[tactic(auto, using(crate::proofs::Rows::grown, ml_trees::proofs::Variants::expr_views))]
 #[inline(never)]
 pub fn grown_postfix(
     alloc: Global,

@@ -2,7 +2,7 @@
 
 ghost use Rattle.std.specs.Prelude.{◌≤◌, length, Some};
 ghost use Rattle.rotor_base.specs.Limits.{max_file_bytes};
-ghost use Rattle.ml_syntax.specs.View.{locals, view_local};
+ghost use Rattle.ml_trees.specs.View.{locals, view_local};
 ghost use Rattle.parse_base.specs.Gives.{Gives};
 ghost use Rattle.parse_base.specs.Tokens.{from};
 ghost use Rattle.expr_reading.specs.ExprReading as r;
@@ -10,7 +10,7 @@ ghost use Rattle.expr_reading.specs.ExprReading.{read_local};
 ghost use Rattle.expr_parts.specs.Rows.{local_of};
 
 use crate::pieces::path;
-use ml_syntax::{Fixed, LocalArgument, LocalModule};
+use ml_trees::{Fixed, LocalArgument, LocalModule};
 use parse_base::{ReadError, expect, is, number};
 use rotor_base::Token;
 use std::alloc::Global;

@@ -2,10 +2,10 @@
 
 ghost use Rattle.std.specs.Prelude.{◌≡◌};
 ghost use Rattle.parse_base.specs.Tokens.{from};
-ghost use Rattle.ml_syntax.specs.WellFormed.{keyword_level, infix_level};
+ghost use Rattle.ml_trees.specs.WellFormed.{keyword_level, infix_level};
 ghost use Rattle.expr_parts.specs.Rows.{first_level};
 
-use ml_syntax::Fixed;
+use ml_trees::Fixed;
 use parse_base::{Kind, kind_at, text};
 use rotor_base::{Class, Token};
 
@@ -28,7 +28,7 @@ fn keyword_level(bytes: &[u8]) -> u32
 }
 
 /// The level of an operator by its first characters (the manual's chapter on expressions), or 0.
-#[tactic(auto, unfolding(ml_syntax::specs::WellFormed::infix_level))]
+#[tactic(auto, unfolding(ml_trees::specs::WellFormed::infix_level))]
 #[inline(never)]
 fn infix_level(bytes: &[u8]) -> u32
     ensures { result ≡ infix_level bytes.now }

@@ -2,18 +2,18 @@
 
 ghost use Rattle.std.specs.Prelude.{◌≡◌, ◌≤◌, ◌<◌, ◌+◌, false, length, Some};
 ghost use Rattle.rotor_base.specs.Limits.{max_file_bytes};
-ghost use Rattle.ml_syntax.specs.View.{view, view_word, view_path, view_run, view_bang, view_variable};
+ghost use Rattle.ml_trees.specs.View.{view, view_word, view_path, view_run, view_bang, view_variable};
 ghost use Rattle.parse_base.specs.Rows.{path_from};
 ghost use Rattle.parse_base.specs.Gives.{name_at, Gives};
 ghost use Rattle.parse_base.specs.Tokens.{from};
 ghost use Rattle.expr_reading.specs.ExprReading as r;
-ghost use Rattle.ml_syntax.specs.WellFormed.{is_literal};
-ghost use Rattle.ml_syntax.specs.Words.{closing};
-ghost use Rattle.ml_syntax.specs.Tok.{is_placed};
-ghost use Rattle.ml_syntax.specs.Runs.{has_colon, is_optional};
+ghost use Rattle.ml_trees.specs.WellFormed.{is_literal};
+ghost use Rattle.ml_trees.specs.Words.{closing};
+ghost use Rattle.ml_trees.specs.Tok.{is_placed};
+ghost use Rattle.ml_trees.specs.Runs.{has_colon, is_optional};
 ghost use Rattle.expr_parts.specs.Rows.{upper_word};
 
-use ml_syntax::{Bracket, Expr, Fixed, Path, Run, Variable, Word};
+use ml_trees::{Bracket, Expr, Fixed, Path, Run, Variable, Word};
 use parse_base::{Kind, ReadError, expect, is, kind_at, more_uppers, number, text, type_run, word};
 use rotor_base::{Class, Token};
 use std::alloc::Global;
@@ -151,7 +151,7 @@ pub fn direction(tokens: &[Token<'_>], at: usize) -> Result<(bool, usize), ReadE
 }
 
 /// After an expression in parentheses and its type: a `)`, or `:>`, a type and a `)`. `paren` is the place of the `(`.
-#[tactic(auto, using(ml_syntax::proofs::Variants::expr_views))]
+#[tactic(auto, using(ml_trees::proofs::Variants::expr_views))]
 #[inline(never)]
 pub fn typed(
     alloc: Global,
@@ -198,7 +198,7 @@ pub fn typed(
 }
 
 /// After an expression in parentheses: a `)`, or a type and a `)`. `paren` is the place of the `(`.
-#[tactic(auto, using(ml_syntax::proofs::Variants::expr_views))]
+#[tactic(auto, using(ml_trees::proofs::Variants::expr_views))]
 #[inline(never)]
 pub fn closed(
     alloc: Global,

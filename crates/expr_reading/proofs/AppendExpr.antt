@@ -1,21 +1,21 @@
 -- The words of an expression, and then more, are its words before more.
 use Rattle.std.proofs.Common.{◌≡◌, List, [], ◌∷◌, ◌++◌, Option, Some, None, refl, ap, ◌∙◌}
 use Rattle.rotor_base.specs.declared.token.Class.TheVariants as class
-use Rattle.ml_syntax.specs.declared.fixed.Fixed.TheVariants as key
-use Rattle.ml_syntax.specs.Tok.{Name, Tok, fixed, placed, word}
-use Rattle.ml_syntax.specs.Words.{wrap, direction, closing, opening, path_then, qualified_then, name_then, type_then, optional_then, bang_then}
-use Rattle.ml_syntax.specs.Words.{pat_then, variable_then, local_then, locals_then, lowers_then, expr_then, links_then, base_then, guard_then}
-use Rattle.ml_syntax.specs.Words.{tail_then, binding_then, bindings_then, case_then, cases_then, argument_then, arguments_then, param_then}
-use Rattle.ml_syntax.specs.Words.{params_then, part_then, parts_then, field_then, fields_then, expr_words}
-use Rattle.ml_syntax.specs.Tree.{Variable, PlainVariable, AnyVariable, LocalModule, LocalPath, LocalArguments, no_local, more_local, no_module, Expr}
-use Rattle.ml_syntax.specs.Tree.{Seq, Let, LetOpen, LetModule, Fun, Function, Match, Try, If, Chain, Minus, Apply, ConstrApply, TagApply, Assert}
-use Rattle.ml_syntax.specs.Tree.{Lazy, Postfix, Prefixed, Literal, BoolExpr, Value, Constr, Tag, UnitExpr, Paren, Typed, Coerced, EmptyBegin, Begin}
-use Rattle.ml_syntax.specs.Tree.{EmptyList, ListExpr, Record, Opened, While, For, Links, no_link, more_link, MaybeExpr, no_expr, some_expr, Tail}
-use Rattle.ml_syntax.specs.Tree.{no_else, or_else, or_if, Binding, PlainBinding, AppliedBinding, Bindings, no_binding, more_binding, Case, CaseOf}
-use Rattle.ml_syntax.specs.Tree.{Cases, no_case, more_case, Argument, Positional, LabelPun, Labelled, Arguments, no_argument, more_argument, Param}
-use Rattle.ml_syntax.specs.Tree.{PatternParam, LabelParam, LabelPattern, DefaultParam, WrappedParam, WrappedDefault, TypesParam, Params, no_param}
-use Rattle.ml_syntax.specs.Tree.{more_param, Part, LabelPart, IndexPart, CharPart, Parts, no_part, more_part, Field, FieldPun, AssignedField, Fields}
-use Rattle.ml_syntax.specs.Tree.{no_field, more_field}
+use Rattle.ml_trees.specs.declared.fixed.Fixed.TheVariants as key
+use Rattle.ml_trees.specs.Tok.{Name, Tok, fixed, placed, word}
+use Rattle.ml_trees.specs.Words.{wrap, direction, closing, opening, path_then, qualified_then, name_then, type_then, optional_then, bang_then}
+use Rattle.ml_trees.specs.Words.{pat_then, variable_then, local_then, locals_then, lowers_then, expr_then, links_then, base_then, guard_then}
+use Rattle.ml_trees.specs.Words.{tail_then, binding_then, bindings_then, case_then, cases_then, argument_then, arguments_then, param_then}
+use Rattle.ml_trees.specs.Words.{params_then, part_then, parts_then, field_then, fields_then, expr_words}
+use Rattle.ml_trees.specs.Tree.{Variable, PlainVariable, AnyVariable, LocalModule, LocalPath, LocalArguments, no_local, more_local, no_module, Expr}
+use Rattle.ml_trees.specs.Tree.{Seq, Let, LetOpen, LetModule, Fun, Function, Match, Try, If, Chain, Minus, Apply, ConstrApply, TagApply, Assert}
+use Rattle.ml_trees.specs.Tree.{Lazy, Postfix, Prefixed, Literal, BoolExpr, Value, Constr, Tag, UnitExpr, Paren, Typed, Coerced, EmptyBegin, Begin}
+use Rattle.ml_trees.specs.Tree.{EmptyList, ListExpr, Record, Opened, While, For, Links, no_link, more_link, MaybeExpr, no_expr, some_expr, Tail}
+use Rattle.ml_trees.specs.Tree.{no_else, or_else, or_if, Binding, PlainBinding, AppliedBinding, Bindings, no_binding, more_binding, Case, CaseOf}
+use Rattle.ml_trees.specs.Tree.{Cases, no_case, more_case, Argument, Positional, LabelPun, Labelled, Arguments, no_argument, more_argument, Param}
+use Rattle.ml_trees.specs.Tree.{PatternParam, LabelParam, LabelPattern, DefaultParam, WrappedParam, WrappedDefault, TypesParam, Params, no_param}
+use Rattle.ml_trees.specs.Tree.{more_param, Part, LabelPart, IndexPart, CharPart, Parts, no_part, more_part, Field, FieldPun, AssignedField, Fields}
+use Rattle.ml_trees.specs.Tree.{no_field, more_field}
 use Rattle.parse_base.proofs.LawsPat.{path_then_more, qualified_then_more, name_then_more, type_then_more, optional_then_more, pat_then_more}
 
 append_more : (xs j k : List Tok) → xs ++ (j ++ k) ≡ (xs ++ j) ++ k

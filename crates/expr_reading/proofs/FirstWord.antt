@@ -2,16 +2,16 @@
 use Rattle.std.proofs.Common.{◌≡◌, ◌≢◌, ℕ, ◌<◌, List, [], ◌∷◌, Bool, true, false, refl, arith}
 use Rattle.rotor_base.specs.declared.token.Class.{Class}
 use Rattle.rotor_base.specs.declared.token.Class.TheVariants as class
-use Rattle.ml_syntax.specs.declared.fixed.Fixed.TheVariants as key
-use Rattle.ml_syntax.specs.declared.word.Bracket.{Bracket}
-use Rattle.ml_syntax.specs.declared.word.Bracket.TheVariants as bracket
-use Rattle.ml_syntax.specs.Tok.{Name, Tok, fixed, placed, word}
-use Rattle.ml_syntax.specs.Words.{opening, truth, dotted_then, path_then, qualified_then, name_then, optional_then, expr_then, links_then}
-use Rattle.ml_syntax.specs.Words.{arguments_then, parts_then}
-use Rattle.ml_syntax.specs.WellFormed.{Wf, level, is_operator, is_literal}
-use Rattle.ml_syntax.specs.Tree.{ValueName, PlainName, OperatorName, Expr, Seq, Let, LetOpen, LetModule, Fun, Function, Match, Try, If, Chain, Minus}
-use Rattle.ml_syntax.specs.Tree.{Apply, ConstrApply, TagApply, Assert, Lazy, Postfix, Prefixed, Literal, BoolExpr, Value, Constr, Tag, UnitExpr}
-use Rattle.ml_syntax.specs.Tree.{Paren, Typed, Coerced, EmptyBegin, Begin, EmptyList, ListExpr, Record, Opened, While, For}
+use Rattle.ml_trees.specs.declared.fixed.Fixed.TheVariants as key
+use Rattle.ml_trees.specs.declared.word.Bracket.{Bracket}
+use Rattle.ml_trees.specs.declared.word.Bracket.TheVariants as bracket
+use Rattle.ml_trees.specs.Tok.{Name, Tok, fixed, placed, word}
+use Rattle.ml_trees.specs.Words.{opening, truth, dotted_then, path_then, qualified_then, name_then, optional_then, expr_then, links_then}
+use Rattle.ml_trees.specs.Words.{arguments_then, parts_then}
+use Rattle.ml_trees.specs.WellFormed.{Wf, level, is_operator, is_literal}
+use Rattle.ml_trees.specs.Tree.{ValueName, PlainName, OperatorName, Expr, Seq, Let, LetOpen, LetModule, Fun, Function, Match, Try, If, Chain, Minus}
+use Rattle.ml_trees.specs.Tree.{Apply, ConstrApply, TagApply, Assert, Lazy, Postfix, Prefixed, Literal, BoolExpr, Value, Constr, Tag, UnitExpr}
+use Rattle.ml_trees.specs.Tree.{Paren, Typed, Coerced, EmptyBegin, Begin, EmptyList, ListExpr, Record, Opened, While, For}
 
 -- words that can begin a Postfix
 abbrev pub begins_postfix : Tok → Bool

@@ -6,27 +6,27 @@ use Rattle.std.proofs.lemmas.Bool.{eqb-true}
 use Rattle.std.proofs.lemmas.Slice.Eq.{bytes_eq-Decides}
 use Rattle.rotor_base.specs.declared.token.Class.{Class}
 use Rattle.rotor_base.specs.declared.token.Class.TheVariants as class
-use Rattle.ml_syntax.specs.declared.fixed.Fixed.{Fixed}
-use Rattle.ml_syntax.specs.declared.fixed.Fixed.TheVariants as key
-use Rattle.ml_syntax.specs.declared.word.Bracket.{Bracket}
-use Rattle.ml_syntax.specs.declared.word.Bracket.TheVariants as bracket
-use Rattle.ml_syntax.specs.Tok.{Name, Tok, fixed, placed, word}
+use Rattle.ml_trees.specs.declared.fixed.Fixed.{Fixed}
+use Rattle.ml_trees.specs.declared.fixed.Fixed.TheVariants as key
+use Rattle.ml_trees.specs.declared.word.Bracket.{Bracket}
+use Rattle.ml_trees.specs.declared.word.Bracket.TheVariants as bracket
+use Rattle.ml_trees.specs.Tok.{Name, Tok, fixed, placed, word}
 use Rattle.expr_reading.specs.declared.wanted.Wanted.TheVariants as wanted
-use Rattle.ml_syntax.specs.Runs.{has_colon, is_optional, is_type_run}
-use Rattle.ml_syntax.specs.Words.{wrap, direction, closing, opening, dotted_then, path_then, qualified_then, name_then, type_then, optional_then}
-use Rattle.ml_syntax.specs.Words.{bang_then, pat_then, variable_then, local_then, locals_then, lowers_then, expr_then, links_then, base_then}
-use Rattle.ml_syntax.specs.Words.{guard_then, tail_then, binding_then, bindings_then, case_then, cases_then, argument_then, arguments_then}
-use Rattle.ml_syntax.specs.Words.{param_then, params_then, part_then, parts_then, field_then, fields_then}
-use Rattle.ml_syntax.specs.WellFormed.{WfName, WfType, WfBang, is_literal, is_minus, is_operator, level, op_level, on_edge, is_form, is_if, NoForm}
-use Rattle.ml_syntax.specs.WellFormed.{Calm, NoOpenIf, NoCases, IsOperand, CanBeAssigned, is_bare, is_constr, is_bracketed, WfLocal, WfLocals}
-use Rattle.ml_syntax.specs.WellFormed.{EndsField, Wf, WfSeq, WfChain, WfBase, WfGuard, WfTail, WfBinding, WfBindings, WfCase, WfCases, WfArgument}
-use Rattle.ml_syntax.specs.WellFormed.{WfArguments, WfParam, WfParams, WfPart, WfParts, WfField, WfFields}
-use Rattle.ml_syntax.specs.Tree.{Pat, ValueName, OperatorName, Variable, LocalModule, LocalArguments, no_local, Expr, Seq, Let, LetOpen, LetModule}
-use Rattle.ml_syntax.specs.Tree.{Fun, Function, Match, Try, If, Chain, Minus, Assert, Lazy, Prefixed, Literal, Value, Constr, Tag, UnitExpr, Paren}
-use Rattle.ml_syntax.specs.Tree.{Coerced, Begin, EmptyList, ListExpr, Record, Opened, Links, no_link, more_link, MaybeExpr, some_expr, Tail, no_else}
-use Rattle.ml_syntax.specs.Tree.{Binding, Bindings, no_binding, more_binding, Case, Cases, no_case, more_case, Argument, Positional, LabelPun}
-use Rattle.ml_syntax.specs.Tree.{Labelled, Arguments, no_argument, more_argument, Param, PatternParam, LabelParam, Params, no_param, more_param, Part}
-use Rattle.ml_syntax.specs.Tree.{IndexPart, CharPart, Parts, no_part, more_part, Field, FieldPun, AssignedField, Fields, no_field, more_field}
+use Rattle.ml_trees.specs.Runs.{has_colon, is_optional, is_type_run}
+use Rattle.ml_trees.specs.Words.{wrap, direction, closing, opening, dotted_then, path_then, qualified_then, name_then, type_then, optional_then}
+use Rattle.ml_trees.specs.Words.{bang_then, pat_then, variable_then, local_then, locals_then, lowers_then, expr_then, links_then, base_then}
+use Rattle.ml_trees.specs.Words.{guard_then, tail_then, binding_then, bindings_then, case_then, cases_then, argument_then, arguments_then}
+use Rattle.ml_trees.specs.Words.{param_then, params_then, part_then, parts_then, field_then, fields_then}
+use Rattle.ml_trees.specs.WellFormed.{WfName, WfType, WfBang, is_literal, is_minus, is_operator, level, op_level, on_edge, is_form, is_if, NoForm}
+use Rattle.ml_trees.specs.WellFormed.{Calm, NoOpenIf, NoCases, IsOperand, CanBeAssigned, is_bare, is_constr, is_bracketed, WfLocal, WfLocals}
+use Rattle.ml_trees.specs.WellFormed.{EndsField, Wf, WfSeq, WfChain, WfBase, WfGuard, WfTail, WfBinding, WfBindings, WfCase, WfCases, WfArgument}
+use Rattle.ml_trees.specs.WellFormed.{WfArguments, WfParam, WfParams, WfPart, WfParts, WfField, WfFields}
+use Rattle.ml_trees.specs.Tree.{Pat, ValueName, OperatorName, Variable, LocalModule, LocalArguments, no_local, Expr, Seq, Let, LetOpen, LetModule}
+use Rattle.ml_trees.specs.Tree.{Fun, Function, Match, Try, If, Chain, Minus, Assert, Lazy, Prefixed, Literal, Value, Constr, Tag, UnitExpr, Paren}
+use Rattle.ml_trees.specs.Tree.{Coerced, Begin, EmptyList, ListExpr, Record, Opened, Links, no_link, more_link, MaybeExpr, some_expr, Tail, no_else}
+use Rattle.ml_trees.specs.Tree.{Binding, Bindings, no_binding, more_binding, Case, Cases, no_case, more_case, Argument, Positional, LabelPun}
+use Rattle.ml_trees.specs.Tree.{Labelled, Arguments, no_argument, more_argument, Param, PatternParam, LabelParam, Params, no_param, more_param, Part}
+use Rattle.ml_trees.specs.Tree.{IndexPart, CharPart, Parts, no_part, more_part, Field, FieldPun, AssignedField, Fields, no_field, more_field}
 use Rattle.parse_base.specs.Steps.{Read, ◌>>=◌, expect, expect_at, many, many_if, always}
 use Rattle.parse_base.specs.Pieces.{more_uppers, qualifiers, lower_word, value_name, type_run, optional_type}
 use Rattle.parse_base.specs.PatReading.{read_pat, last_semicolon}

@@ -1,14 +1,14 @@
 -- Which words can go on with an expression.
 use Rattle.std.proofs.Common.{◌≡◌, ℕ, suc, ◌<◌, ◌≤◌, List, [], ◌∷◌, Bool, true, false, if◌then◌else◌, ◌||◌, Option, refl, sym, ap, subst, ◌∙◌, arith}
 use Rattle.rotor_base.specs.declared.token.Class.TheVariants as class
-use Rattle.ml_syntax.specs.declared.fixed.Fixed.{Fixed}
-use Rattle.ml_syntax.specs.declared.fixed.Fixed.TheVariants as key
-use Rattle.ml_syntax.specs.Tok.{Name, Tok, fixed, placed, word}
-use Rattle.ml_syntax.specs.Words.{expr_then}
-use Rattle.ml_syntax.specs.WellFormed.{level, op_level, infix_level, keyword_level, on_edge, on_body, on_links, on_cases, on_tail, is_form, is_if}
-use Rattle.ml_syntax.specs.WellFormed.{is_open_if, has_cases, NoForm, Calm, NoOpenIf, is_constr, Wf}
-use Rattle.ml_syntax.specs.Tree.{LocalModule, Expr, Seq, Let, LetOpen, LetModule, Fun, Function, Match, Try, If, Chain, Minus, Links, no_link}
-use Rattle.ml_syntax.specs.Tree.{more_link, Tail, no_else, or_else, or_if, Binding, Bindings, Case, CaseOf, Cases, no_case, more_case, Params}
+use Rattle.ml_trees.specs.declared.fixed.Fixed.{Fixed}
+use Rattle.ml_trees.specs.declared.fixed.Fixed.TheVariants as key
+use Rattle.ml_trees.specs.Tok.{Name, Tok, fixed, placed, word}
+use Rattle.ml_trees.specs.Words.{expr_then}
+use Rattle.ml_trees.specs.WellFormed.{level, op_level, infix_level, keyword_level, on_edge, on_body, on_links, on_cases, on_tail, is_form, is_if}
+use Rattle.ml_trees.specs.WellFormed.{is_open_if, has_cases, NoForm, Calm, NoOpenIf, is_constr, Wf}
+use Rattle.ml_trees.specs.Tree.{LocalModule, Expr, Seq, Let, LetOpen, LetModule, Fun, Function, Match, Try, If, Chain, Minus, Links, no_link}
+use Rattle.ml_trees.specs.Tree.{more_link, Tail, no_else, or_else, or_if, Binding, Bindings, Case, CaseOf, Cases, no_case, more_case, Params}
 use Rattle.expr_reading.specs.ExprReading.{last_of}
 use Rattle.expr_reading.proofs.FirstWord.{begins_postfix, begins_expr, Begins, expr_begins, Starts}
 

@@ -1,10 +1,10 @@
 -- The laws of expressions: what is read is the longest, none is missed, and two expressions of the same words are one.
 use Rattle.std.proofs.Common.{◌≡◌, ℕ, ◌≤◌, List, [], ◌++◌, length, Some, None, sym, ap, subst, ◌∙◌, arith}
-use Rattle.ml_syntax.specs.Tok.{Tok}
+use Rattle.ml_trees.specs.Tok.{Tok}
 use Rattle.expr_reading.specs.declared.wanted.Wanted.TheVariants as wanted
-use Rattle.ml_syntax.specs.Words.{expr_then, expr_words}
-use Rattle.ml_syntax.specs.WellFormed.{Wf}
-use Rattle.ml_syntax.specs.Tree.{Expr}
+use Rattle.ml_trees.specs.Words.{expr_then, expr_words}
+use Rattle.ml_trees.specs.WellFormed.{Wf}
+use Rattle.ml_trees.specs.Tree.{Expr}
 use Rattle.parse_base.proofs.Stepping.{some_is}
 use Rattle.parse_base.proofs.Reach.{exact, farther, Reach}
 use Rattle.parse_base.proofs.LawsPat.{not_longer, same_end, not_none}

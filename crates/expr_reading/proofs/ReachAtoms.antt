@@ -3,21 +3,21 @@ use Rattle.std.proofs.Common.{◌≡◌, ◌≢◌, ℕ, zero, suc, ◌<◌, ◌
 use Rattle.std.proofs.Common.{Some, None, refl, sym, ap, subst, ◌∙◌, arith}
 use Rattle.rotor_base.specs.declared.token.Class.{Class}
 use Rattle.rotor_base.specs.declared.token.Class.TheVariants as class
-use Rattle.ml_syntax.specs.declared.fixed.Fixed.{Fixed}
-use Rattle.ml_syntax.specs.declared.fixed.Fixed.TheVariants as key
-use Rattle.ml_syntax.specs.declared.word.Bracket.{Bracket}
-use Rattle.ml_syntax.specs.declared.word.Bracket.TheVariants as bracket
-use Rattle.ml_syntax.specs.Tok.{Name, Tok, fixed, placed, word}
+use Rattle.ml_trees.specs.declared.fixed.Fixed.{Fixed}
+use Rattle.ml_trees.specs.declared.fixed.Fixed.TheVariants as key
+use Rattle.ml_trees.specs.declared.word.Bracket.{Bracket}
+use Rattle.ml_trees.specs.declared.word.Bracket.TheVariants as bracket
+use Rattle.ml_trees.specs.Tok.{Name, Tok, fixed, placed, word}
 use Rattle.expr_reading.specs.declared.wanted.Wanted.TheVariants as wanted
-use Rattle.ml_syntax.specs.Runs.{has_colon, is_type_run}
-use Rattle.ml_syntax.specs.Words.{direction, closing, opening, dotted_then, path_then, qualified_then, name_then, optional_then, variable_then}
-use Rattle.ml_syntax.specs.Words.{expr_then, links_then, argument_then, arguments_then, part_then, parts_then}
-use Rattle.ml_syntax.specs.WellFormed.{WfName, WfType, is_literal, is_operator, level, NoForm, is_bare, is_constr, is_bracketed, Wf, WfSeq, WfPart}
-use Rattle.ml_syntax.specs.WellFormed.{WfParts, WfArgument, WfArguments}
-use Rattle.ml_syntax.specs.Tree.{ValueName, PlainName, OperatorName, Variable, PlainVariable, AnyVariable, Expr, Apply, ConstrApply, TagApply, Assert}
-use Rattle.ml_syntax.specs.Tree.{Lazy, Postfix, Prefixed, Literal, BoolExpr, Value, Constr, Tag, UnitExpr, Paren, Typed, Coerced, EmptyBegin, Begin}
-use Rattle.ml_syntax.specs.Tree.{EmptyList, ListExpr, Record, Opened, While, For, Links, no_link, more_link, Argument, Positional, LabelPun, Labelled}
-use Rattle.ml_syntax.specs.Tree.{Arguments, no_argument, more_argument, Part, LabelPart, IndexPart, CharPart, Parts, no_part, more_part}
+use Rattle.ml_trees.specs.Runs.{has_colon, is_type_run}
+use Rattle.ml_trees.specs.Words.{direction, closing, opening, dotted_then, path_then, qualified_then, name_then, optional_then, variable_then}
+use Rattle.ml_trees.specs.Words.{expr_then, links_then, argument_then, arguments_then, part_then, parts_then}
+use Rattle.ml_trees.specs.WellFormed.{WfName, WfType, is_literal, is_operator, level, NoForm, is_bare, is_constr, is_bracketed, Wf, WfSeq, WfPart}
+use Rattle.ml_trees.specs.WellFormed.{WfParts, WfArgument, WfArguments}
+use Rattle.ml_trees.specs.Tree.{ValueName, PlainName, OperatorName, Variable, PlainVariable, AnyVariable, Expr, Apply, ConstrApply, TagApply, Assert}
+use Rattle.ml_trees.specs.Tree.{Lazy, Postfix, Prefixed, Literal, BoolExpr, Value, Constr, Tag, UnitExpr, Paren, Typed, Coerced, EmptyBegin, Begin}
+use Rattle.ml_trees.specs.Tree.{EmptyList, ListExpr, Record, Opened, While, For, Links, no_link, more_link, Argument, Positional, LabelPun, Labelled}
+use Rattle.ml_trees.specs.Tree.{Arguments, no_argument, more_argument, Part, LabelPart, IndexPart, CharPart, Parts, no_part, more_part}
 use Rattle.parse_base.specs.Steps.{Read, ◌>>=◌, expect, many, many_if, always}
 use Rattle.parse_base.specs.Pieces.{dot_upper, more_uppers}
 use Rattle.parse_base.proofs.Stepping.{some_is, from_some, bind_ok}

@@ -4,21 +4,21 @@ use Rattle.std.proofs.Common.{subst, ◌∙◌, arith, codes}
 use Rattle.std.specs.Str.{bytes_eq}
 use Rattle.std.proofs.lemmas.Slice.Eq.{bytes_eq-Decides}
 use Rattle.rotor_base.specs.declared.token.Class.TheVariants as class
-use Rattle.ml_syntax.specs.declared.fixed.Fixed.TheVariants as key
-use Rattle.ml_syntax.specs.declared.word.Bracket.{Bracket}
-use Rattle.ml_syntax.specs.declared.word.Bracket.TheVariants as bracket
-use Rattle.ml_syntax.specs.Tok.{Name, Tok, fixed, placed, word}
+use Rattle.ml_trees.specs.declared.fixed.Fixed.TheVariants as key
+use Rattle.ml_trees.specs.declared.word.Bracket.{Bracket}
+use Rattle.ml_trees.specs.declared.word.Bracket.TheVariants as bracket
+use Rattle.ml_trees.specs.Tok.{Name, Tok, fixed, placed, word}
 use Rattle.expr_reading.specs.declared.wanted.Wanted.TheVariants as wanted
-use Rattle.ml_syntax.specs.Words.{opening, truth, path_then, qualified_then, name_then, type_then, optional_then, bang_then, local_then, expr_then}
-use Rattle.ml_syntax.specs.Words.{links_then, guard_then, tail_then, binding_then, bindings_then, case_then, cases_then, arguments_then, params_then}
-use Rattle.ml_syntax.specs.Words.{parts_then}
-use Rattle.ml_syntax.specs.WellFormed.{WfType, WfBang, level, on_edge, has_else, is_form, is_open_if, has_cases, NoOpenIf, NoCases, Wf, WfGuard}
-use Rattle.ml_syntax.specs.WellFormed.{WfTail, WfBinding, WfBindings, WfCase, WfCases}
-use Rattle.ml_syntax.specs.Tree.{Pat, ValuePat, ValueName, PlainName, OperatorName, LocalModule, Expr, Seq, Let, LetOpen, LetModule, Fun, Function}
-use Rattle.ml_syntax.specs.Tree.{Match, Try, If, Chain, Minus, Apply, ConstrApply, TagApply, Assert, Lazy, Postfix, Prefixed, Literal, BoolExpr}
-use Rattle.ml_syntax.specs.Tree.{Value, Constr, Tag, UnitExpr, Paren, Typed, Coerced, EmptyBegin, Begin, EmptyList, ListExpr, Record, Opened, While}
-use Rattle.ml_syntax.specs.Tree.{For, MaybeExpr, no_expr, some_expr, Tail, no_else, or_else, or_if, Binding, PlainBinding, AppliedBinding, Bindings}
-use Rattle.ml_syntax.specs.Tree.{no_binding, more_binding, Case, CaseOf, Cases, no_case, more_case, Params, no_param, more_param}
+use Rattle.ml_trees.specs.Words.{opening, truth, path_then, qualified_then, name_then, type_then, optional_then, bang_then, local_then, expr_then}
+use Rattle.ml_trees.specs.Words.{links_then, guard_then, tail_then, binding_then, bindings_then, case_then, cases_then, arguments_then, params_then}
+use Rattle.ml_trees.specs.Words.{parts_then}
+use Rattle.ml_trees.specs.WellFormed.{WfType, WfBang, level, on_edge, has_else, is_form, is_open_if, has_cases, NoOpenIf, NoCases, Wf, WfGuard}
+use Rattle.ml_trees.specs.WellFormed.{WfTail, WfBinding, WfBindings, WfCase, WfCases}
+use Rattle.ml_trees.specs.Tree.{Pat, ValuePat, ValueName, PlainName, OperatorName, LocalModule, Expr, Seq, Let, LetOpen, LetModule, Fun, Function}
+use Rattle.ml_trees.specs.Tree.{Match, Try, If, Chain, Minus, Apply, ConstrApply, TagApply, Assert, Lazy, Postfix, Prefixed, Literal, BoolExpr}
+use Rattle.ml_trees.specs.Tree.{Value, Constr, Tag, UnitExpr, Paren, Typed, Coerced, EmptyBegin, Begin, EmptyList, ListExpr, Record, Opened, While}
+use Rattle.ml_trees.specs.Tree.{For, MaybeExpr, no_expr, some_expr, Tail, no_else, or_else, or_if, Binding, PlainBinding, AppliedBinding, Bindings}
+use Rattle.ml_trees.specs.Tree.{no_binding, more_binding, Case, CaseOf, Cases, no_case, more_case, Params, no_param, more_param}
 use Rattle.parse_base.specs.Steps.{Read, ◌>>=◌, many, always}
 use Rattle.parse_base.specs.Pieces.{value_name}
 use Rattle.parse_base.proofs.Reach.{Reach, stop, and_then, as_read, many_shorter, many_if_shorter, no_turn, last_turn, more_turns, map_some, map_read}

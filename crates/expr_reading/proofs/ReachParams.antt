@@ -4,25 +4,25 @@ use Rattle.std.proofs.Common.{◌≡◌, ◌≢◌, ℕ, zero, suc, ◌-◌, ◌
 use Rattle.std.proofs.Common.{None, refl, sym, ap, subst, ◌∙◌, arith}
 use Rattle.rotor_base.specs.declared.token.Class.{Class}
 use Rattle.rotor_base.specs.declared.token.Class.TheVariants as class
-use Rattle.ml_syntax.specs.declared.fixed.Fixed.{Fixed}
-use Rattle.ml_syntax.specs.declared.fixed.Fixed.TheVariants as key
-use Rattle.ml_syntax.specs.declared.word.Bracket.TheVariants as bracket
-use Rattle.ml_syntax.specs.Tok.{Name, Tok, fixed, placed, word}
+use Rattle.ml_trees.specs.declared.fixed.Fixed.{Fixed}
+use Rattle.ml_trees.specs.declared.fixed.Fixed.TheVariants as key
+use Rattle.ml_trees.specs.declared.word.Bracket.TheVariants as bracket
+use Rattle.ml_trees.specs.Tok.{Name, Tok, fixed, placed, word}
 use Rattle.expr_reading.specs.declared.wanted.Wanted.TheVariants as wanted
-use Rattle.ml_syntax.specs.Runs.{has_colon}
-use Rattle.ml_syntax.specs.Words.{wrap, path_then, name_then, names_then, type_then, pat_then, local_then, locals_then, lowers_then, expr_then}
-use Rattle.ml_syntax.specs.Words.{param_then, params_then}
-use Rattle.ml_syntax.specs.WellFormed.{WfName, WfType, WfPat, pat_level, is_operator, level, IsOperand, is_bracketed, WfLocal, WfLocals, Wf, WfParam}
-use Rattle.ml_syntax.specs.WellFormed.{WfParams}
-use Rattle.ml_syntax.specs.Tree.{Pat, AsPat, OrPat, TuplePat, ConsPat, ConstrApplyPat, TagApplyPat, LazyPat, ExceptionPat, AnyPat, ValuePat}
-use Rattle.ml_syntax.specs.Tree.{LiteralPat, NegativePat, RangePat, ConstrPat, TagPat, BoolPat, UnitPat, ParenPat, TypedPat, EmptyPat, ListPat}
-use Rattle.ml_syntax.specs.Tree.{RecordPat, OpenedPat, no_pat, more_pat, ValueName, PlainName, OperatorName, LocalModule, LocalPath, LocalArguments}
-use Rattle.ml_syntax.specs.Tree.{no_local, more_local, no_module, Expr, Links, no_link, more_link, MaybeExpr, no_expr, some_expr, Tail, no_else}
-use Rattle.ml_syntax.specs.Tree.{or_else, or_if, Binding, PlainBinding, AppliedBinding, Bindings, no_binding, more_binding, Case, CaseOf, Cases}
-use Rattle.ml_syntax.specs.Tree.{no_case, more_case, Argument, Positional, LabelPun, Labelled, Arguments, no_argument, more_argument, Param}
-use Rattle.ml_syntax.specs.Tree.{PatternParam, LabelParam, LabelPattern, DefaultParam, WrappedParam, WrappedDefault, TypesParam, Params, no_param}
-use Rattle.ml_syntax.specs.Tree.{more_param, Part, LabelPart, IndexPart, CharPart, Parts, no_part, more_part, Field, FieldPun, AssignedField, Fields}
-use Rattle.ml_syntax.specs.Tree.{no_field, more_field}
+use Rattle.ml_trees.specs.Runs.{has_colon}
+use Rattle.ml_trees.specs.Words.{wrap, path_then, name_then, names_then, type_then, pat_then, local_then, locals_then, lowers_then, expr_then}
+use Rattle.ml_trees.specs.Words.{param_then, params_then}
+use Rattle.ml_trees.specs.WellFormed.{WfName, WfType, WfPat, pat_level, is_operator, level, IsOperand, is_bracketed, WfLocal, WfLocals, Wf, WfParam}
+use Rattle.ml_trees.specs.WellFormed.{WfParams}
+use Rattle.ml_trees.specs.Tree.{Pat, AsPat, OrPat, TuplePat, ConsPat, ConstrApplyPat, TagApplyPat, LazyPat, ExceptionPat, AnyPat, ValuePat}
+use Rattle.ml_trees.specs.Tree.{LiteralPat, NegativePat, RangePat, ConstrPat, TagPat, BoolPat, UnitPat, ParenPat, TypedPat, EmptyPat, ListPat}
+use Rattle.ml_trees.specs.Tree.{RecordPat, OpenedPat, no_pat, more_pat, ValueName, PlainName, OperatorName, LocalModule, LocalPath, LocalArguments}
+use Rattle.ml_trees.specs.Tree.{no_local, more_local, no_module, Expr, Links, no_link, more_link, MaybeExpr, no_expr, some_expr, Tail, no_else}
+use Rattle.ml_trees.specs.Tree.{or_else, or_if, Binding, PlainBinding, AppliedBinding, Bindings, no_binding, more_binding, Case, CaseOf, Cases}
+use Rattle.ml_trees.specs.Tree.{no_case, more_case, Argument, Positional, LabelPun, Labelled, Arguments, no_argument, more_argument, Param}
+use Rattle.ml_trees.specs.Tree.{PatternParam, LabelParam, LabelPattern, DefaultParam, WrappedParam, WrappedDefault, TypesParam, Params, no_param}
+use Rattle.ml_trees.specs.Tree.{more_param, Part, LabelPart, IndexPart, CharPart, Parts, no_part, more_part, Field, FieldPun, AssignedField, Fields}
+use Rattle.ml_trees.specs.Tree.{no_field, more_field}
 use Rattle.parse_base.specs.Steps.{Read, ◌>>=◌, expect, many, always}
 use Rattle.parse_base.specs.Pieces.{dot_upper, lower_word, operator_at, value_name}
 use Rattle.parse_base.specs.PatReading.{simple_pat, read_pat, closed_by as pat_closed_by}

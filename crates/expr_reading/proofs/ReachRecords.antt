@@ -2,14 +2,14 @@
 use Rattle.std.proofs.Common.{◌≡◌, ℕ, zero, suc, ◌<◌, ◌≤◌, List, [], ◌∷◌, ◌++◌, length, Bool, true, false, not, Option, Some, None, refl, sym, ap}
 use Rattle.std.proofs.Common.{◌∙◌, arith}
 use Rattle.rotor_base.specs.declared.token.Class.TheVariants as class
-use Rattle.ml_syntax.specs.declared.fixed.Fixed.{Fixed}
-use Rattle.ml_syntax.specs.declared.fixed.Fixed.TheVariants as key
-use Rattle.ml_syntax.specs.Tok.{Name, Tok, fixed, placed, word}
+use Rattle.ml_trees.specs.declared.fixed.Fixed.{Fixed}
+use Rattle.ml_trees.specs.declared.fixed.Fixed.TheVariants as key
+use Rattle.ml_trees.specs.Tok.{Name, Tok, fixed, placed, word}
 use Rattle.expr_reading.specs.declared.wanted.Wanted.TheVariants as wanted
-use Rattle.ml_syntax.specs.Words.{qualified_then, type_then, optional_then, expr_then, base_then, field_then, fields_then}
-use Rattle.ml_syntax.specs.WellFormed.{WfType, level, EndsField, Wf, WfBase, WfField, WfFields}
-use Rattle.ml_syntax.specs.Tree.{PlainName, Expr, Value, Record, MaybeExpr, no_expr, some_expr, Field, FieldPun, AssignedField, Fields, no_field}
-use Rattle.ml_syntax.specs.Tree.{more_field}
+use Rattle.ml_trees.specs.Words.{qualified_then, type_then, optional_then, expr_then, base_then, field_then, fields_then}
+use Rattle.ml_trees.specs.WellFormed.{WfType, level, EndsField, Wf, WfBase, WfField, WfFields}
+use Rattle.ml_trees.specs.Tree.{PlainName, Expr, Value, Record, MaybeExpr, no_expr, some_expr, Field, FieldPun, AssignedField, Fields, no_field}
+use Rattle.ml_trees.specs.Tree.{more_field}
 use Rattle.parse_base.specs.Steps.{◌>>=◌, expect, many, many_if}
 use Rattle.parse_base.specs.Pieces.{qualifiers, optional_type}
 use Rattle.parse_base.proofs.Stepping.{some_is}

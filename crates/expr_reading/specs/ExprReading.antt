@@ -2,23 +2,23 @@
 use Rattle.std.specs.Prelude.{ℕ, zero, suc, ◌-◌, List, [], ◌∷◌, Bool, true, false, not, ◌&&◌, if◌then◌else◌, ◌==◌, Option, Some, None, codes}
 use Rattle.std.specs.Str.{bytes_eq}
 use Rattle.rotor_base.specs.declared.token.Class.TheVariants as class
-use Rattle.ml_syntax.specs.declared.fixed.Fixed.TheVariants as key
-use Rattle.ml_syntax.specs.declared.word.Bracket.{Bracket}
-use Rattle.ml_syntax.specs.declared.word.Bracket.TheVariants as bracket
-use Rattle.ml_syntax.specs.Tok.{Name, Tok, fixed, placed, word}
-use Rattle.ml_syntax.specs.Runs.{has_colon, is_optional}
-use Rattle.ml_syntax.specs.Words.{closing}
-use Rattle.ml_syntax.specs.WellFormed.{is_literal, is_minus, is_operator, op_level, on_edge, on_body, is_form, is_if, is_open_if, has_cases}
-use Rattle.ml_syntax.specs.WellFormed.{is_postfix, is_bare, is_constr}
-use Rattle.ml_syntax.specs.Tree.{ValueName, PlainName, OperatorName, Pat, Variable, PlainVariable, AnyVariable, LocalModule, LocalPath}
-use Rattle.ml_syntax.specs.Tree.{LocalArguments, no_local, more_local, no_module, Expr, Seq, Let, LetOpen, LetModule, Fun, Function, Match, Try, If}
-use Rattle.ml_syntax.specs.Tree.{Chain, Minus, Apply, ConstrApply, TagApply, Assert, Lazy, Postfix, Prefixed, Literal, BoolExpr, Value, Constr, Tag}
-use Rattle.ml_syntax.specs.Tree.{UnitExpr, Paren, Typed, Coerced, EmptyBegin, Begin, EmptyList, ListExpr, Record, Opened, While, For, Links, no_link}
-use Rattle.ml_syntax.specs.Tree.{more_link, MaybeExpr, no_expr, some_expr, Tail, no_else, or_else, or_if, Binding, PlainBinding, AppliedBinding}
-use Rattle.ml_syntax.specs.Tree.{Bindings, no_binding, more_binding, Case, CaseOf, Cases, no_case, more_case, Argument, Positional, LabelPun}
-use Rattle.ml_syntax.specs.Tree.{Labelled, Arguments, no_argument, more_argument, Param, PatternParam, LabelParam, LabelPattern, DefaultParam}
-use Rattle.ml_syntax.specs.Tree.{WrappedParam, WrappedDefault, TypesParam, Params, no_param, more_param, Part, LabelPart, IndexPart, CharPart, Parts}
-use Rattle.ml_syntax.specs.Tree.{no_part, more_part, Field, FieldPun, AssignedField, Fields, no_field, more_field}
+use Rattle.ml_trees.specs.declared.fixed.Fixed.TheVariants as key
+use Rattle.ml_trees.specs.declared.word.Bracket.{Bracket}
+use Rattle.ml_trees.specs.declared.word.Bracket.TheVariants as bracket
+use Rattle.ml_trees.specs.Tok.{Name, Tok, fixed, placed, word}
+use Rattle.ml_trees.specs.Runs.{has_colon, is_optional}
+use Rattle.ml_trees.specs.Words.{closing}
+use Rattle.ml_trees.specs.WellFormed.{is_literal, is_minus, is_operator, op_level, on_edge, on_body, is_form, is_if, is_open_if, has_cases}
+use Rattle.ml_trees.specs.WellFormed.{is_postfix, is_bare, is_constr}
+use Rattle.ml_trees.specs.Tree.{ValueName, PlainName, OperatorName, Pat, Variable, PlainVariable, AnyVariable, LocalModule, LocalPath}
+use Rattle.ml_trees.specs.Tree.{LocalArguments, no_local, more_local, no_module, Expr, Seq, Let, LetOpen, LetModule, Fun, Function, Match, Try, If}
+use Rattle.ml_trees.specs.Tree.{Chain, Minus, Apply, ConstrApply, TagApply, Assert, Lazy, Postfix, Prefixed, Literal, BoolExpr, Value, Constr, Tag}
+use Rattle.ml_trees.specs.Tree.{UnitExpr, Paren, Typed, Coerced, EmptyBegin, Begin, EmptyList, ListExpr, Record, Opened, While, For, Links, no_link}
+use Rattle.ml_trees.specs.Tree.{more_link, MaybeExpr, no_expr, some_expr, Tail, no_else, or_else, or_if, Binding, PlainBinding, AppliedBinding}
+use Rattle.ml_trees.specs.Tree.{Bindings, no_binding, more_binding, Case, CaseOf, Cases, no_case, more_case, Argument, Positional, LabelPun}
+use Rattle.ml_trees.specs.Tree.{Labelled, Arguments, no_argument, more_argument, Param, PatternParam, LabelParam, LabelPattern, DefaultParam}
+use Rattle.ml_trees.specs.Tree.{WrappedParam, WrappedDefault, TypesParam, Params, no_param, more_param, Part, LabelPart, IndexPart, CharPart, Parts}
+use Rattle.ml_trees.specs.Tree.{no_part, more_part, Field, FieldPun, AssignedField, Fields, no_field, more_field}
 use Rattle.parse_base.specs.Steps.{Read, ◌>>=◌, expect, expect_at, many, many_if, always}
 use Rattle.parse_base.specs.Pieces.{more_uppers, qualifiers, lower_word, value_name, type_run, optional_type}
 use Rattle.parse_base.specs.PatReading.{simple_pat, read_pat, last_semicolon}

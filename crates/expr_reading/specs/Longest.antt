@@ -1,9 +1,9 @@
 -- What the reading of a sequence expression promises, in the words of the trees (own; the OCaml manual, "Expressions").
 use Rattle.std.specs.Prelude.{◌≡◌, ◌≤◌, List, ◌++◌, length}
-use Rattle.ml_syntax.specs.Tok.{Tok}
-use Rattle.ml_syntax.specs.Tree.{Expr}
-use Rattle.ml_syntax.specs.Words.{expr_words}
-use Rattle.ml_syntax.specs.WellFormed.{Wf}
+use Rattle.ml_trees.specs.Tok.{Tok}
+use Rattle.ml_trees.specs.Tree.{Expr}
+use Rattle.ml_trees.specs.Words.{expr_words}
+use Rattle.ml_trees.specs.WellFormed.{Wf}
 
 -- e is the longest sequence expression that begins the tokens, and the only one of its length
 pub record IsLongestExpr (ts : List Tok) (e : Expr) (rest : List Tok) : Type 0 where

@@ -1,10 +1,10 @@
 -- The steps of an `if`, branch by branch, and of expressions between commas.
 use Rattle.std.proofs.Common.{◌≡◌, ℕ, Option, Some, None, List, [], ◌∷◌, refl, ap, ◌∙◌}
 use Rattle.std.specs.Global.{Box}
-use Rattle.ml_syntax.specs.Tree as pure
-use Rattle.ml_syntax.specs.declared.expression.Branch.{Branch}
-use Rattle.ml_syntax.specs.declared.expression.Expr.{Expr}
-use Rattle.ml_syntax.specs.View.{view, maybe, otherwise, tail, links, commas}
+use Rattle.ml_trees.specs.Tree as pure
+use Rattle.ml_trees.specs.declared.expression.Branch.{Branch}
+use Rattle.ml_trees.specs.declared.expression.Expr.{Expr}
+use Rattle.ml_trees.specs.View.{view, maybe, otherwise, tail, links, commas}
 use Rattle.shape_core.specs.Shape.{Entries}
 use Rattle.binding_model.specs.Steps.{◌⨾◌}
 use Rattle.binding_model.specs.Taken.{Taken, taken}

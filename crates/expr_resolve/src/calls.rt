@@ -4,7 +4,7 @@ ghost use Rattle.std.specs.Prelude.{◌≡◌, ◌≤◌, IfOk, IsOk, Err, Some,
 ghost use Rattle.rotor_base.specs.Limits.{max_work};
 ghost use Rattle.rotor_base.specs.declared.place.Place.{Place};
 ghost use Rattle.ml_syntax.specs.Sound.{IsWithinFile};
-ghost use Rattle.ml_syntax.specs.View.{view};
+ghost use Rattle.ml_trees.specs.View.{view};
 ghost use Rattle.shape_core.specs.declared.error.FactError.TheVariants.{Heavy};
 ghost use Rattle.shape_core.specs.Node.{entries_of};
 ghost use Rattle.binding_model.specs.Facts.{facts_of};
@@ -16,7 +16,7 @@ ghost use Rattle.binding_model.specs.Walk.{expr_steps};
 use crate::expressions::expression;
 use binding_model::Sums;
 use found_facts::{facts_in, from_nothing, from_sums, looks_in, recorder_of};
-use ml_syntax::Expr;
+use ml_trees::Expr;
 use rotor_base::{Facts, Looks, MAX_WORK, Memory, Place, Watch};
 use shape_core::{FactError, Scope};
 use std::alloc::Global;

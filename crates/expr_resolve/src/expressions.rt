@@ -5,7 +5,7 @@
 
 ghost use Rattle.std.specs.Prelude.{◌≡◌, ◌≤◌, [], ◌∷◌, false, IfOk, length, take};
 ghost use Rattle.rotor_base.specs.declared.place.Goal.TheVariants.{Decl};
-ghost use Rattle.ml_syntax.specs.View.{view, view_word, view_words, view_tok, view_pat, view_local, view_variable, view_binding, view_case, view_argument, view_param, view_part, view_field, links, ops, maybe, tail, bindings, cases, arguments, params, parts, fields};
+ghost use Rattle.ml_trees.specs.View.{view, view_word, view_words, view_tok, view_pat, view_local, view_variable, view_binding, view_case, view_argument, view_param, view_part, view_field, links, ops, maybe, tail, bindings, cases, arguments, params, parts, fields};
 ghost use Rattle.ml_syntax.specs.Places.{operator_sites};
 ghost use Rattle.shape_core.specs.Shape.{◌⊕◌, a_val, none, brought};
 ghost use Rattle.shape_core.specs.Node.{entries_of};
@@ -17,9 +17,9 @@ ghost use Rattle.binding_model.specs.Walk.{uses, pat_steps, expr_steps, links_st
 ghost use Rattle.expr_resolve.specs.Branches.{branches_steps};
 
 use binding_model::Found;
-use ml_syntax::{
+use ml_syntax::label_of;
+use ml_trees::{
     Argument, Binding, Branch, Case, Expr, Field, LocalModule, Param, Part, Pat, Variable, Word,
-    label_of,
 };
 use resolve_base::{
     go_on_with, group, opening, start_of, use_label, use_minus, use_name_in, use_operator,
@@ -36,7 +36,7 @@ use std::alloc::Global;
 /// An expression in its scope: its references, links, groups and sites, in order. The scope is as it was, also after
 /// an `Err`: `Heavy` at the first site that is too heavy, or `Memory`. It takes stack at each level of the expression.
 #[cycle(expressions)]
-#[tactic(auto, using(ml_syntax::proofs::Variants::expr_views, crate::proofs::Branches::commas_so, crate::proofs::Branches::if_steps, crate::proofs::Fronts::front_of_front, binding_model::proofs::Takings::heavy_stays))]
+#[tactic(auto, using(ml_trees::proofs::Variants::expr_views, crate::proofs::Branches::commas_so, crate::proofs::Branches::if_steps, crate::proofs::Fronts::front_of_front, binding_model::proofs::Takings::heavy_stays))]
 pub fn expression(
     alloc: Global,
     found: &mut Found,
@@ -330,7 +330,7 @@ fn all_arguments(
 }
 
 #[cycle(expressions)]
-#[tactic(auto, using(ml_syntax::proofs::Variants::argument_views, binding_model::proofs::Takings::heavy_stays))]
+#[tactic(auto, using(ml_trees::proofs::Variants::argument_views, binding_model::proofs::Takings::heavy_stays))]
 fn argument(
     alloc: Global,
     found: &mut Found,
@@ -369,7 +369,7 @@ fn all_parts(
 }
 
 #[cycle(expressions)]
-#[tactic(auto, using(ml_syntax::proofs::Variants::part_views, binding_model::proofs::Takings::heavy_stays))]
+#[tactic(auto, using(ml_trees::proofs::Variants::part_views, binding_model::proofs::Takings::heavy_stays))]
 fn one_part(
     alloc: Global,
     found: &mut Found,
@@ -408,7 +408,7 @@ fn more_fields(
 }
 
 #[cycle(expressions)]
-#[tactic(auto, using(ml_syntax::proofs::Variants::field_views, binding_model::proofs::Takings::heavy_stays))]
+#[tactic(auto, using(ml_trees::proofs::Variants::field_views, binding_model::proofs::Takings::heavy_stays))]
 fn field(
     alloc: Global,
     found: &mut Found,
@@ -523,7 +523,7 @@ fn more_bindings(
 }
 
 #[cycle(expressions)]
-#[tactic(auto, using(ml_syntax::proofs::Variants::binding_views, crate::proofs::Fronts::front_of_front, binding_model::proofs::Takings::heavy_stays))]
+#[tactic(auto, using(ml_trees::proofs::Variants::binding_views, crate::proofs::Fronts::front_of_front, binding_model::proofs::Takings::heavy_stays))]
 fn binding(
     alloc: Global,
     found: &mut Found,
@@ -582,7 +582,7 @@ fn parameters(
 
 /// A parameter. The result is its variables, which its default value does not see.
 #[cycle(expressions)]
-#[tactic(auto, using(ml_syntax::proofs::Variants::param_views, binding_model::proofs::Takings::heavy_stays))]
+#[tactic(auto, using(ml_trees::proofs::Variants::param_views, binding_model::proofs::Takings::heavy_stays))]
 fn parameter(
     alloc: Global,
     found: &mut Found,

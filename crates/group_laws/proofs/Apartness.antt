@@ -9,7 +9,7 @@ use Rattle.rotor_base.specs.declared.place.Link.{Link}
 use Rattle.rotor_base.specs.Place.{same_place, IsBefore}
 use Rattle.ml_syntax.specs.Places.{Site, sites}
 use Rattle.ml_syntax.specs.Sound.{IsSound}
-use Rattle.ml_syntax.specs.Tree.{FileTree, Body, Face, UnitTree}
+use Rattle.ml_trees.specs.Tree.{FileTree, Body, Face, UnitTree}
 use Rattle.shape_core.specs.Shape.{Name, Entries, none, vals, last_of, or_else, some_if}
 use Rattle.ml_syntax.specs.Each.{Each}
 use Rattle.binding_model.specs.Scopes.{here, bound, after_unit}

@@ -1,22 +1,22 @@
 -- The groups of trees are those of their steps, in any scope.
 use Rattle.std.proofs.Common.{◌≡◌, ℕ, suc, ◌-◌, List, [], ◌∷◌, ◌++◌, true, false, refl, sym, ap, ◌∙◌, append-nil, append_assoc, Option, Some, None}
-use Rattle.ml_syntax.specs.Tok.{Name as Word}
+use Rattle.ml_trees.specs.Tok.{Name as Word}
 use Rattle.ml_syntax.specs.Places.{Site, punned, operated, operator_sites, name_sites, label_site}
-use Rattle.ml_syntax.specs.Tree.{ValueName, LocalModule, LocalPath, LocalArguments, no_local, more_local, no_module, Expr, Seq, Let, LetOpen}
-use Rattle.ml_syntax.specs.Tree.{LetModule, Fun, Function, Match, Try, If, Chain, Minus, Apply, ConstrApply, TagApply, Assert, Lazy, Postfix}
-use Rattle.ml_syntax.specs.Tree.{Prefixed, Literal, BoolExpr, Value, Constr, Tag, UnitExpr, Paren, Typed, Coerced, EmptyBegin, Begin, EmptyList}
-use Rattle.ml_syntax.specs.Tree.{ListExpr, Record, Opened, While, For, Links, no_link, more_link, MaybeExpr, no_expr, some_expr, Tail, no_else}
-use Rattle.ml_syntax.specs.Tree.{or_else, or_if, Binding, PlainBinding, AppliedBinding, Bindings, no_binding, more_binding, Case, CaseOf, Cases}
-use Rattle.ml_syntax.specs.Tree.{no_case, more_case, Argument, Positional, LabelPun, Labelled, Arguments, no_argument, more_argument, Param}
-use Rattle.ml_syntax.specs.Tree.{PatternParam, LabelParam, LabelPattern, DefaultParam, WrappedParam, WrappedDefault, TypesParam, Params, no_param}
-use Rattle.ml_syntax.specs.Tree.{more_param, Part, LabelPart, IndexPart, CharPart, Parts, no_part, more_part, Field, FieldPun, AssignedField, Fields}
-use Rattle.ml_syntax.specs.Tree.{no_field, more_field, ModExpr, ModPath, Struct, Functor, ModApply, ModParen, Sealed, ModArgument, ModuleArgument}
-use Rattle.ml_syntax.specs.Tree.{SealedArgument, NoArgument, ModArguments, no_mod_argument, more_mod_argument, FunctorParam, NamedParam, NoParam}
-use Rattle.ml_syntax.specs.Tree.{FunctorParams, no_functor_param, more_functor_param, ModType, TypePath, Sig, TypeOf, TypeParen, With, FunctorType}
-use Rattle.ml_syntax.specs.Tree.{ParamArrow, Arrow, MaybeType, no_type, some_type, Item, ExprItem, SeparatorItem, ValueItem, ExternalItem, TypeItem}
-use Rattle.ml_syntax.specs.Tree.{ExceptionItem, ModuleItem, ModuleTypeItem, OpenItem, IncludeItem, Items, no_item, more_item, SigItem, SeparatorSig}
-use Rattle.ml_syntax.specs.Tree.{ValSig, ExternalSig, TypeSig, ExceptionSig, ModuleSig, AliasSig, ModuleTypeSig, OpenSig, IncludeSig, SigItems}
-use Rattle.ml_syntax.specs.Tree.{no_sig_item, more_sig_item, FileTree, Body, Face, UnitTree}
+use Rattle.ml_trees.specs.Tree.{ValueName, LocalModule, LocalPath, LocalArguments, no_local, more_local, no_module, Expr, Seq, Let, LetOpen}
+use Rattle.ml_trees.specs.Tree.{LetModule, Fun, Function, Match, Try, If, Chain, Minus, Apply, ConstrApply, TagApply, Assert, Lazy, Postfix}
+use Rattle.ml_trees.specs.Tree.{Prefixed, Literal, BoolExpr, Value, Constr, Tag, UnitExpr, Paren, Typed, Coerced, EmptyBegin, Begin, EmptyList}
+use Rattle.ml_trees.specs.Tree.{ListExpr, Record, Opened, While, For, Links, no_link, more_link, MaybeExpr, no_expr, some_expr, Tail, no_else}
+use Rattle.ml_trees.specs.Tree.{or_else, or_if, Binding, PlainBinding, AppliedBinding, Bindings, no_binding, more_binding, Case, CaseOf, Cases}
+use Rattle.ml_trees.specs.Tree.{no_case, more_case, Argument, Positional, LabelPun, Labelled, Arguments, no_argument, more_argument, Param}
+use Rattle.ml_trees.specs.Tree.{PatternParam, LabelParam, LabelPattern, DefaultParam, WrappedParam, WrappedDefault, TypesParam, Params, no_param}
+use Rattle.ml_trees.specs.Tree.{more_param, Part, LabelPart, IndexPart, CharPart, Parts, no_part, more_part, Field, FieldPun, AssignedField, Fields}
+use Rattle.ml_trees.specs.Tree.{no_field, more_field, ModExpr, ModPath, Struct, Functor, ModApply, ModParen, Sealed, ModArgument, ModuleArgument}
+use Rattle.ml_trees.specs.Tree.{SealedArgument, NoArgument, ModArguments, no_mod_argument, more_mod_argument, FunctorParam, NamedParam, NoParam}
+use Rattle.ml_trees.specs.Tree.{FunctorParams, no_functor_param, more_functor_param, ModType, TypePath, Sig, TypeOf, TypeParen, With, FunctorType}
+use Rattle.ml_trees.specs.Tree.{ParamArrow, Arrow, MaybeType, no_type, some_type, Item, ExprItem, SeparatorItem, ValueItem, ExternalItem, TypeItem}
+use Rattle.ml_trees.specs.Tree.{ExceptionItem, ModuleItem, ModuleTypeItem, OpenItem, IncludeItem, Items, no_item, more_item, SigItem, SeparatorSig}
+use Rattle.ml_trees.specs.Tree.{ValSig, ExternalSig, TypeSig, ExceptionSig, ModuleSig, AliasSig, ModuleTypeSig, OpenSig, IncludeSig, SigItems}
+use Rattle.ml_trees.specs.Tree.{no_sig_item, more_sig_item, FileTree, Body, Face, UnitTree}
 use Rattle.shape_core.specs.Shape.{Shape, Struct as Structure, Functor as FunctorShape, Unitary, Opaque, Entries, none, a_mod, ◌⊕◌, brought}
 use Rattle.binding_model.specs.Variables.{variables, param_variables, for_variables}
 use Rattle.binding_model.specs.Scopes.{path_shape, applied, local_shape, here, bound, let_bound, let_scope, params_bound, opens, sig_opens, mod_shape}

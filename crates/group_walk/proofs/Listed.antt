@@ -3,7 +3,7 @@ use Rattle.std.proofs.Common.{◌≡◌, ◌∙◌, ◌∷◌, ◌++◌, ℕ, Li
 use Rattle.std.proofs.Math.Seq.{set-append_seam}
 use Rattle.rotor_base.specs.declared.place.Place.{Place}
 use Rattle.ml_syntax.specs.Places.{Site}
-use Rattle.ml_syntax.specs.Tree.{Binding, Bindings}
+use Rattle.ml_trees.specs.Tree.{Binding, Bindings}
 use Rattle.ml_syntax.proofs.KeptSites.{map-both}
 use Rattle.shape_core.specs.Shape.{Entries}
 use Rattle.binding_model.specs.Facts.{decls}

@@ -1,8 +1,8 @@
 -- The groups that the events of a tree make, one after another (own).
 use Rattle.std.specs.Prelude.{ℕ, List, [], ◌∷◌, ◌++◌, Bool, Option, Some, None, true, false, length, reverse, set, if◌then◌else◌}
 use Rattle.rotor_base.specs.declared.place.Place.{Place}
-use Rattle.ml_syntax.specs.declared.fixed.Fixed.{Fixed}
-use Rattle.ml_syntax.specs.declared.fixed.Fixed.TheVariants as key
+use Rattle.ml_trees.specs.declared.fixed.Fixed.{Fixed}
+use Rattle.ml_trees.specs.declared.fixed.Fixed.TheVariants as key
 use Rattle.ml_syntax.specs.Places.{Site, punned, name_sites, label_site}
 use Rattle.binding_model.specs.Facts.{decls}
 use Rattle.binding_model.specs.Scopes.{bound}

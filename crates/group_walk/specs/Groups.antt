@@ -1,20 +1,20 @@
 -- The groups of expressions, modules and units: they depend on no scope (own).
 use Rattle.std.specs.Prelude.{ℕ, List, [], Option, Some, None, true, ◌∷◌, ◌++◌}
 use Rattle.ml_syntax.specs.Places.{punned, label_site}
-use Rattle.ml_syntax.specs.Tree.{Expr, Seq, Let, LetOpen, LetModule, Fun, Function, Match, Try, If, Chain, Minus, Apply, ConstrApply, TagApply}
-use Rattle.ml_syntax.specs.Tree.{Assert, Lazy, Postfix, Prefixed, Literal, BoolExpr, Value, Constr, Tag, UnitExpr, Paren, Typed, Coerced, EmptyBegin}
-use Rattle.ml_syntax.specs.Tree.{Begin, EmptyList, ListExpr, Record, Opened, While, For, Links, no_link, more_link, MaybeExpr, no_expr, some_expr}
-use Rattle.ml_syntax.specs.Tree.{Tail, no_else, or_else, or_if, Binding, PlainBinding, AppliedBinding, Bindings, no_binding, more_binding, Case}
-use Rattle.ml_syntax.specs.Tree.{CaseOf, Cases, no_case, more_case, Argument, Positional, LabelPun, Labelled, Arguments, no_argument, more_argument}
-use Rattle.ml_syntax.specs.Tree.{Param, PatternParam, LabelParam, LabelPattern, DefaultParam, WrappedParam, WrappedDefault, TypesParam, Params}
-use Rattle.ml_syntax.specs.Tree.{no_param, more_param, Part, LabelPart, IndexPart, CharPart, Parts, no_part, more_part, Field, FieldPun}
-use Rattle.ml_syntax.specs.Tree.{AssignedField, Fields, no_field, more_field, ModExpr, ModPath, Struct, Functor, ModApply, ModParen, Sealed}
-use Rattle.ml_syntax.specs.Tree.{ModArgument, ModuleArgument, SealedArgument, NoArgument, ModArguments, no_mod_argument, more_mod_argument}
-use Rattle.ml_syntax.specs.Tree.{FunctorParam, NamedParam, NoParam, FunctorParams, no_functor_param, more_functor_param, ModType, TypePath, Sig}
-use Rattle.ml_syntax.specs.Tree.{TypeOf, TypeParen, With, FunctorType, ParamArrow, Arrow, MaybeType, no_type, some_type, Item, ExprItem}
-use Rattle.ml_syntax.specs.Tree.{SeparatorItem, ValueItem, ExternalItem, TypeItem, ExceptionItem, ModuleItem, ModuleTypeItem, OpenItem, IncludeItem}
-use Rattle.ml_syntax.specs.Tree.{Items, no_item, more_item, SigItem, SeparatorSig, ValSig, ExternalSig, TypeSig, ExceptionSig, ModuleSig, AliasSig}
-use Rattle.ml_syntax.specs.Tree.{ModuleTypeSig, OpenSig, IncludeSig, SigItems, no_sig_item, more_sig_item, FileTree, Body, Face, UnitTree}
+use Rattle.ml_trees.specs.Tree.{Expr, Seq, Let, LetOpen, LetModule, Fun, Function, Match, Try, If, Chain, Minus, Apply, ConstrApply, TagApply}
+use Rattle.ml_trees.specs.Tree.{Assert, Lazy, Postfix, Prefixed, Literal, BoolExpr, Value, Constr, Tag, UnitExpr, Paren, Typed, Coerced, EmptyBegin}
+use Rattle.ml_trees.specs.Tree.{Begin, EmptyList, ListExpr, Record, Opened, While, For, Links, no_link, more_link, MaybeExpr, no_expr, some_expr}
+use Rattle.ml_trees.specs.Tree.{Tail, no_else, or_else, or_if, Binding, PlainBinding, AppliedBinding, Bindings, no_binding, more_binding, Case}
+use Rattle.ml_trees.specs.Tree.{CaseOf, Cases, no_case, more_case, Argument, Positional, LabelPun, Labelled, Arguments, no_argument, more_argument}
+use Rattle.ml_trees.specs.Tree.{Param, PatternParam, LabelParam, LabelPattern, DefaultParam, WrappedParam, WrappedDefault, TypesParam, Params}
+use Rattle.ml_trees.specs.Tree.{no_param, more_param, Part, LabelPart, IndexPart, CharPart, Parts, no_part, more_part, Field, FieldPun}
+use Rattle.ml_trees.specs.Tree.{AssignedField, Fields, no_field, more_field, ModExpr, ModPath, Struct, Functor, ModApply, ModParen, Sealed}
+use Rattle.ml_trees.specs.Tree.{ModArgument, ModuleArgument, SealedArgument, NoArgument, ModArguments, no_mod_argument, more_mod_argument}
+use Rattle.ml_trees.specs.Tree.{FunctorParam, NamedParam, NoParam, FunctorParams, no_functor_param, more_functor_param, ModType, TypePath, Sig}
+use Rattle.ml_trees.specs.Tree.{TypeOf, TypeParen, With, FunctorType, ParamArrow, Arrow, MaybeType, no_type, some_type, Item, ExprItem}
+use Rattle.ml_trees.specs.Tree.{SeparatorItem, ValueItem, ExternalItem, TypeItem, ExceptionItem, ModuleItem, ModuleTypeItem, OpenItem, IncludeItem}
+use Rattle.ml_trees.specs.Tree.{Items, no_item, more_item, SigItem, SeparatorSig, ValSig, ExternalSig, TypeSig, ExceptionSig, ModuleSig, AliasSig}
+use Rattle.ml_trees.specs.Tree.{ModuleTypeSig, OpenSig, IncludeSig, SigItems, no_sig_item, more_sig_item, FileTree, Body, Face, UnitTree}
 use Rattle.shape_core.specs.Shape.{Entries}
 use Rattle.binding_model.specs.Scopes.{bound, let_bound}
 use Rattle.binding_model.specs.Steps.{groups_of}

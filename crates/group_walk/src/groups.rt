@@ -2,7 +2,7 @@
 
 ghost use Rattle.std.specs.Prelude.{◌≡◌, ◌++◌, ◌∷◌, [], IfOk, OnOk, true, map, reverse, if◌then◌else◌};
 ghost use Rattle.ml_syntax.specs.Places.{operator_sites};
-ghost use Rattle.ml_syntax.specs.View.{view_file, view_part_of, view_tok, view_unit};
+ghost use Rattle.ml_trees.specs.View.{view_file, view_part_of, view_tok, view_unit};
 ghost use Rattle.binding_model.specs.Facts.{decls};
 ghost use Rattle.binding_model.specs.Scopes.{here};
 ghost use Rattle.binding_model.specs.Walk.{file_number};
@@ -10,7 +10,8 @@ ghost use Rattle.group_walk.specs.Groups.{file_groups, maybe_groups, units_group
 ghost use Rattle.tree_walk.specs.Events.{bindings_begin, part_begins, part_ends};
 ghost use Rattle.group_walk.specs.Grouping.{begun, grouping, joined, listed, behind_group, behind_part, behind_parts, declares, grouping_of, hears, is_bar};
 
-use ml_syntax::{FileTree, Fixed, UnitTree, Word, operator_of};
+use ml_syntax::operator_of;
+use ml_trees::{FileTree, Fixed, UnitTree, Word};
 use rotor_base::{Memory, Place, Row};
 use std::alloc::Global;
 use tree_walk::{Event, Visitor, walk};

@@ -3,7 +3,7 @@ use Rattle.std.proofs.Common.{◌≡◌, ◌∙◌, ℕ, suc, inl, inr, List, []
 use Rattle.rotor_base.specs.declared.source.SourceFile.{SourceFile}
 use Rattle.ml_lexer.specs.Lexed.{Lexed, Lexeme, view_tokens}
 use Rattle.ml_lexer.proofs.OneCutting.{not_both}
-use Rattle.ml_syntax.specs.Tree.{FileTree}
+use Rattle.ml_trees.specs.Tree.{FileTree}
 use Rattle.project_reading.specs.Source.{ReadsAs}
 use Rattle.project_reading.specs.Sources.{AreCut, ReadAll}
 use Rattle.refusal_words.specs.Cut.{AreCuts, AreLexemes, view_cut}

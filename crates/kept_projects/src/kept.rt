@@ -2,10 +2,10 @@
 //! may have one proof alone, and that files are read as a project has trees in it.
 ghost use Rattle.std.specs.Prelude.{◌≡◌};
 ghost use Rattle.rotor_base.specs.Files.{FileSet};
-ghost use Rattle.ml_syntax.specs.View.{view_project};
+ghost use Rattle.ml_trees.specs.View.{view_project};
 ghost use Rattle.kept_projects.specs.Kept.{IsKept};
 
-use ml_syntax::Project;
+use ml_trees::Project;
 use mod_shape::Resolved;
 use rotor_base::Files;
 use std::marker::Model;

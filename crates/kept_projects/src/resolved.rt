@@ -1,11 +1,11 @@
 //! Reading and resolving a project.
 ghost use Rattle.std.specs.Prelude.{IfErr, IfOk};
-ghost use Rattle.ml_syntax.specs.View.{view_project};
+ghost use Rattle.ml_trees.specs.View.{view_project};
 ghost use Rattle.rename_files.specs.Answer.{Rejects};
 ghost use Rattle.rename_project.specs.Steps.{IsRefusedFor};
 ghost use Rattle.kept_projects.specs.Kept.{IsKept};
 
-use ml_syntax::Project;
+use ml_trees::Project;
 use mod_shape::Resolved;
 use project_reading::read_project;
 use rename_project::resolve;

@@ -2,12 +2,12 @@
 ghost use Rattle.std.specs.Prelude.{◌≡◌, IfOk, List, map};
 ghost use Rattle.rotor_base.specs.Files.{FileSet};
 ghost use Rattle.ml_lexer.specs.Lexed.{view_tokens};
-ghost use Rattle.ml_syntax.specs.Tree.{UnitTree};
+ghost use Rattle.ml_trees.specs.Tree.{UnitTree};
 ghost use Rattle.project_reading.specs.Reads.{Reads};
 ghost use Rattle.project_reading.specs.Sources.{AreCut};
 ghost use Rattle.refusal_words.specs.Cut.{AreCuts, view_cut};
 
-use ml_syntax::Project;
+use ml_trees::Project;
 use project_reading::Read;
 use refusal_words::CutSource;
 use rotor_base::{Memory, Token};

@@ -1,14 +1,14 @@
 -- An expression that begins with a `let` has the `in` of it.
 use Rattle.std.proofs.Common.{◌≡◌, ℕ, ◌≤◌, List, [], ◌∷◌, Bool, true, false, ◌==◌, refl, arith}
 use Rattle.std.proofs.lemmas.Bool.{eqb-true}
-use Rattle.ml_syntax.specs.declared.fixed.Fixed.TheVariants as key
-use Rattle.ml_syntax.specs.declared.word.Bracket.TheVariants as bracket
-use Rattle.ml_syntax.specs.Tok.{Name, Tok, fixed}
-use Rattle.ml_syntax.specs.Words.{path_then, bang_then, local_then, optional_then, expr_then, links_then, arguments_then, parts_then, binding_then}
-use Rattle.ml_syntax.specs.Words.{bindings_then}
-use Rattle.ml_syntax.specs.Tree.{PlainName, OperatorName, Seq, Let, LetOpen, LetModule, Chain, Apply}
-use Rattle.ml_syntax.specs.Tree.{ConstrApply, Postfix, BoolExpr, Value, Constr}
-use Rattle.ml_syntax.specs.Tree.{EmptyList, ListExpr, Opened}
+use Rattle.ml_trees.specs.declared.fixed.Fixed.TheVariants as key
+use Rattle.ml_trees.specs.declared.word.Bracket.TheVariants as bracket
+use Rattle.ml_trees.specs.Tok.{Name, Tok, fixed}
+use Rattle.ml_trees.specs.Words.{path_then, bang_then, local_then, optional_then, expr_then, links_then, arguments_then, parts_then, binding_then}
+use Rattle.ml_trees.specs.Words.{bindings_then}
+use Rattle.ml_trees.specs.Tree.{PlainName, OperatorName, Seq, Let, LetOpen, LetModule, Chain, Apply}
+use Rattle.ml_trees.specs.Tree.{ConstrApply, Postfix, BoolExpr, Value, Constr}
+use Rattle.ml_trees.specs.Tree.{EmptyList, ListExpr, Opened}
 use Rattle.matched_lets.specs.Matching.{open_ins, lacks_in}
 use Rattle.matched_lets.specs.Laws.{LetsHaveTheirIn}
 use Rattle.matched_lets.proofs.SmallParts.{optional_leaves, bang_leaves, path_leaves, local_leaves}

@@ -1,26 +1,26 @@
 -- The words of a tree take no `in` from behind it. Printed by scripts/print_matching.py from the clauses of Words.
 use Rattle.std.proofs.Common.{ℕ, ◌≤◌, List, ◌∷◌, ◌++◌, Bool, arith}
 use Rattle.rotor_base.specs.declared.token.Class.TheVariants as class
-use Rattle.ml_syntax.specs.declared.fixed.Fixed.{Fixed}
-use Rattle.ml_syntax.specs.declared.fixed.Fixed.TheVariants as key
-use Rattle.ml_syntax.specs.Tok.{Tok, fixed, placed, word}
-use Rattle.ml_syntax.specs.Words.{path_then, name_then, names_then, type_then, optional_then, closing, open_then, pat_then, pats_then, pat_field_then}
-use Rattle.ml_syntax.specs.Words.{pat_fields_then, direction, expr_then, links_then, base_then, guard_then, tail_then, binding_then, bindings_then}
-use Rattle.ml_syntax.specs.Words.{case_then, cases_then, argument_then, arguments_then, param_then, params_then, part_then, parts_then, field_then}
-use Rattle.ml_syntax.specs.Words.{fields_then}
-use Rattle.ml_syntax.specs.WellFormed.{WfPat, WfPats, WfPatField, WfPatFields, Wf, WfSeq, WfChain, WfBase, WfGuard, WfTail, WfBinding, WfBindings}
-use Rattle.ml_syntax.specs.WellFormed.{WfCase, WfCases, WfArgument, WfArguments, WfParam, WfParams, WfPart, WfParts, WfField, WfFields}
-use Rattle.ml_syntax.specs.Tree.{Pat, AsPat, OrPat, TuplePat, ConsPat, ConstrApplyPat, TagApplyPat, LazyPat, ExceptionPat, AnyPat, ValuePat}
-use Rattle.ml_syntax.specs.Tree.{LiteralPat, NegativePat, RangePat, ConstrPat, TagPat, BoolPat, UnitPat, ParenPat, TypedPat, EmptyPat, ListPat}
-use Rattle.ml_syntax.specs.Tree.{RecordPat, OpenedPat, Pats, no_pat, more_pat, PatField, PunnedField, MatchedField, PatFields, no_pat_field}
-use Rattle.ml_syntax.specs.Tree.{more_pat_field, Expr, Seq, Let, LetOpen, LetModule, Fun, Function, Match, Try, If, Chain, Minus, Apply, ConstrApply}
-use Rattle.ml_syntax.specs.Tree.{TagApply, Assert, Lazy, Postfix, Prefixed, Literal, BoolExpr, Value, Constr, Tag, UnitExpr, Paren, Typed, Coerced}
-use Rattle.ml_syntax.specs.Tree.{EmptyBegin, Begin, EmptyList, ListExpr, Record, Opened, While, For, Links, no_link, more_link, MaybeExpr, no_expr}
-use Rattle.ml_syntax.specs.Tree.{some_expr, Tail, no_else, or_else, or_if, Binding, PlainBinding, AppliedBinding, Bindings, no_binding, more_binding}
-use Rattle.ml_syntax.specs.Tree.{Case, CaseOf, Cases, no_case, more_case, Argument, Positional, LabelPun, Labelled, Arguments, no_argument}
-use Rattle.ml_syntax.specs.Tree.{more_argument, Param, PatternParam, LabelParam, LabelPattern, DefaultParam, WrappedParam, WrappedDefault, TypesParam}
-use Rattle.ml_syntax.specs.Tree.{Params, no_param, more_param, Part, LabelPart, IndexPart, CharPart, Parts, no_part, more_part, Field, FieldPun}
-use Rattle.ml_syntax.specs.Tree.{AssignedField, Fields, no_field, more_field}
+use Rattle.ml_trees.specs.declared.fixed.Fixed.{Fixed}
+use Rattle.ml_trees.specs.declared.fixed.Fixed.TheVariants as key
+use Rattle.ml_trees.specs.Tok.{Tok, fixed, placed, word}
+use Rattle.ml_trees.specs.Words.{path_then, name_then, names_then, type_then, optional_then, closing, open_then, pat_then, pats_then, pat_field_then}
+use Rattle.ml_trees.specs.Words.{pat_fields_then, direction, expr_then, links_then, base_then, guard_then, tail_then, binding_then, bindings_then}
+use Rattle.ml_trees.specs.Words.{case_then, cases_then, argument_then, arguments_then, param_then, params_then, part_then, parts_then, field_then}
+use Rattle.ml_trees.specs.Words.{fields_then}
+use Rattle.ml_trees.specs.WellFormed.{WfPat, WfPats, WfPatField, WfPatFields, Wf, WfSeq, WfChain, WfBase, WfGuard, WfTail, WfBinding, WfBindings}
+use Rattle.ml_trees.specs.WellFormed.{WfCase, WfCases, WfArgument, WfArguments, WfParam, WfParams, WfPart, WfParts, WfField, WfFields}
+use Rattle.ml_trees.specs.Tree.{Pat, AsPat, OrPat, TuplePat, ConsPat, ConstrApplyPat, TagApplyPat, LazyPat, ExceptionPat, AnyPat, ValuePat}
+use Rattle.ml_trees.specs.Tree.{LiteralPat, NegativePat, RangePat, ConstrPat, TagPat, BoolPat, UnitPat, ParenPat, TypedPat, EmptyPat, ListPat}
+use Rattle.ml_trees.specs.Tree.{RecordPat, OpenedPat, Pats, no_pat, more_pat, PatField, PunnedField, MatchedField, PatFields, no_pat_field}
+use Rattle.ml_trees.specs.Tree.{more_pat_field, Expr, Seq, Let, LetOpen, LetModule, Fun, Function, Match, Try, If, Chain, Minus, Apply, ConstrApply}
+use Rattle.ml_trees.specs.Tree.{TagApply, Assert, Lazy, Postfix, Prefixed, Literal, BoolExpr, Value, Constr, Tag, UnitExpr, Paren, Typed, Coerced}
+use Rattle.ml_trees.specs.Tree.{EmptyBegin, Begin, EmptyList, ListExpr, Record, Opened, While, For, Links, no_link, more_link, MaybeExpr, no_expr}
+use Rattle.ml_trees.specs.Tree.{some_expr, Tail, no_else, or_else, or_if, Binding, PlainBinding, AppliedBinding, Bindings, no_binding, more_binding}
+use Rattle.ml_trees.specs.Tree.{Case, CaseOf, Cases, no_case, more_case, Argument, Positional, LabelPun, Labelled, Arguments, no_argument}
+use Rattle.ml_trees.specs.Tree.{more_argument, Param, PatternParam, LabelParam, LabelPattern, DefaultParam, WrappedParam, WrappedDefault, TypesParam}
+use Rattle.ml_trees.specs.Tree.{Params, no_param, more_param, Part, LabelPart, IndexPart, CharPart, Parts, no_part, more_part, Field, FieldPun}
+use Rattle.ml_trees.specs.Tree.{AssignedField, Fields, no_field, more_field}
 use Rattle.matched_lets.specs.Matching.{open_ins}
 use Rattle.matched_lets.proofs.SmallParts.{bang_leaves, fixed_leaves, local_leaves, lowers_leaves, name_leaves, names_leaves, open_leaves}
 use Rattle.matched_lets.proofs.SmallParts.{opening_leaves, operator_leaves, optional_leaves, path_leaves, qualified_leaves, run_leaves}

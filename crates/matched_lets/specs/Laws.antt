@@ -1,9 +1,9 @@
 -- Every `let` of an expression has its `in` (the OCaml manual, "Expressions").
 use Rattle.std.specs.Prelude.{◌≡◌, List, false}
-use Rattle.ml_syntax.specs.Tok.{Tok}
-use Rattle.ml_syntax.specs.Tree.{Expr}
-use Rattle.ml_syntax.specs.Words.{expr_then}
-use Rattle.ml_syntax.specs.WellFormed.{Wf}
+use Rattle.ml_trees.specs.Tok.{Tok}
+use Rattle.ml_trees.specs.Tree.{Expr}
+use Rattle.ml_trees.specs.Words.{expr_then}
+use Rattle.ml_trees.specs.WellFormed.{Wf}
 use Rattle.matched_lets.specs.Matching.{lacks_in}
 
 -- tokens that begin with an expression do not begin with a `let` that lacks its `in`

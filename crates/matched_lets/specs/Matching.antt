@@ -1,7 +1,7 @@
 -- Which `let` has its `in`: each `in` is that of the last `let` before it that has none yet (own).
 use Rattle.std.specs.Prelude.{ℕ, ◌+◌, ◌-◌, List, [], ◌∷◌, Bool, false, ◌==◌, Option, Some, None, if◌then◌else◌}
-use Rattle.ml_syntax.specs.declared.fixed.Fixed.TheVariants as key
-use Rattle.ml_syntax.specs.Tok.{Tok, fixed, placed}
+use Rattle.ml_trees.specs.declared.fixed.Fixed.TheVariants as key
+use Rattle.ml_trees.specs.Tok.{Tok, fixed, placed}
 use Rattle.parse_base.specs.declared.tokens.Kind.{Kind}
 use Rattle.parse_base.specs.declared.tokens.Kind.TheVariants as kind
 

@@ -5,7 +5,7 @@ ghost use Rattle.rotor_base.specs.Limits.{max_file_bytes};
 ghost use Rattle.matched_lets.specs.Matching.{lacks_in, still_open};
 ghost use Rattle.parse_base.specs.Tokens.{from};
 
-use ml_syntax::Fixed;
+use ml_trees::Fixed;
 use parse_base::{Kind, is, kind_at};
 use rotor_base::Token;
 

@@ -2,9 +2,9 @@
 use Rattle.std.proofs.Common.{◌≡◌, ℕ, ◌≤◌, List, Option, drop, length, sym, ap, ◌∙◌}
 use Rattle.std.proofs.lemmas.List.{drop_all}
 use Rattle.std.specs.Global.{Box}
-use Rattle.ml_syntax.specs.declared.expression.Branch.{Branch}
-use Rattle.ml_syntax.specs.declared.expression.Expr.{Expr}
-use Rattle.ml_syntax.specs.View.{tail, otherwise}
+use Rattle.ml_trees.specs.declared.expression.Branch.{Branch}
+use Rattle.ml_trees.specs.declared.expression.Expr.{Expr}
+use Rattle.ml_trees.specs.View.{tail, otherwise}
 use Rattle.ml_syntax.specs.Places.{Site, tail_sites}
 
 pub branches_done : (s start : List Site) (l : List Branch) (i : ℕ) (o : Option (Box Expr)) → length l ≤ i

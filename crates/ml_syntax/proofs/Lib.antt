@@ -1,6 +1,3 @@
-pub mod FirstByte
-pub mod Views
-pub mod Variants
 pub mod Branches
 pub mod Spelling
 pub mod Steps

@@ -3,9 +3,9 @@ use Rattle.std.proofs.Common.{◌≡◌, ℕ, suc, ◌+◌, ◌≤◌, List, [],
 use Rattle.std.proofs.Common.{if◌then◌else◌}
 use Rattle.rotor_base.specs.declared.token.Class.{Class}
 use Rattle.rotor_base.specs.declared.token.Class.TheVariants as class
-use Rattle.ml_syntax.specs.declared.fixed.Fixed.{Fixed}
-use Rattle.ml_syntax.specs.Tok.{Tok, fixed, placed, word, is_placed, fixed_of, tok_or, tok, toks_from}
-use Rattle.ml_syntax.specs.Words.{words}
+use Rattle.ml_trees.specs.declared.fixed.Fixed.{Fixed}
+use Rattle.ml_trees.specs.Tok.{Tok, fixed, placed, word, is_placed, fixed_of, tok_or, tok, toks_from}
+use Rattle.ml_trees.specs.Words.{words}
 use Rattle.ml_syntax.specs.Sound.{AreNumbered}
 use Rattle.ml_syntax.specs.Places.{Site, sites}
 use Rattle.ml_syntax.specs.Standing.{IsWordOf, a_name, a_label, an_equals, a_sign, a_minus, StandsAt, StandFrom, AreNumberedBy, SitesAreNumbered}

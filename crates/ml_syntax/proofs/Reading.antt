@@ -1,42 +1,42 @@
 -- Reading the words of a well-formed tree one by one finds its places.
 use Rattle.std.proofs.Common.{◌≡◌, ℕ, ◌<◌, ◌≤◌, List, [], ◌∷◌, ◌++◌, Bool, true, false, not, Option, Some, None, refl, ap, subst, arith}
 use Rattle.rotor_base.specs.declared.token.Class.TheVariants as class
-use Rattle.ml_syntax.specs.declared.fixed.Fixed.{Fixed}
-use Rattle.ml_syntax.specs.declared.fixed.Fixed.TheVariants as key
-use Rattle.ml_syntax.specs.declared.word.Bracket.{Bracket}
-use Rattle.ml_syntax.specs.declared.word.Bracket.TheVariants as bracket
+use Rattle.ml_trees.specs.declared.fixed.Fixed.{Fixed}
+use Rattle.ml_trees.specs.declared.fixed.Fixed.TheVariants as key
+use Rattle.ml_trees.specs.declared.word.Bracket.{Bracket}
+use Rattle.ml_trees.specs.declared.word.Bracket.TheVariants as bracket
 use Rattle.ml_syntax.proofs.Steps.{Read, pass, loose, name, first, label, equals, sign, minus}
-use Rattle.ml_syntax.specs.Tok.{Name, Tok, fixed, placed, word}
-use Rattle.ml_syntax.specs.Tree.{ValueName, PlainName, OperatorName, Pat, AsPat, OrPat, TuplePat, ConsPat, ConstrApplyPat, TagApplyPat, LazyPat}
-use Rattle.ml_syntax.specs.Tree.{ExceptionPat, AnyPat, ValuePat, LiteralPat, NegativePat, RangePat, ConstrPat, TagPat, BoolPat, UnitPat, ParenPat}
-use Rattle.ml_syntax.specs.Tree.{TypedPat, EmptyPat, ListPat, RecordPat, OpenedPat, Pats, no_pat, more_pat, PatField, PunnedField, MatchedField}
-use Rattle.ml_syntax.specs.Tree.{PatFields, no_pat_field, more_pat_field, Variable, PlainVariable, AnyVariable, LocalModule, LocalPath}
-use Rattle.ml_syntax.specs.Tree.{LocalArguments, no_local, more_local, no_module, Expr, Seq, Let, LetOpen, LetModule, Fun, Function, Match, Try, If}
-use Rattle.ml_syntax.specs.Tree.{Chain, Minus, Apply, ConstrApply, TagApply, Assert, Lazy, Postfix, Prefixed, Literal, BoolExpr, Value, Constr, Tag}
-use Rattle.ml_syntax.specs.Tree.{UnitExpr, Paren, Typed, Coerced, EmptyBegin, Begin, EmptyList, ListExpr, Record, Opened, While, For, Links, no_link}
-use Rattle.ml_syntax.specs.Tree.{more_link, MaybeExpr, no_expr, some_expr, Tail, no_else, or_else, or_if, Binding, PlainBinding, AppliedBinding}
-use Rattle.ml_syntax.specs.Tree.{Bindings, no_binding, more_binding, Case, CaseOf, Cases, no_case, more_case, Argument, Positional, LabelPun}
-use Rattle.ml_syntax.specs.Tree.{Labelled, Arguments, no_argument, more_argument, Param, PatternParam, LabelParam, LabelPattern, DefaultParam}
-use Rattle.ml_syntax.specs.Tree.{WrappedParam, WrappedDefault, TypesParam, Params, no_param, more_param, Part, LabelPart, IndexPart, CharPart, Parts}
-use Rattle.ml_syntax.specs.Tree.{no_part, more_part, Field, FieldPun, AssignedField, Fields, no_field, more_field, ModuleName, UpperName, AnyName}
-use Rattle.ml_syntax.specs.Tree.{Constraint, ConstraintOf, WithClause, WithOf, ModExpr, ModPath, Struct, Functor, ModApply, ModParen, Sealed}
-use Rattle.ml_syntax.specs.Tree.{ModArgument, ModuleArgument, SealedArgument, NoArgument, ModArguments, no_mod_argument, more_mod_argument}
-use Rattle.ml_syntax.specs.Tree.{FunctorParam, NamedParam, NoParam, FunctorParams, no_functor_param, more_functor_param, ModType, TypePath, Sig}
-use Rattle.ml_syntax.specs.Tree.{TypeOf, TypeParen, With, FunctorType, ParamArrow, Arrow, MaybeType, no_type, some_type, Item, ExprItem}
-use Rattle.ml_syntax.specs.Tree.{SeparatorItem, ValueItem, ExternalItem, TypeItem, ExceptionItem, ModuleItem, ModuleTypeItem, OpenItem, IncludeItem}
-use Rattle.ml_syntax.specs.Tree.{Items, no_item, more_item, SigItem, SeparatorSig, ValSig, ExternalSig, TypeSig, ExceptionSig, ModuleSig, AliasSig}
-use Rattle.ml_syntax.specs.Tree.{ModuleTypeSig, OpenSig, IncludeSig, SigItems, no_sig_item, more_sig_item, FileTree, Body, Face}
-use Rattle.ml_syntax.specs.Words.{dotted_then, path_then, qualified_then, name_then, names_then, type_then, optional_then, bang_then, truth, opening}
-use Rattle.ml_syntax.specs.Words.{closing, open_then, pat_then, pats_then, pat_field_then, pat_fields_then, variable_then, local_then, locals_then}
-use Rattle.ml_syntax.specs.Words.{lowers_then, wrap, direction, expr_then, links_then, base_then, guard_then, tail_then, binding_then, bindings_then}
-use Rattle.ml_syntax.specs.Words.{case_then, cases_then, argument_then, arguments_then, param_then, params_then, part_then, parts_then, field_then}
-use Rattle.ml_syntax.specs.Words.{fields_then, module_name_then, constraint_then, constraints_then, withs_then, texts_then, mod_then}
-use Rattle.ml_syntax.specs.Words.{mod_argument_then, mod_arguments_then, functor_param_then, functor_params_then, mod_type_then, signature_then}
-use Rattle.ml_syntax.specs.Words.{item_then, items_then, sig_item_then, sig_items_then, words}
-use Rattle.ml_syntax.specs.WellFormed.{level, op_level, Wf, WfSeq, WfChain, WfBase, WfGuard, WfTail, WfBinding, WfBindings, WfCase, WfCases}
-use Rattle.ml_syntax.specs.WellFormed.{WfArgument, WfArguments, WfParam, WfParams, WfPart, WfParts, WfField, WfFields, is_separator, WfMod}
-use Rattle.ml_syntax.specs.WellFormed.{WfModArgument, WfModArguments, WfFunctorParam, WfFunctorParams, WfModType, WfSignature, WfItem, WfItems}
-use Rattle.ml_syntax.specs.WellFormed.{WfSigItem, WfSigItems, WfFile}
+use Rattle.ml_trees.specs.Tok.{Name, Tok, fixed, placed, word}
+use Rattle.ml_trees.specs.Tree.{ValueName, PlainName, OperatorName, Pat, AsPat, OrPat, TuplePat, ConsPat, ConstrApplyPat, TagApplyPat, LazyPat}
+use Rattle.ml_trees.specs.Tree.{ExceptionPat, AnyPat, ValuePat, LiteralPat, NegativePat, RangePat, ConstrPat, TagPat, BoolPat, UnitPat, ParenPat}
+use Rattle.ml_trees.specs.Tree.{TypedPat, EmptyPat, ListPat, RecordPat, OpenedPat, Pats, no_pat, more_pat, PatField, PunnedField, MatchedField}
+use Rattle.ml_trees.specs.Tree.{PatFields, no_pat_field, more_pat_field, Variable, PlainVariable, AnyVariable, LocalModule, LocalPath}
+use Rattle.ml_trees.specs.Tree.{LocalArguments, no_local, more_local, no_module, Expr, Seq, Let, LetOpen, LetModule, Fun, Function, Match, Try, If}
+use Rattle.ml_trees.specs.Tree.{Chain, Minus, Apply, ConstrApply, TagApply, Assert, Lazy, Postfix, Prefixed, Literal, BoolExpr, Value, Constr, Tag}
+use Rattle.ml_trees.specs.Tree.{UnitExpr, Paren, Typed, Coerced, EmptyBegin, Begin, EmptyList, ListExpr, Record, Opened, While, For, Links, no_link}
+use Rattle.ml_trees.specs.Tree.{more_link, MaybeExpr, no_expr, some_expr, Tail, no_else, or_else, or_if, Binding, PlainBinding, AppliedBinding}
+use Rattle.ml_trees.specs.Tree.{Bindings, no_binding, more_binding, Case, CaseOf, Cases, no_case, more_case, Argument, Positional, LabelPun}
+use Rattle.ml_trees.specs.Tree.{Labelled, Arguments, no_argument, more_argument, Param, PatternParam, LabelParam, LabelPattern, DefaultParam}
+use Rattle.ml_trees.specs.Tree.{WrappedParam, WrappedDefault, TypesParam, Params, no_param, more_param, Part, LabelPart, IndexPart, CharPart, Parts}
+use Rattle.ml_trees.specs.Tree.{no_part, more_part, Field, FieldPun, AssignedField, Fields, no_field, more_field, ModuleName, UpperName, AnyName}
+use Rattle.ml_trees.specs.Tree.{Constraint, ConstraintOf, WithClause, WithOf, ModExpr, ModPath, Struct, Functor, ModApply, ModParen, Sealed}
+use Rattle.ml_trees.specs.Tree.{ModArgument, ModuleArgument, SealedArgument, NoArgument, ModArguments, no_mod_argument, more_mod_argument}
+use Rattle.ml_trees.specs.Tree.{FunctorParam, NamedParam, NoParam, FunctorParams, no_functor_param, more_functor_param, ModType, TypePath, Sig}
+use Rattle.ml_trees.specs.Tree.{TypeOf, TypeParen, With, FunctorType, ParamArrow, Arrow, MaybeType, no_type, some_type, Item, ExprItem}
+use Rattle.ml_trees.specs.Tree.{SeparatorItem, ValueItem, ExternalItem, TypeItem, ExceptionItem, ModuleItem, ModuleTypeItem, OpenItem, IncludeItem}
+use Rattle.ml_trees.specs.Tree.{Items, no_item, more_item, SigItem, SeparatorSig, ValSig, ExternalSig, TypeSig, ExceptionSig, ModuleSig, AliasSig}
+use Rattle.ml_trees.specs.Tree.{ModuleTypeSig, OpenSig, IncludeSig, SigItems, no_sig_item, more_sig_item, FileTree, Body, Face}
+use Rattle.ml_trees.specs.Words.{dotted_then, path_then, qualified_then, name_then, names_then, type_then, optional_then, bang_then, truth, opening}
+use Rattle.ml_trees.specs.Words.{closing, open_then, pat_then, pats_then, pat_field_then, pat_fields_then, variable_then, local_then, locals_then}
+use Rattle.ml_trees.specs.Words.{lowers_then, wrap, direction, expr_then, links_then, base_then, guard_then, tail_then, binding_then, bindings_then}
+use Rattle.ml_trees.specs.Words.{case_then, cases_then, argument_then, arguments_then, param_then, params_then, part_then, parts_then, field_then}
+use Rattle.ml_trees.specs.Words.{fields_then, module_name_then, constraint_then, constraints_then, withs_then, texts_then, mod_then}
+use Rattle.ml_trees.specs.Words.{mod_argument_then, mod_arguments_then, functor_param_then, functor_params_then, mod_type_then, signature_then}
+use Rattle.ml_trees.specs.Words.{item_then, items_then, sig_item_then, sig_items_then, words}
+use Rattle.ml_trees.specs.WellFormed.{level, op_level, Wf, WfSeq, WfChain, WfBase, WfGuard, WfTail, WfBinding, WfBindings, WfCase, WfCases}
+use Rattle.ml_trees.specs.WellFormed.{WfArgument, WfArguments, WfParam, WfParams, WfPart, WfParts, WfField, WfFields, is_separator, WfMod}
+use Rattle.ml_trees.specs.WellFormed.{WfModArgument, WfModArguments, WfFunctorParam, WfFunctorParams, WfModType, WfSignature, WfItem, WfItems}
+use Rattle.ml_trees.specs.WellFormed.{WfSigItem, WfSigItems, WfFile}
 use Rattle.ml_syntax.specs.Places.{Site, plain, punned, operator_sites, name_sites, names_sites, pat_sites, pats_sites, pat_field_sites}
 use Rattle.ml_syntax.specs.Places.{pat_fields_sites, variable_sites, expr_sites, links_sites, maybe_sites, tail_sites, binding_sites, bindings_sites}
 use Rattle.ml_syntax.specs.Places.{case_sites, cases_sites, argument_sites, arguments_sites, param_sites, params_sites, part_sites, parts_sites}

@@ -6,8 +6,8 @@ use Rattle.rotor_base.specs.declared.token.Class.TheVariants as class
 use Rattle.ml_lexer.specs.Lexed.{Lexeme}
 use Rattle.ml_lexer.specs.Respelled.{respelled_lexemes_from}
 use Rattle.ml_lexer.proofs.Respelling.{respelled_keep_lexemes}
-use Rattle.ml_syntax.specs.declared.fixed.Fixed.{Fixed}
-use Rattle.ml_syntax.specs.Tok.{Tok, fixed, placed, word, is_placed, fixed_of, tok_or, tok}
+use Rattle.ml_trees.specs.declared.fixed.Fixed.{Fixed}
+use Rattle.ml_trees.specs.Tok.{Tok, fixed, placed, word, is_placed, fixed_of, tok_or, tok}
 use Rattle.ml_syntax.specs.Respelled.{Spelling, spelled, spell_tok}
 use Rattle.ml_syntax.specs.RespelledFile.{lexeme_toks, new_words, RespelledTokens, RespelledFilesAreRead}
 use Rattle.ml_syntax.proofs.Spelling.{respelling_keeps_the_tree}

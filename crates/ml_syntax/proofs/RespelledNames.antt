@@ -16,10 +16,10 @@ use Rattle.ml_lexer.specs.Laws.{IsWhole}
 use Rattle.ml_lexer.specs.Respelled.{IsBehindBrace, BarFollows, MayBecomeBetween, AllMayBecomeBehind}
 use Rattle.ml_lexer.proofs.Order.{EachWhole, each_whole}
 use Rattle.ml_lexer.proofs.Between.{names_keep_lexemes}
-use Rattle.ml_syntax.specs.declared.fixed.Fixed.{Fixed}
-use Rattle.ml_syntax.specs.declared.fixed.Fixed.TheVariants as key
-use Rattle.ml_syntax.specs.Tok.{Tok, placed, word, fixed_of, fixed_among, fixed_at, tok_or, tok, spellings}
-use Rattle.ml_syntax.specs.Words.{words}
+use Rattle.ml_trees.specs.declared.fixed.Fixed.{Fixed}
+use Rattle.ml_trees.specs.declared.fixed.Fixed.TheVariants as key
+use Rattle.ml_trees.specs.Tok.{Tok, placed, word, fixed_of, fixed_among, fixed_at, tok_or, tok, spellings}
+use Rattle.ml_trees.specs.Words.{words}
 use Rattle.ml_syntax.specs.Places.{Site, sites}
 use Rattle.ml_syntax.specs.Sound.{IsLexeme, AreNumbered}
 use Rattle.ml_syntax.specs.Standing.{begins_bar, is_safe, EndsInBrace, StandsAt, AreNumberedBy}

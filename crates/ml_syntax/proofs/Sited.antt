@@ -1,30 +1,30 @@
 -- What is said of all places found in a tree is said of those found before it.
 use Rattle.std.proofs.Common.{List, [], ◌∷◌, ◌++◌, Bool, true, false, codes}
-use Rattle.ml_syntax.specs.declared.fixed.Fixed.TheVariants as key
+use Rattle.ml_trees.specs.declared.fixed.Fixed.TheVariants as key
 use Rattle.ml_syntax.specs.Each.{Each}
-use Rattle.ml_syntax.specs.Tok.{Tok, placed, word}
+use Rattle.ml_trees.specs.Tok.{Tok, placed, word}
 use Rattle.ml_syntax.specs.Places.{Site, plain, punned, operated, operator_sites, name_sites, label_site, names_sites, pat_sites, pats_sites}
 use Rattle.ml_syntax.specs.Places.{pat_field_sites, pat_fields_sites, variable_sites, expr_sites, links_sites, maybe_sites, tail_sites, binding_sites}
 use Rattle.ml_syntax.specs.Places.{bindings_sites, case_sites, cases_sites, argument_sites, arguments_sites, param_sites, params_sites, part_sites}
 use Rattle.ml_syntax.specs.Places.{parts_sites, field_sites, fields_sites, mod_sites, mod_argument_sites, mod_arguments_sites, functor_param_sites}
 use Rattle.ml_syntax.specs.Places.{functor_params_sites, mod_type_sites, signature_sites, item_sites, items_sites, sig_item_sites, sig_items_sites}
-use Rattle.ml_syntax.specs.Tree.{ValueName, PlainName, OperatorName, Pat, AsPat, OrPat, TuplePat, ConsPat, ConstrApplyPat, TagApplyPat, LazyPat}
-use Rattle.ml_syntax.specs.Tree.{ExceptionPat, AnyPat, ValuePat, LiteralPat, NegativePat, RangePat, ConstrPat, TagPat, BoolPat, UnitPat, ParenPat}
-use Rattle.ml_syntax.specs.Tree.{TypedPat, EmptyPat, ListPat, RecordPat, OpenedPat, Pats, no_pat, more_pat, PatField, PunnedField, MatchedField}
-use Rattle.ml_syntax.specs.Tree.{PatFields, no_pat_field, more_pat_field, Variable, PlainVariable, AnyVariable, Expr, Seq, Let, LetOpen, LetModule}
-use Rattle.ml_syntax.specs.Tree.{Fun, Function, Match, Try, If, Chain, Minus, Apply, ConstrApply, TagApply, Assert, Lazy, Postfix, Prefixed, Literal}
-use Rattle.ml_syntax.specs.Tree.{BoolExpr, Value, Constr, Tag, UnitExpr, Paren, Typed, Coerced, EmptyBegin, Begin, EmptyList, ListExpr, Record}
-use Rattle.ml_syntax.specs.Tree.{Opened, While, For, Links, no_link, more_link, MaybeExpr, no_expr, some_expr, Tail, no_else, or_else, or_if, Binding}
-use Rattle.ml_syntax.specs.Tree.{PlainBinding, AppliedBinding, Bindings, no_binding, more_binding, Case, CaseOf, Cases, no_case, more_case, Argument}
-use Rattle.ml_syntax.specs.Tree.{Positional, LabelPun, Labelled, Arguments, no_argument, more_argument, Param, PatternParam, LabelParam, LabelPattern}
-use Rattle.ml_syntax.specs.Tree.{DefaultParam, WrappedParam, WrappedDefault, TypesParam, Params, no_param, more_param, Part, LabelPart, IndexPart}
-use Rattle.ml_syntax.specs.Tree.{CharPart, Parts, no_part, more_part, Field, FieldPun, AssignedField, Fields, no_field, more_field, ModExpr, ModPath}
-use Rattle.ml_syntax.specs.Tree.{Struct, Functor, ModApply, ModParen, Sealed, ModArgument, ModuleArgument, SealedArgument, NoArgument, ModArguments}
-use Rattle.ml_syntax.specs.Tree.{no_mod_argument, more_mod_argument, FunctorParam, NamedParam, NoParam, FunctorParams, no_functor_param}
-use Rattle.ml_syntax.specs.Tree.{more_functor_param, ModType, TypePath, Sig, TypeOf, TypeParen, With, FunctorType, ParamArrow, Arrow, MaybeType}
-use Rattle.ml_syntax.specs.Tree.{no_type, some_type, Item, ExprItem, SeparatorItem, ValueItem, ExternalItem, TypeItem, ExceptionItem, ModuleItem}
-use Rattle.ml_syntax.specs.Tree.{ModuleTypeItem, OpenItem, IncludeItem, Items, no_item, more_item, SigItem, SeparatorSig, ValSig, ExternalSig}
-use Rattle.ml_syntax.specs.Tree.{TypeSig, ExceptionSig, ModuleSig, AliasSig, ModuleTypeSig, OpenSig, IncludeSig, SigItems, no_sig_item, more_sig_item}
+use Rattle.ml_trees.specs.Tree.{ValueName, PlainName, OperatorName, Pat, AsPat, OrPat, TuplePat, ConsPat, ConstrApplyPat, TagApplyPat, LazyPat}
+use Rattle.ml_trees.specs.Tree.{ExceptionPat, AnyPat, ValuePat, LiteralPat, NegativePat, RangePat, ConstrPat, TagPat, BoolPat, UnitPat, ParenPat}
+use Rattle.ml_trees.specs.Tree.{TypedPat, EmptyPat, ListPat, RecordPat, OpenedPat, Pats, no_pat, more_pat, PatField, PunnedField, MatchedField}
+use Rattle.ml_trees.specs.Tree.{PatFields, no_pat_field, more_pat_field, Variable, PlainVariable, AnyVariable, Expr, Seq, Let, LetOpen, LetModule}
+use Rattle.ml_trees.specs.Tree.{Fun, Function, Match, Try, If, Chain, Minus, Apply, ConstrApply, TagApply, Assert, Lazy, Postfix, Prefixed, Literal}
+use Rattle.ml_trees.specs.Tree.{BoolExpr, Value, Constr, Tag, UnitExpr, Paren, Typed, Coerced, EmptyBegin, Begin, EmptyList, ListExpr, Record}
+use Rattle.ml_trees.specs.Tree.{Opened, While, For, Links, no_link, more_link, MaybeExpr, no_expr, some_expr, Tail, no_else, or_else, or_if, Binding}
+use Rattle.ml_trees.specs.Tree.{PlainBinding, AppliedBinding, Bindings, no_binding, more_binding, Case, CaseOf, Cases, no_case, more_case, Argument}
+use Rattle.ml_trees.specs.Tree.{Positional, LabelPun, Labelled, Arguments, no_argument, more_argument, Param, PatternParam, LabelParam, LabelPattern}
+use Rattle.ml_trees.specs.Tree.{DefaultParam, WrappedParam, WrappedDefault, TypesParam, Params, no_param, more_param, Part, LabelPart, IndexPart}
+use Rattle.ml_trees.specs.Tree.{CharPart, Parts, no_part, more_part, Field, FieldPun, AssignedField, Fields, no_field, more_field, ModExpr, ModPath}
+use Rattle.ml_trees.specs.Tree.{Struct, Functor, ModApply, ModParen, Sealed, ModArgument, ModuleArgument, SealedArgument, NoArgument, ModArguments}
+use Rattle.ml_trees.specs.Tree.{no_mod_argument, more_mod_argument, FunctorParam, NamedParam, NoParam, FunctorParams, no_functor_param}
+use Rattle.ml_trees.specs.Tree.{more_functor_param, ModType, TypePath, Sig, TypeOf, TypeParen, With, FunctorType, ParamArrow, Arrow, MaybeType}
+use Rattle.ml_trees.specs.Tree.{no_type, some_type, Item, ExprItem, SeparatorItem, ValueItem, ExternalItem, TypeItem, ExceptionItem, ModuleItem}
+use Rattle.ml_trees.specs.Tree.{ModuleTypeItem, OpenItem, IncludeItem, Items, no_item, more_item, SigItem, SeparatorSig, ValSig, ExternalSig}
+use Rattle.ml_trees.specs.Tree.{TypeSig, ExceptionSig, ModuleSig, AliasSig, ModuleTypeSig, OpenSig, IncludeSig, SigItems, no_sig_item, more_sig_item}
 
 module _ (P : Site → Type 0) where
   pub front : (xs ys : List Site) → Each P (xs ++ ys) → Each P xs

@@ -2,45 +2,45 @@
 use Rattle.std.proofs.Common.{◌≡◌, ◌≢◌, ℕ, ◌⊎◌, inl, inr, List, [], ◌∷◌, ◌++◌, map, Bool, true, false, ◌||◌, Option, Some, None, refl, sym, ap, subst}
 use Rattle.std.proofs.Common.{◌∙◌, arith}
 use Rattle.rotor_base.specs.declared.token.Class.TheVariants as class
-use Rattle.ml_syntax.specs.declared.fixed.Fixed.{Fixed}
-use Rattle.ml_syntax.specs.declared.fixed.Fixed.TheVariants as key
-use Rattle.ml_syntax.specs.Tok.{Name, Tok, fixed, placed, word}
-use Rattle.ml_syntax.specs.Runs.{Bracketing, bracketing, after_bracket, is_matched, in_type, beside_type, begins_type, is_type_run, in_declaration}
-use Rattle.ml_syntax.specs.Runs.{is_declaration_run, opens, closes, neither}
-use Rattle.ml_syntax.specs.Tree.{ValueName, Pat, Pats, PatField, PatFields, Variable, LocalModule, LocalArguments, Expr, Links, MaybeExpr, Tail}
-use Rattle.ml_syntax.specs.Tree.{Binding, Bindings, Case, Cases, Argument, Arguments, Param, Params, Part, Parts, Field, Fields, ModuleName}
-use Rattle.ml_syntax.specs.Tree.{Constraint, WithClause, ModExpr, ModArgument, ModArguments, FunctorParam, FunctorParams, ModType, MaybeType, Item}
-use Rattle.ml_syntax.specs.Tree.{Items, SigItem, SigItems, PlainName, OperatorName, AsPat, OrPat, TuplePat, ConsPat, ConstrApplyPat, TagApplyPat}
-use Rattle.ml_syntax.specs.Tree.{LazyPat, ExceptionPat, AnyPat, ValuePat, LiteralPat, NegativePat, RangePat, ConstrPat, TagPat, BoolPat, UnitPat}
-use Rattle.ml_syntax.specs.Tree.{ParenPat, TypedPat, EmptyPat, ListPat, RecordPat, OpenedPat, no_pat, more_pat, PunnedField, MatchedField}
-use Rattle.ml_syntax.specs.Tree.{no_pat_field, more_pat_field, PlainVariable, AnyVariable, LocalPath, no_local, more_local, no_module, Seq, Let}
-use Rattle.ml_syntax.specs.Tree.{LetOpen, LetModule, Fun, Function, Match, Try, If, Chain, Minus, Apply, ConstrApply, TagApply, Assert, Lazy, Postfix}
-use Rattle.ml_syntax.specs.Tree.{Prefixed, Literal, BoolExpr, Value, Constr, Tag, UnitExpr, Paren, Typed, Coerced, EmptyBegin, Begin, EmptyList}
-use Rattle.ml_syntax.specs.Tree.{ListExpr, Record, Opened, While, For, no_link, more_link, no_expr, some_expr, no_else, or_else, or_if, PlainBinding}
-use Rattle.ml_syntax.specs.Tree.{AppliedBinding, no_binding, more_binding, CaseOf, no_case, more_case, Positional, LabelPun, Labelled, no_argument}
-use Rattle.ml_syntax.specs.Tree.{more_argument, PatternParam, LabelParam, LabelPattern, DefaultParam, WrappedParam, WrappedDefault, TypesParam}
-use Rattle.ml_syntax.specs.Tree.{no_param, more_param, LabelPart, IndexPart, CharPart, no_part, more_part, FieldPun, AssignedField, no_field}
-use Rattle.ml_syntax.specs.Tree.{more_field, UpperName, AnyName, ConstraintOf, WithOf, ModPath, Struct, Functor, ModApply, ModParen, Sealed}
-use Rattle.ml_syntax.specs.Tree.{ModuleArgument, SealedArgument, NoArgument, no_mod_argument, more_mod_argument, NamedParam, NoParam}
-use Rattle.ml_syntax.specs.Tree.{no_functor_param, more_functor_param, TypePath, Sig, TypeOf, TypeParen, With, FunctorType, ParamArrow, Arrow}
-use Rattle.ml_syntax.specs.Tree.{no_type, some_type, ExprItem, SeparatorItem, ValueItem, ExternalItem, TypeItem, ExceptionItem, ModuleItem}
-use Rattle.ml_syntax.specs.Tree.{ModuleTypeItem, OpenItem, IncludeItem, no_item, more_item, SeparatorSig, ValSig, ExternalSig, TypeSig, ExceptionSig}
-use Rattle.ml_syntax.specs.Tree.{ModuleSig, AliasSig, ModuleTypeSig, OpenSig, IncludeSig, no_sig_item, more_sig_item, Body, Face}
-use Rattle.ml_syntax.specs.Words.{dotted_then, path_then, qualified_then, name_then, names_then, type_then, optional_then, bang_then, truth, opening}
-use Rattle.ml_syntax.specs.Words.{closing, open_then, pat_then, pats_then, pat_field_then, pat_fields_then, variable_then, local_then, locals_then}
-use Rattle.ml_syntax.specs.Words.{lowers_then, wrap, direction, expr_then, links_then, base_then, guard_then, tail_then, binding_then, bindings_then}
-use Rattle.ml_syntax.specs.Words.{case_then, cases_then, argument_then, arguments_then, param_then, params_then, part_then, parts_then, field_then}
-use Rattle.ml_syntax.specs.Words.{fields_then, module_name_then, constraint_then, constraints_then, withs_then, texts_then, external_then}
-use Rattle.ml_syntax.specs.Words.{open_item_then, mod_then, mod_argument_then, mod_arguments_then, functor_param_then, functor_params_then}
-use Rattle.ml_syntax.specs.Words.{mod_type_then, signature_then, item_then, items_then, sig_item_then, sig_items_then}
-use Rattle.ml_syntax.specs.WellFormed.{is_operator, WfName, WfNames, WfType, pat_level, is_exception, WfPat, WfPats, WfPatField, WfPatFields, level}
-use Rattle.ml_syntax.specs.WellFormed.{op_level, is_form, is_if, has_else, is_open_if, has_cases, on_edge, on_links, on_body, on_cases, on_tail}
-use Rattle.ml_syntax.specs.WellFormed.{NoForm, Calm, NoOpenIf, NoCases, IsOperand, is_postfix, CanBeAssigned, is_bare, is_constr, is_bracketed}
-use Rattle.ml_syntax.specs.WellFormed.{EndsField, Wf, WfSeq, WfChain, WfBase, WfGuard, WfTail, WfBinding, WfBindings, WfCase, WfCases, WfArgument}
-use Rattle.ml_syntax.specs.WellFormed.{WfArguments, WfParam, WfParams, WfPart, WfParts, WfField, WfFields, is_constraint_sign, WfConstraint}
-use Rattle.ml_syntax.specs.WellFormed.{WfConstraints, WfWiths, is_functor, is_simple_mod, is_simple_type, is_separator, WfExternal, WfMod}
-use Rattle.ml_syntax.specs.WellFormed.{WfModArgument, WfModArguments, WfFunctorParam, WfFunctorParams, WfModType, WfSignature, WfItem, WfItems}
-use Rattle.ml_syntax.specs.WellFormed.{WfSigItem, WfSigItems}
+use Rattle.ml_trees.specs.declared.fixed.Fixed.{Fixed}
+use Rattle.ml_trees.specs.declared.fixed.Fixed.TheVariants as key
+use Rattle.ml_trees.specs.Tok.{Name, Tok, fixed, placed, word}
+use Rattle.ml_trees.specs.Runs.{Bracketing, bracketing, after_bracket, is_matched, in_type, beside_type, begins_type, is_type_run, in_declaration}
+use Rattle.ml_trees.specs.Runs.{is_declaration_run, opens, closes, neither}
+use Rattle.ml_trees.specs.Tree.{ValueName, Pat, Pats, PatField, PatFields, Variable, LocalModule, LocalArguments, Expr, Links, MaybeExpr, Tail}
+use Rattle.ml_trees.specs.Tree.{Binding, Bindings, Case, Cases, Argument, Arguments, Param, Params, Part, Parts, Field, Fields, ModuleName}
+use Rattle.ml_trees.specs.Tree.{Constraint, WithClause, ModExpr, ModArgument, ModArguments, FunctorParam, FunctorParams, ModType, MaybeType, Item}
+use Rattle.ml_trees.specs.Tree.{Items, SigItem, SigItems, PlainName, OperatorName, AsPat, OrPat, TuplePat, ConsPat, ConstrApplyPat, TagApplyPat}
+use Rattle.ml_trees.specs.Tree.{LazyPat, ExceptionPat, AnyPat, ValuePat, LiteralPat, NegativePat, RangePat, ConstrPat, TagPat, BoolPat, UnitPat}
+use Rattle.ml_trees.specs.Tree.{ParenPat, TypedPat, EmptyPat, ListPat, RecordPat, OpenedPat, no_pat, more_pat, PunnedField, MatchedField}
+use Rattle.ml_trees.specs.Tree.{no_pat_field, more_pat_field, PlainVariable, AnyVariable, LocalPath, no_local, more_local, no_module, Seq, Let}
+use Rattle.ml_trees.specs.Tree.{LetOpen, LetModule, Fun, Function, Match, Try, If, Chain, Minus, Apply, ConstrApply, TagApply, Assert, Lazy, Postfix}
+use Rattle.ml_trees.specs.Tree.{Prefixed, Literal, BoolExpr, Value, Constr, Tag, UnitExpr, Paren, Typed, Coerced, EmptyBegin, Begin, EmptyList}
+use Rattle.ml_trees.specs.Tree.{ListExpr, Record, Opened, While, For, no_link, more_link, no_expr, some_expr, no_else, or_else, or_if, PlainBinding}
+use Rattle.ml_trees.specs.Tree.{AppliedBinding, no_binding, more_binding, CaseOf, no_case, more_case, Positional, LabelPun, Labelled, no_argument}
+use Rattle.ml_trees.specs.Tree.{more_argument, PatternParam, LabelParam, LabelPattern, DefaultParam, WrappedParam, WrappedDefault, TypesParam}
+use Rattle.ml_trees.specs.Tree.{no_param, more_param, LabelPart, IndexPart, CharPart, no_part, more_part, FieldPun, AssignedField, no_field}
+use Rattle.ml_trees.specs.Tree.{more_field, UpperName, AnyName, ConstraintOf, WithOf, ModPath, Struct, Functor, ModApply, ModParen, Sealed}
+use Rattle.ml_trees.specs.Tree.{ModuleArgument, SealedArgument, NoArgument, no_mod_argument, more_mod_argument, NamedParam, NoParam}
+use Rattle.ml_trees.specs.Tree.{no_functor_param, more_functor_param, TypePath, Sig, TypeOf, TypeParen, With, FunctorType, ParamArrow, Arrow}
+use Rattle.ml_trees.specs.Tree.{no_type, some_type, ExprItem, SeparatorItem, ValueItem, ExternalItem, TypeItem, ExceptionItem, ModuleItem}
+use Rattle.ml_trees.specs.Tree.{ModuleTypeItem, OpenItem, IncludeItem, no_item, more_item, SeparatorSig, ValSig, ExternalSig, TypeSig, ExceptionSig}
+use Rattle.ml_trees.specs.Tree.{ModuleSig, AliasSig, ModuleTypeSig, OpenSig, IncludeSig, no_sig_item, more_sig_item, Body, Face}
+use Rattle.ml_trees.specs.Words.{dotted_then, path_then, qualified_then, name_then, names_then, type_then, optional_then, bang_then, truth, opening}
+use Rattle.ml_trees.specs.Words.{closing, open_then, pat_then, pats_then, pat_field_then, pat_fields_then, variable_then, local_then, locals_then}
+use Rattle.ml_trees.specs.Words.{lowers_then, wrap, direction, expr_then, links_then, base_then, guard_then, tail_then, binding_then, bindings_then}
+use Rattle.ml_trees.specs.Words.{case_then, cases_then, argument_then, arguments_then, param_then, params_then, part_then, parts_then, field_then}
+use Rattle.ml_trees.specs.Words.{fields_then, module_name_then, constraint_then, constraints_then, withs_then, texts_then, external_then}
+use Rattle.ml_trees.specs.Words.{open_item_then, mod_then, mod_argument_then, mod_arguments_then, functor_param_then, functor_params_then}
+use Rattle.ml_trees.specs.Words.{mod_type_then, signature_then, item_then, items_then, sig_item_then, sig_items_then}
+use Rattle.ml_trees.specs.WellFormed.{is_operator, WfName, WfNames, WfType, pat_level, is_exception, WfPat, WfPats, WfPatField, WfPatFields, level}
+use Rattle.ml_trees.specs.WellFormed.{op_level, is_form, is_if, has_else, is_open_if, has_cases, on_edge, on_links, on_body, on_cases, on_tail}
+use Rattle.ml_trees.specs.WellFormed.{NoForm, Calm, NoOpenIf, NoCases, IsOperand, is_postfix, CanBeAssigned, is_bare, is_constr, is_bracketed}
+use Rattle.ml_trees.specs.WellFormed.{EndsField, Wf, WfSeq, WfChain, WfBase, WfGuard, WfTail, WfBinding, WfBindings, WfCase, WfCases, WfArgument}
+use Rattle.ml_trees.specs.WellFormed.{WfArguments, WfParam, WfParams, WfPart, WfParts, WfField, WfFields, is_constraint_sign, WfConstraint}
+use Rattle.ml_trees.specs.WellFormed.{WfConstraints, WfWiths, is_functor, is_simple_mod, is_simple_type, is_separator, WfExternal, WfMod}
+use Rattle.ml_trees.specs.WellFormed.{WfModArgument, WfModArguments, WfFunctorParam, WfFunctorParams, WfModType, WfSignature, WfItem, WfItems}
+use Rattle.ml_trees.specs.WellFormed.{WfSigItem, WfSigItems}
 use Rattle.ml_syntax.specs.Respelled.{Spelling, spell, spell_tok, spell_run, spell_type, spell_value_name, spell_pat, spell_pats, spell_pat_field}
 use Rattle.ml_syntax.specs.Respelled.{spell_pat_fields, spell_variable, spell_expr, spell_links, spell_maybe_expr, spell_tail, spell_binding}
 use Rattle.ml_syntax.specs.Respelled.{spell_bindings, spell_case, spell_cases, spell_argument, spell_arguments, spell_param, spell_params, spell_part}

@@ -1,7 +1,7 @@
 -- The places of a well-formed tree are among its words, in their order.
 use Rattle.std.proofs.Common.{ℕ, suc, List, [], ◌∷◌, length}
-use Rattle.ml_syntax.specs.Tok.{Tok}
-use Rattle.ml_syntax.specs.Words.{words}
+use Rattle.ml_trees.specs.Tok.{Tok}
+use Rattle.ml_trees.specs.Words.{words}
 use Rattle.ml_syntax.specs.Places.{Site, sites}
 use Rattle.ml_syntax.specs.Standing.{StandFrom, SitesStand}
 use Rattle.ml_syntax.proofs.Steps.{Between, begin}

@@ -3,8 +3,8 @@ use Rattle.std.proofs.Common.{◌≡◌, ℕ, suc, ◌≤◌, List, [], ◌∷�
 use Rattle.std.proofs.Common.{length-append}
 use Rattle.rotor_base.specs.declared.token.Class.{Class}
 use Rattle.rotor_base.specs.declared.token.Class.TheVariants as class
-use Rattle.ml_syntax.specs.declared.fixed.Fixed.TheVariants as key
-use Rattle.ml_syntax.specs.Tok.{Name, Tok, placed, word}
+use Rattle.ml_trees.specs.declared.fixed.Fixed.TheVariants as key
+use Rattle.ml_trees.specs.Tok.{Name, Tok, placed, word}
 use Rattle.ml_syntax.specs.Places.{Site, label_site, operated}
 use Rattle.ml_syntax.specs.Standing.{is_brace, is_safe, EndsInBrace, IsNamed, IsWordOf, a_name, a_label, an_equals, a_sign, a_minus, StandsAt}
 

@@ -1,9 +1,3 @@
-pub mod Tok
-pub mod Tree
-pub mod Words
-pub mod Runs
-pub mod WellFormed
-pub mod View
 pub mod Places
 pub mod Sites
 pub mod Respelled

@@ -2,27 +2,27 @@
 use Rattle.std.specs.Prelude.{◌≡◌, ℕ, List, map, Option, Some, None}
 use Rattle.rotor_base.specs.declared.token.Class.{Class}
 use Rattle.rotor_base.specs.declared.token.Class.TheVariants as class
-use Rattle.ml_syntax.specs.Tok.{Name, Tok, fixed, placed, word}
-use Rattle.ml_syntax.specs.Tree.{ValueName, PlainName, OperatorName, Pat, AsPat, OrPat, TuplePat, ConsPat, ConstrApplyPat, TagApplyPat, LazyPat}
-use Rattle.ml_syntax.specs.Tree.{ExceptionPat, AnyPat, ValuePat, LiteralPat, NegativePat, RangePat, ConstrPat, TagPat, BoolPat, UnitPat, ParenPat}
-use Rattle.ml_syntax.specs.Tree.{TypedPat, EmptyPat, ListPat, RecordPat, OpenedPat, Pats, no_pat, more_pat, PatField, PunnedField, MatchedField}
-use Rattle.ml_syntax.specs.Tree.{PatFields, no_pat_field, more_pat_field, Variable, PlainVariable, AnyVariable, Expr, Seq, Let, LetOpen, LetModule}
-use Rattle.ml_syntax.specs.Tree.{Fun, Function, Match, Try, If, Chain, Minus, Apply, ConstrApply, TagApply, Assert, Lazy, Postfix, Prefixed, Literal}
-use Rattle.ml_syntax.specs.Tree.{BoolExpr, Value, Constr, Tag, UnitExpr, Paren, Typed, Coerced, EmptyBegin, Begin, EmptyList, ListExpr, Record}
-use Rattle.ml_syntax.specs.Tree.{Opened, While, For, Links, no_link, more_link, MaybeExpr, no_expr, some_expr, Tail, no_else, or_else, or_if, Binding}
-use Rattle.ml_syntax.specs.Tree.{PlainBinding, AppliedBinding, Bindings, no_binding, more_binding, Case, CaseOf, Cases, no_case, more_case, Argument}
-use Rattle.ml_syntax.specs.Tree.{Positional, LabelPun, Labelled, Arguments, no_argument, more_argument, Param, PatternParam, LabelParam, LabelPattern}
-use Rattle.ml_syntax.specs.Tree.{DefaultParam, WrappedParam, WrappedDefault, TypesParam, Params, no_param, more_param, Part, LabelPart, IndexPart}
-use Rattle.ml_syntax.specs.Tree.{CharPart, Parts, no_part, more_part, Field, FieldPun, AssignedField, Fields, no_field, more_field, Constraint}
-use Rattle.ml_syntax.specs.Tree.{ConstraintOf, WithClause, WithOf, ModExpr, ModPath, Struct, Functor, ModApply, ModParen, Sealed, ModArgument}
-use Rattle.ml_syntax.specs.Tree.{ModuleArgument, SealedArgument, NoArgument, ModArguments, no_mod_argument, more_mod_argument, FunctorParam}
-use Rattle.ml_syntax.specs.Tree.{NamedParam, NoParam, FunctorParams, no_functor_param, more_functor_param, ModType, TypePath, Sig, TypeOf, TypeParen}
-use Rattle.ml_syntax.specs.Tree.{With, FunctorType, ParamArrow, Arrow, MaybeType, no_type, some_type, Item, ExprItem, SeparatorItem, ValueItem}
-use Rattle.ml_syntax.specs.Tree.{ExternalItem, TypeItem, ExceptionItem, ModuleItem, ModuleTypeItem, OpenItem, IncludeItem, Items, no_item, more_item}
-use Rattle.ml_syntax.specs.Tree.{SigItem, SeparatorSig, ValSig, ExternalSig, TypeSig, ExceptionSig, ModuleSig, AliasSig, ModuleTypeSig, OpenSig}
-use Rattle.ml_syntax.specs.Tree.{IncludeSig, SigItems, no_sig_item, more_sig_item, FileTree, Body, Face}
-use Rattle.ml_syntax.specs.Words.{words}
-use Rattle.ml_syntax.specs.WellFormed.{WfFile}
+use Rattle.ml_trees.specs.Tok.{Name, Tok, fixed, placed, word}
+use Rattle.ml_trees.specs.Tree.{ValueName, PlainName, OperatorName, Pat, AsPat, OrPat, TuplePat, ConsPat, ConstrApplyPat, TagApplyPat, LazyPat}
+use Rattle.ml_trees.specs.Tree.{ExceptionPat, AnyPat, ValuePat, LiteralPat, NegativePat, RangePat, ConstrPat, TagPat, BoolPat, UnitPat, ParenPat}
+use Rattle.ml_trees.specs.Tree.{TypedPat, EmptyPat, ListPat, RecordPat, OpenedPat, Pats, no_pat, more_pat, PatField, PunnedField, MatchedField}
+use Rattle.ml_trees.specs.Tree.{PatFields, no_pat_field, more_pat_field, Variable, PlainVariable, AnyVariable, Expr, Seq, Let, LetOpen, LetModule}
+use Rattle.ml_trees.specs.Tree.{Fun, Function, Match, Try, If, Chain, Minus, Apply, ConstrApply, TagApply, Assert, Lazy, Postfix, Prefixed, Literal}
+use Rattle.ml_trees.specs.Tree.{BoolExpr, Value, Constr, Tag, UnitExpr, Paren, Typed, Coerced, EmptyBegin, Begin, EmptyList, ListExpr, Record}
+use Rattle.ml_trees.specs.Tree.{Opened, While, For, Links, no_link, more_link, MaybeExpr, no_expr, some_expr, Tail, no_else, or_else, or_if, Binding}
+use Rattle.ml_trees.specs.Tree.{PlainBinding, AppliedBinding, Bindings, no_binding, more_binding, Case, CaseOf, Cases, no_case, more_case, Argument}
+use Rattle.ml_trees.specs.Tree.{Positional, LabelPun, Labelled, Arguments, no_argument, more_argument, Param, PatternParam, LabelParam, LabelPattern}
+use Rattle.ml_trees.specs.Tree.{DefaultParam, WrappedParam, WrappedDefault, TypesParam, Params, no_param, more_param, Part, LabelPart, IndexPart}
+use Rattle.ml_trees.specs.Tree.{CharPart, Parts, no_part, more_part, Field, FieldPun, AssignedField, Fields, no_field, more_field, Constraint}
+use Rattle.ml_trees.specs.Tree.{ConstraintOf, WithClause, WithOf, ModExpr, ModPath, Struct, Functor, ModApply, ModParen, Sealed, ModArgument}
+use Rattle.ml_trees.specs.Tree.{ModuleArgument, SealedArgument, NoArgument, ModArguments, no_mod_argument, more_mod_argument, FunctorParam}
+use Rattle.ml_trees.specs.Tree.{NamedParam, NoParam, FunctorParams, no_functor_param, more_functor_param, ModType, TypePath, Sig, TypeOf, TypeParen}
+use Rattle.ml_trees.specs.Tree.{With, FunctorType, ParamArrow, Arrow, MaybeType, no_type, some_type, Item, ExprItem, SeparatorItem, ValueItem}
+use Rattle.ml_trees.specs.Tree.{ExternalItem, TypeItem, ExceptionItem, ModuleItem, ModuleTypeItem, OpenItem, IncludeItem, Items, no_item, more_item}
+use Rattle.ml_trees.specs.Tree.{SigItem, SeparatorSig, ValSig, ExternalSig, TypeSig, ExceptionSig, ModuleSig, AliasSig, ModuleTypeSig, OpenSig}
+use Rattle.ml_trees.specs.Tree.{IncludeSig, SigItems, no_sig_item, more_sig_item, FileTree, Body, Face}
+use Rattle.ml_trees.specs.Words.{words}
+use Rattle.ml_trees.specs.WellFormed.{WfFile}
 
 -- the new word of a token and its word
 abbrev pub Spelling : Type 0

@@ -4,10 +4,10 @@ use Rattle.rotor_base.specs.Limits.{max_file_bytes}
 use Rattle.rotor_base.specs.Name.{is_value_name}
 use Rattle.ml_lexer.specs.Lexed.{Lexeme, Lexed}
 use Rattle.ml_lexer.specs.Respelled.{AllMayBecome, AllMayBecomeBehind, respelled, respelled_lexemes}
-use Rattle.ml_syntax.specs.Tok.{Tok, toks_from}
-use Rattle.ml_syntax.specs.Tree.{FileTree}
-use Rattle.ml_syntax.specs.Words.{words}
-use Rattle.ml_syntax.specs.WellFormed.{WfFile}
+use Rattle.ml_trees.specs.Tok.{Tok, toks_from}
+use Rattle.ml_trees.specs.Tree.{FileTree}
+use Rattle.ml_trees.specs.Words.{words}
+use Rattle.ml_trees.specs.WellFormed.{WfFile}
 use Rattle.ml_syntax.specs.Sound.{AreNumbered, IsSoundFile}
 use Rattle.ml_syntax.specs.Places.{Site, sites}
 use Rattle.ml_syntax.specs.Respelled.{Spelling, spelled, spell_tok, spell_file}

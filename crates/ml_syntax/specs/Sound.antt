@@ -5,10 +5,10 @@ use Rattle.rotor_base.specs.Limits.{max_file_bytes}
 use Rattle.rotor_base.specs.declared.token.Class.{Class}
 use Rattle.ml_lexer.specs.declared.piece.Piece.TheVariants as piece
 use Rattle.ml_lexer.specs.Pieces.{piece_at}
-use Rattle.ml_syntax.specs.Tok.{Tok, toks_from}
-use Rattle.ml_syntax.specs.Tree.{Expr, FileTree, Body, Face, UnitTree}
-use Rattle.ml_syntax.specs.Words.{words, expr_words}
-use Rattle.ml_syntax.specs.WellFormed.{WfFile}
+use Rattle.ml_trees.specs.Tok.{Tok, toks_from}
+use Rattle.ml_trees.specs.Tree.{Expr, FileTree, Body, Face, UnitTree}
+use Rattle.ml_trees.specs.Words.{words, expr_words}
+use Rattle.ml_trees.specs.WellFormed.{WfFile}
 
 -- a whole lexeme of this class
 abbrev pub IsLexeme : Class × List ℕ → Type 0

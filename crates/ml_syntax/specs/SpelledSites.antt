@@ -1,7 +1,7 @@
 -- The places of a respelled tree (own).
 use Rattle.std.specs.Prelude.{◌≡◌, ◌||◌, IsTrue, map}
 use Rattle.ml_syntax.specs.Each.{Each}
-use Rattle.ml_syntax.specs.Tree.{FileTree}
+use Rattle.ml_trees.specs.Tree.{FileTree}
 use Rattle.ml_syntax.specs.Places.{Site, sites}
 use Rattle.ml_syntax.specs.Respelled.{Spelling, spell_file}
 

@@ -3,11 +3,11 @@ use Rattle.std.specs.Prelude.{◌≡◌, ℕ, suc, ◌<◌, ◌≤◌, List, [],
 use Rattle.std.specs.Str.{byte}
 use Rattle.rotor_base.specs.declared.token.Class.{Class}
 use Rattle.rotor_base.specs.declared.token.Class.TheVariants as class
-use Rattle.ml_syntax.specs.declared.fixed.Fixed.TheVariants as key
-use Rattle.ml_syntax.specs.Tok.{Name, Tok, fixed, placed, word}
-use Rattle.ml_syntax.specs.Tree.{FileTree}
-use Rattle.ml_syntax.specs.Words.{words}
-use Rattle.ml_syntax.specs.WellFormed.{WfFile}
+use Rattle.ml_trees.specs.declared.fixed.Fixed.TheVariants as key
+use Rattle.ml_trees.specs.Tok.{Name, Tok, fixed, placed, word}
+use Rattle.ml_trees.specs.Tree.{FileTree}
+use Rattle.ml_trees.specs.Words.{words}
+use Rattle.ml_trees.specs.WellFormed.{WfFile}
 use Rattle.ml_syntax.specs.Sound.{AreNumbered}
 use Rattle.ml_syntax.specs.Places.{Site, label_name, sites}
 

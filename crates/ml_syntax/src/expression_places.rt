@@ -4,16 +4,15 @@
 //! than the bound on levels.
 
 ghost use Rattle.std.specs.Prelude.{◌≡◌, ◌++◌, ◌∷◌, [], OnOk, false};
-ghost use Rattle.ml_syntax.specs.View.{view_word, view, view_binding, view_argument, view_param, view_part, view_field, links, commas, ops, maybe, bindings, view_case, cases, arguments, params, parts, fields};
+ghost use Rattle.ml_trees.specs.View.{view_word, view, view_binding, view_argument, view_param, view_part, view_field, links, commas, ops, maybe, bindings, view_case, cases, arguments, params, parts, fields};
 ghost use Rattle.ml_syntax.specs.Places.{operated, expr_sites, links_sites, maybe_sites, binding_sites, bindings_sites, case_sites, cases_sites, argument_sites, arguments_sites, param_sites, params_sites, part_sites, parts_sites, field_sites, fields_sites};
 ghost use Rattle.ml_syntax.specs.Sites.{view_sites};
 
-use crate::expression::{Argument, Binding, Case, Expr, Field, Param, Part};
 use crate::pattern_places::pattern;
 use crate::sites::{
     Site, add_label, add_name, add_operator, add_operator_word, add_pun, add_variable,
 };
-use crate::word::Word;
+use ml_trees::{Argument, Binding, Case, Expr, Field, Param, Part, Word};
 use rotor_base::Memory;
 use std::alloc::Global;
 
@@ -29,7 +28,7 @@ fn add_minus(alloc: Global, found: &mut Vec<Site>, sign: &Word) -> Result<(), Me
 
 /// Adds the places of an expression.
 #[cycle(expression_places)]
-#[tactic(auto, using(crate::proofs::Variants::expr_views))]
+#[tactic(auto, using(ml_trees::proofs::Variants::expr_views))]
 pub fn expression(alloc: Global, found: &mut Vec<Site>, e: &Expr) -> Result<(), Memory>
     ensures { OnOk result (view_sites found.new.items ≡ expr_sites (view_sites found.old.items) (view e.now)) }
 {
@@ -185,7 +184,7 @@ pub fn expression(alloc: Global, found: &mut Vec<Site>, e: &Expr) -> Result<(), 
 
 /// Adds the places of an optional expression.
 #[cycle(expression_places)]
-#[tactic(auto, using(crate::proofs::Variants::expr_views))]
+#[tactic(auto, using(ml_trees::proofs::Variants::expr_views))]
 fn optional(alloc: Global, found: &mut Vec<Site>, e: &Option<Box<Expr>>) -> Result<(), Memory>
     ensures { OnOk result (view_sites found.new.items ≡ maybe_sites (view_sites found.old.items) (maybe e.now)) }
 {
@@ -197,7 +196,7 @@ fn optional(alloc: Global, found: &mut Vec<Site>, e: &Option<Box<Expr>>) -> Resu
 
 /// Adds the places of expressions between `;` or `,`.
 #[cycle(expression_places)]
-#[tactic(auto, using(crate::proofs::Variants::expr_views))]
+#[tactic(auto, using(ml_trees::proofs::Variants::expr_views))]
 fn expressions(alloc: Global, found: &mut Vec<Site>, list: &[Expr]) -> Result<(), Memory>
     ensures links { OnOk result (view_sites found.new.items ≡ links_sites (view_sites found.old.items) (links list.now)) }
     ensures commas { OnOk result (view_sites found.new.items ≡ links_sites (view_sites found.old.items) (commas list.now)) }
@@ -210,7 +209,7 @@ fn expressions(alloc: Global, found: &mut Vec<Site>, list: &[Expr]) -> Result<()
 
 /// Adds the places of operators and the operands after them.
 #[cycle(expression_places)]
-#[tactic(auto, using(crate::proofs::Variants::expr_views))]
+#[tactic(auto, using(ml_trees::proofs::Variants::expr_views))]
 fn operands(alloc: Global, found: &mut Vec<Site>, list: &[(Word, Expr)]) -> Result<(), Memory>
     ensures { OnOk result (view_sites found.new.items ≡ links_sites (view_sites found.old.items) (ops list.now)) }
 {
@@ -222,7 +221,7 @@ fn operands(alloc: Global, found: &mut Vec<Site>, list: &[(Word, Expr)]) -> Resu
 }
 
 #[cycle(expression_places)]
-#[tactic(auto, using(crate::proofs::Variants::expr_views, crate::proofs::Variants::binding_views))]
+#[tactic(auto, using(ml_trees::proofs::Variants::expr_views, ml_trees::proofs::Variants::binding_views))]
 pub fn binding(alloc: Global, found: &mut Vec<Site>, part: &Binding) -> Result<(), Memory>
     ensures { OnOk result (view_sites found.new.items ≡ binding_sites (view_sites found.old.items) (view_binding part.now)) }
 {
@@ -245,7 +244,7 @@ pub fn binding(alloc: Global, found: &mut Vec<Site>, part: &Binding) -> Result<(
 }
 
 #[cycle(expression_places)]
-#[tactic(auto, using(crate::proofs::Variants::expr_views))]
+#[tactic(auto, using(ml_trees::proofs::Variants::expr_views))]
 pub fn more_bindings(alloc: Global, found: &mut Vec<Site>, list: &[Binding]) -> Result<(), Memory>
     ensures { OnOk result (view_sites found.new.items ≡ bindings_sites (view_sites found.old.items) (bindings list.now)) }
 {
@@ -256,7 +255,7 @@ pub fn more_bindings(alloc: Global, found: &mut Vec<Site>, list: &[Binding]) -> 
 }
 
 #[cycle(expression_places)]
-#[tactic(auto, using(crate::proofs::Variants::expr_views))]
+#[tactic(auto, using(ml_trees::proofs::Variants::expr_views))]
 fn case(alloc: Global, found: &mut Vec<Site>, part: &Case) -> Result<(), Memory>
     ensures { OnOk result (view_sites found.new.items ≡ case_sites (view_sites found.old.items) (view_case part.now)) }
 {
@@ -266,7 +265,7 @@ fn case(alloc: Global, found: &mut Vec<Site>, part: &Case) -> Result<(), Memory>
 }
 
 #[cycle(expression_places)]
-#[tactic(auto, using(crate::proofs::Variants::expr_views))]
+#[tactic(auto, using(ml_trees::proofs::Variants::expr_views))]
 fn more_cases(alloc: Global, found: &mut Vec<Site>, list: &[Case]) -> Result<(), Memory>
     ensures { OnOk result (view_sites found.new.items ≡ cases_sites (view_sites found.old.items) (cases list.now)) }
 {
@@ -277,7 +276,7 @@ fn more_cases(alloc: Global, found: &mut Vec<Site>, list: &[Case]) -> Result<(),
 }
 
 #[cycle(expression_places)]
-#[tactic(auto, using(crate::proofs::Variants::argument_views))]
+#[tactic(auto, using(ml_trees::proofs::Variants::argument_views))]
 fn argument(alloc: Global, found: &mut Vec<Site>, part: &Argument) -> Result<(), Memory>
     ensures { OnOk result (view_sites found.new.items ≡ argument_sites (view_sites found.old.items) (view_argument part.now)) }
 {
@@ -289,7 +288,7 @@ fn argument(alloc: Global, found: &mut Vec<Site>, part: &Argument) -> Result<(),
 }
 
 #[cycle(expression_places)]
-#[tactic(auto, using(crate::proofs::Variants::argument_views))]
+#[tactic(auto, using(ml_trees::proofs::Variants::argument_views))]
 fn all_arguments(alloc: Global, found: &mut Vec<Site>, list: &[Argument]) -> Result<(), Memory>
     ensures { OnOk result (view_sites found.new.items ≡ arguments_sites (view_sites found.old.items) (arguments list.now)) }
 {
@@ -300,7 +299,7 @@ fn all_arguments(alloc: Global, found: &mut Vec<Site>, list: &[Argument]) -> Res
 }
 
 #[cycle(expression_places)]
-#[tactic(auto, using(crate::proofs::Variants::param_views))]
+#[tactic(auto, using(ml_trees::proofs::Variants::param_views))]
 fn parameter(alloc: Global, found: &mut Vec<Site>, part: &Param) -> Result<(), Memory>
     ensures { OnOk result (view_sites found.new.items ≡ param_sites (view_sites found.old.items) (view_param part.now)) }
 {
@@ -324,7 +323,7 @@ fn parameter(alloc: Global, found: &mut Vec<Site>, part: &Param) -> Result<(), M
 }
 
 #[cycle(expression_places)]
-#[tactic(auto, using(crate::proofs::Variants::param_views))]
+#[tactic(auto, using(ml_trees::proofs::Variants::param_views))]
 fn parameters(alloc: Global, found: &mut Vec<Site>, list: &[Param]) -> Result<(), Memory>
     ensures { OnOk result (view_sites found.new.items ≡ params_sites (view_sites found.old.items) (params list.now)) }
 {
@@ -335,7 +334,7 @@ fn parameters(alloc: Global, found: &mut Vec<Site>, list: &[Param]) -> Result<()
 }
 
 #[cycle(expression_places)]
-#[tactic(auto, using(crate::proofs::Variants::part_views))]
+#[tactic(auto, using(ml_trees::proofs::Variants::part_views))]
 fn part(alloc: Global, found: &mut Vec<Site>, part: &Part) -> Result<(), Memory>
     ensures { OnOk result (view_sites found.new.items ≡ part_sites (view_sites found.old.items) (view_part part.now)) }
 {
@@ -347,7 +346,7 @@ fn part(alloc: Global, found: &mut Vec<Site>, part: &Part) -> Result<(), Memory>
 }
 
 #[cycle(expression_places)]
-#[tactic(auto, using(crate::proofs::Variants::part_views))]
+#[tactic(auto, using(ml_trees::proofs::Variants::part_views))]
 fn all_parts(alloc: Global, found: &mut Vec<Site>, list: &[Part]) -> Result<(), Memory>
     ensures { OnOk result (view_sites found.new.items ≡ parts_sites (view_sites found.old.items) (parts list.now)) }
 {
@@ -358,7 +357,7 @@ fn all_parts(alloc: Global, found: &mut Vec<Site>, list: &[Part]) -> Result<(), 
 }
 
 #[cycle(expression_places)]
-#[tactic(auto, using(crate::proofs::Variants::field_views))]
+#[tactic(auto, using(ml_trees::proofs::Variants::field_views))]
 fn field(alloc: Global, found: &mut Vec<Site>, part: &Field) -> Result<(), Memory>
     ensures { OnOk result (view_sites found.new.items ≡ field_sites (view_sites found.old.items) (view_field part.now)) }
 {
@@ -371,7 +370,7 @@ fn field(alloc: Global, found: &mut Vec<Site>, part: &Field) -> Result<(), Memor
 }
 
 #[cycle(expression_places)]
-#[tactic(auto, using(crate::proofs::Variants::field_views))]
+#[tactic(auto, using(ml_trees::proofs::Variants::field_views))]
 fn more_fields(alloc: Global, found: &mut Vec<Site>, list: &[Field]) -> Result<(), Memory>
     ensures { OnOk result (view_sites found.new.items ≡ fields_sites (view_sites found.old.items) (fields list.now)) }
 {

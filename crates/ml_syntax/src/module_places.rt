@@ -4,19 +4,19 @@
 //! than the bound on levels.
 
 ghost use Rattle.std.specs.Prelude.{◌≡◌, OnOk};
-ghost use Rattle.ml_syntax.specs.View.{view_mod, view_mod_argument, view_functor_param, view_mod_type, view_item, view_sig_item, mod_arguments, functor_params, signature, items, sig_items};
+ghost use Rattle.ml_trees.specs.View.{view_mod, view_mod_argument, view_functor_param, view_mod_type, view_item, view_sig_item, mod_arguments, functor_params, signature, items, sig_items};
 ghost use Rattle.ml_syntax.specs.Places.{mod_sites, mod_argument_sites, mod_arguments_sites, functor_param_sites, functor_params_sites, mod_type_sites, signature_sites, item_sites, items_sites, sig_item_sites, sig_items_sites};
 ghost use Rattle.ml_syntax.specs.Sites.{view_sites};
 
 use crate::expression_places::{binding, expression, more_bindings};
-use crate::module::{FunctorParam, Item, ModArgument, ModExpr, ModType, SigItem};
 use crate::sites::{Site, add_name};
+use ml_trees::{FunctorParam, Item, ModArgument, ModExpr, ModType, SigItem};
 use rotor_base::Memory;
 use std::alloc::Global;
 
 /// Adds the places of a module expression.
 #[cycle(module_places)]
-#[tactic(auto, using(crate::proofs::Variants::mod_expr_views))]
+#[tactic(auto, using(ml_trees::proofs::Variants::mod_expr_views))]
 fn module(alloc: Global, found: &mut Vec<Site>, m: &ModExpr) -> Result<(), Memory>
     ensures { OnOk result (view_sites found.new.items ≡ mod_sites (view_sites found.old.items) (view_mod m.now)) }
 {
@@ -47,7 +47,7 @@ fn module(alloc: Global, found: &mut Vec<Site>, m: &ModExpr) -> Result<(), Memor
 }
 
 #[cycle(module_places)]
-#[tactic(auto, using(crate::proofs::Variants::mod_argument_views))]
+#[tactic(auto, using(ml_trees::proofs::Variants::mod_argument_views))]
 fn argument(alloc: Global, found: &mut Vec<Site>, part: &ModArgument) -> Result<(), Memory>
     ensures { OnOk result (view_sites found.new.items ≡ mod_argument_sites (view_sites found.old.items) (view_mod_argument part.now)) }
 {
@@ -66,7 +66,7 @@ fn argument(alloc: Global, found: &mut Vec<Site>, part: &ModArgument) -> Result<
 }
 
 #[cycle(module_places)]
-#[tactic(auto, using(crate::proofs::Variants::mod_argument_views))]
+#[tactic(auto, using(ml_trees::proofs::Variants::mod_argument_views))]
 fn all_arguments(alloc: Global, found: &mut Vec<Site>, list: &[ModArgument]) -> Result<(), Memory>
     ensures { OnOk result (view_sites found.new.items ≡ mod_arguments_sites (view_sites found.old.items) (mod_arguments list.now)) }
 {
@@ -77,7 +77,7 @@ fn all_arguments(alloc: Global, found: &mut Vec<Site>, list: &[ModArgument]) -> 
 }
 
 #[cycle(module_places)]
-#[tactic(auto, using(crate::proofs::Variants::functor_param_views))]
+#[tactic(auto, using(ml_trees::proofs::Variants::functor_param_views))]
 fn parameter(alloc: Global, found: &mut Vec<Site>, part: &FunctorParam) -> Result<(), Memory>
     ensures { OnOk result (view_sites found.new.items ≡ functor_param_sites (view_sites found.old.items) (view_functor_param part.now)) }
 {
@@ -88,7 +88,7 @@ fn parameter(alloc: Global, found: &mut Vec<Site>, part: &FunctorParam) -> Resul
 }
 
 #[cycle(module_places)]
-#[tactic(auto, using(crate::proofs::Variants::functor_param_views))]
+#[tactic(auto, using(ml_trees::proofs::Variants::functor_param_views))]
 fn parameters(alloc: Global, found: &mut Vec<Site>, list: &[FunctorParam]) -> Result<(), Memory>
     ensures { OnOk result (view_sites found.new.items ≡ functor_params_sites (view_sites found.old.items) (functor_params list.now)) }
 {
@@ -100,7 +100,7 @@ fn parameters(alloc: Global, found: &mut Vec<Site>, list: &[FunctorParam]) -> Re
 
 /// Adds the places of a module type.
 #[cycle(module_places)]
-#[tactic(auto, using(crate::proofs::Variants::mod_type_views))]
+#[tactic(auto, using(ml_trees::proofs::Variants::mod_type_views))]
 fn module_type(alloc: Global, found: &mut Vec<Site>, s: &ModType) -> Result<(), Memory>
     ensures { OnOk result (view_sites found.new.items ≡ mod_type_sites (view_sites found.old.items) (view_mod_type s.now)) }
 {
@@ -126,7 +126,7 @@ fn module_type(alloc: Global, found: &mut Vec<Site>, s: &ModType) -> Result<(), 
 }
 
 #[cycle(module_places)]
-#[tactic(auto, using(crate::proofs::Variants::mod_type_views))]
+#[tactic(auto, using(ml_trees::proofs::Variants::mod_type_views))]
 fn optional(alloc: Global, found: &mut Vec<Site>, s: &Option<Box<ModType>>) -> Result<(), Memory>
     ensures { OnOk result (view_sites found.new.items ≡ signature_sites (view_sites found.old.items) (signature s.now)) }
 {
@@ -138,7 +138,7 @@ fn optional(alloc: Global, found: &mut Vec<Site>, s: &Option<Box<ModType>>) -> R
 
 /// Adds the places of an item of a structure.
 #[cycle(module_places)]
-#[tactic(auto, using(crate::proofs::Variants::item_views))]
+#[tactic(auto, using(ml_trees::proofs::Variants::item_views))]
 fn item(alloc: Global, found: &mut Vec<Site>, part: &Item) -> Result<(), Memory>
     ensures { OnOk result (view_sites found.new.items ≡ item_sites (view_sites found.old.items) (view_item part.now)) }
 {
@@ -170,7 +170,7 @@ fn item(alloc: Global, found: &mut Vec<Site>, part: &Item) -> Result<(), Memory>
 
 /// Adds the places of the items of a structure.
 #[cycle(module_places)]
-#[tactic(auto, using(crate::proofs::Variants::item_views))]
+#[tactic(auto, using(ml_trees::proofs::Variants::item_views))]
 pub fn body(alloc: Global, found: &mut Vec<Site>, list: &[Item]) -> Result<(), Memory>
     ensures { OnOk result (view_sites found.new.items ≡ items_sites (view_sites found.old.items) (items list.now)) }
 {
@@ -182,7 +182,7 @@ pub fn body(alloc: Global, found: &mut Vec<Site>, list: &[Item]) -> Result<(), M
 
 /// Adds the places of an item of a signature.
 #[cycle(module_places)]
-#[tactic(auto, using(crate::proofs::Variants::sig_item_views))]
+#[tactic(auto, using(ml_trees::proofs::Variants::sig_item_views))]
 fn signature_item(alloc: Global, found: &mut Vec<Site>, part: &SigItem) -> Result<(), Memory>
     ensures { OnOk result (view_sites found.new.items ≡ sig_item_sites (view_sites found.old.items) (view_sig_item part.now)) }
 {
@@ -209,7 +209,7 @@ fn signature_item(alloc: Global, found: &mut Vec<Site>, part: &SigItem) -> Resul
 
 /// Adds the places of the items of a signature.
 #[cycle(module_places)]
-#[tactic(auto, using(crate::proofs::Variants::sig_item_views))]
+#[tactic(auto, using(ml_trees::proofs::Variants::sig_item_views))]
 pub fn face(alloc: Global, found: &mut Vec<Site>, list: &[SigItem]) -> Result<(), Memory>
     ensures { OnOk result (view_sites found.new.items ≡ sig_items_sites (view_sites found.old.items) (sig_items list.now)) }
 {

@@ -4,13 +4,12 @@
 //! than the bound on levels.
 
 ghost use Rattle.std.specs.Prelude.{◌≡◌, OnOk};
-ghost use Rattle.ml_syntax.specs.View.{view_names, view_pat, view_pat_field, pats, pat_fields};
+ghost use Rattle.ml_trees.specs.View.{view_names, view_pat, view_pat_field, pats, pat_fields};
 ghost use Rattle.ml_syntax.specs.Places.{names_sites, pat_sites, pats_sites, pat_field_sites, pat_fields_sites};
 ghost use Rattle.ml_syntax.specs.Sites.{view_sites};
 
-use crate::pattern::{Pat, PatField};
 use crate::sites::{Site, add_name, add_pun};
-use crate::word::ValueName;
+use ml_trees::{Pat, PatField, ValueName};
 use rotor_base::Memory;
 use std::alloc::Global;
 
@@ -26,7 +25,7 @@ fn names(alloc: Global, found: &mut Vec<Site>, list: &[ValueName]) -> Result<(),
 
 /// Adds the places of a pattern.
 #[cycle(pattern_places)]
-#[tactic(auto, using(crate::proofs::Variants::pat_views, crate::proofs::Variants::pat_field_views))]
+#[tactic(auto, using(ml_trees::proofs::Variants::pat_views, ml_trees::proofs::Variants::pat_field_views))]
 pub fn pattern(alloc: Global, found: &mut Vec<Site>, pat: &Pat) -> Result<(), Memory>
     ensures { OnOk result (view_sites found.new.items ≡ pat_sites (view_sites found.old.items) (view_pat pat.now)) }
 {
@@ -76,7 +75,7 @@ pub fn pattern(alloc: Global, found: &mut Vec<Site>, pat: &Pat) -> Result<(), Me
 }
 
 #[cycle(pattern_places)]
-#[tactic(auto, using(crate::proofs::Variants::pat_views, crate::proofs::Variants::pat_field_views))]
+#[tactic(auto, using(ml_trees::proofs::Variants::pat_views, ml_trees::proofs::Variants::pat_field_views))]
 fn patterns(alloc: Global, found: &mut Vec<Site>, list: &[Pat]) -> Result<(), Memory>
     ensures { OnOk result (view_sites found.new.items ≡ pats_sites (view_sites found.old.items) (pats list.now)) }
 {
@@ -87,7 +86,7 @@ fn patterns(alloc: Global, found: &mut Vec<Site>, list: &[Pat]) -> Result<(), Me
 }
 
 #[cycle(pattern_places)]
-#[tactic(auto, using(crate::proofs::Variants::pat_views, crate::proofs::Variants::pat_field_views))]
+#[tactic(auto, using(ml_trees::proofs::Variants::pat_views, ml_trees::proofs::Variants::pat_field_views))]
 fn field(alloc: Global, found: &mut Vec<Site>, field: &PatField) -> Result<(), Memory>
     ensures { OnOk result (view_sites found.new.items ≡ pat_field_sites (view_sites found.old.items) (view_pat_field field.now)) }
 {
@@ -100,7 +99,7 @@ fn field(alloc: Global, found: &mut Vec<Site>, field: &PatField) -> Result<(), M
 }
 
 #[cycle(pattern_places)]
-#[tactic(auto, using(crate::proofs::Variants::pat_views, crate::proofs::Variants::pat_field_views))]
+#[tactic(auto, using(ml_trees::proofs::Variants::pat_views, ml_trees::proofs::Variants::pat_field_views))]
 fn fields(alloc: Global, found: &mut Vec<Site>, list: &[PatField]) -> Result<(), Memory>
     ensures { OnOk result (view_sites found.new.items ≡ pat_fields_sites (view_sites found.old.items) (pat_fields list.now)) }
 {

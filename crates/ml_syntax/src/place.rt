@@ -1,13 +1,13 @@
 //! The places of a file's values.
 
 ghost use Rattle.std.specs.Prelude.{◌≡◌, IfOk, map};
-ghost use Rattle.ml_syntax.specs.View.{view_file};
+ghost use Rattle.ml_trees.specs.View.{view_file};
 ghost use Rattle.ml_syntax.specs.Places.{sites, binder_sites, use_sites, pun_sites, mark};
 ghost use Rattle.ml_syntax.specs.Sites.{view_sites};
 
-use crate::module::FileTree;
 use crate::module_places::{body, face};
 use crate::sites::Site;
+use ml_trees::FileTree;
 use rotor_base::{Memory, Name};
 use std::alloc::Global;
 

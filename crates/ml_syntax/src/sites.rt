@@ -1,15 +1,14 @@
 //! The places that have been found in a tree.
 
 ghost use Rattle.std.specs.Prelude.{◌≡◌, ◌++◌, ◌∷◌, [], OnOk};
-ghost use Rattle.ml_syntax.specs.View.{view_word, view_tok, view_name};
+ghost use Rattle.ml_trees.specs.View.{view_word, view_tok, view_name};
 ghost use Rattle.ml_syntax.specs.Places.{plain, punned, operated, operator_sites, name_sites, label_site, variable_sites};
-ghost use Rattle.ml_syntax.specs.View.{view_variable};
+ghost use Rattle.ml_trees.specs.View.{view_variable};
 ghost use Rattle.ml_syntax.specs.Sites.{view_sites};
 
-use crate::expression::Variable;
 use crate::place::Mark;
 use crate::value_words::{label_of, operator_of};
-use crate::word::{ValueName, Word};
+use ml_trees::{ValueName, Variable, Word};
 use rotor_base::{Memory, Name};
 use std::alloc::Global;
 

@@ -1,7 +1,7 @@
 -- Functors from the shapes of their parameters, and sealed modules.
 use Rattle.std.proofs.Common.{◌≡◌, ℕ, List, [], ◌∷◌, ◌++◌, Option, Some, None, refl, ap, ◌∙◌}
-use Rattle.ml_syntax.specs.Tree.{FunctorParam, NamedParam, NoParam, FunctorParams, no_functor_param, more_functor_param, MaybeType, no_type}
-use Rattle.ml_syntax.specs.Tree.{some_type, ModuleName, ModExpr, ModuleItem}
+use Rattle.ml_trees.specs.Tree.{FunctorParam, NamedParam, NoParam, FunctorParams, no_functor_param, more_functor_param, MaybeType, no_type}
+use Rattle.ml_trees.specs.Tree.{some_type, ModuleName, ModExpr, ModuleItem}
 use Rattle.shape_core.specs.Shape.{Shape, Entries, ◌⊕◌}
 use Rattle.binding_model.specs.Scopes.{here, named, param_in, params_in, from_param, from_params, mod_shape, sealed_shape, adds}
 use Rattle.binding_model.specs.Steps.{Steps, ◌⨾◌, WeighedSite}

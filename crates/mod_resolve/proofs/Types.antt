@@ -1,7 +1,7 @@
 -- The module type that a path names is found in the module before its last name.
 use Rattle.std.proofs.Common.{◌≡◌, ℕ, List, [], ◌∷◌, ◌++◌, Option, Some, None, ◌≤◌, length, arith, refl, sym, ap, ◌∙◌}
-use Rattle.ml_syntax.specs.declared.word.Word.{Word}
-use Rattle.ml_syntax.specs.View.{view_words}
+use Rattle.ml_trees.specs.declared.word.Word.{Word}
+use Rattle.ml_trees.specs.View.{view_words}
 use Rattle.shape_core.specs.Shape.{Name, Shape, Struct, Functor, Unitary, Opaque, Entries, or_value, step, step_from, inside, find_path, walk}
 use Rattle.shape_core.specs.Shape.{find_mty, type_in, entries_in}
 use Rattle.binding_model.specs.Scopes.{texts, type_under}

@@ -2,8 +2,8 @@
 -- module (the OCaml manual, "Module expressions").
 use Rattle.std.specs.Prelude.{ℕ, List, [], ◌∷◌, Option, Some, None}
 use Rattle.rotor_base.specs.declared.place.Place.{Place}
-use Rattle.ml_syntax.specs.Tree.{FunctorParam, NamedParam, NoParam, FunctorParams, no_functor_param, more_functor_param, MaybeType, no_type}
-use Rattle.ml_syntax.specs.Tree.{some_type}
+use Rattle.ml_trees.specs.Tree.{FunctorParam, NamedParam, NoParam, FunctorParams, no_functor_param, more_functor_param, MaybeType, no_type}
+use Rattle.ml_trees.specs.Tree.{some_type}
 use Rattle.shape_core.specs.Shape.{Shape, Functor, Unitary, Entries, none, ◌⊕◌}
 use Rattle.binding_model.specs.Scopes.{named, type_shape, param_in}
 use Rattle.binding_model.specs.Steps.{Steps, quiet, ◌⨾◌, MatchOf, WeighedSite}

@@ -1,14 +1,14 @@
 //! What items add and open.
 
 ghost use Rattle.std.specs.Prelude.{◌≡◌, ◌++◌, [], true, IfOk, OnOk};
-ghost use Rattle.ml_syntax.specs.View.{view_name, view_module_name};
+ghost use Rattle.ml_trees.specs.View.{view_name, view_module_name};
 ghost use Rattle.ml_syntax.specs.Places.{name_sites};
 ghost use Rattle.shape_core.specs.Shape.{a_mty, none};
 ghost use Rattle.shape_core.specs.Node.{entries_of};
 ghost use Rattle.binding_model.specs.Scopes.{bound, named};
 ghost use Rattle.binding_model.specs.Walk.{name_at};
 
-use ml_syntax::{ModuleName, ValueName, Word};
+use ml_trees::{ModuleName, ValueName, Word};
 use resolve_base::bind_name;
 use rotor_base::{Memory, Name};
 use shape_core::{Shared, SharedEntry};

@@ -1,7 +1,7 @@
 //! Functors, signatures of modules, and paths of module types.
 
 ghost use Rattle.std.specs.Prelude.{◌≡◌, ◌++◌, ◌∷◌, [], suc, IfOk, OnOk, option_copied};
-ghost use Rattle.ml_syntax.specs.View.{view_words, view_functor_param, view_mod_type};
+ghost use Rattle.ml_trees.specs.View.{view_words, view_functor_param, view_mod_type};
 ghost use Rattle.shape_core.specs.Shape.{Struct, Opaque, or_value, type_in};
 ghost use Rattle.shape_core.specs.Node.{entries_of};
 ghost use Rattle.binding_model.specs.Scopes.{here, texts, type_under};
@@ -12,7 +12,7 @@ ghost use Rattle.mod_resolve.specs.Given.{functor_to, functors_to, given_in, sea
 
 use crate::entries::named_module;
 use binding_model::Found;
-use ml_syntax::{FunctorParam, ModType, Word};
+use ml_trees::{FunctorParam, ModType, Word};
 use resolve_base::{matched, path_in, start_of, weighed_site};
 use rotor_base::{Memory, Place};
 use shape_core::{
@@ -48,7 +48,7 @@ pub fn functor_from(
 }
 
 /// What a parameter of a functor brings to the scope. `Memory` is the only error.
-#[tactic(auto, using(ml_syntax::proofs::Variants::functor_param_views))]
+#[tactic(auto, using(ml_trees::proofs::Variants::functor_param_views))]
 pub fn param_entries(
     alloc: Global,
     part: &FunctorParam,
@@ -160,7 +160,7 @@ fn type_within<'a>(shape: Option<&'a Shared>, name: &[u8]) -> Option<&'a Shared>
 }
 
 /// The first token of a module type. It takes stack at each level of the type.
-#[tactic(auto, using(ml_syntax::proofs::Variants::mod_type_views))]
+#[tactic(auto, using(ml_trees::proofs::Variants::mod_type_views))]
 pub fn type_start(s: &ModType) -> u32
     ensures { result ≡ start (view_mod_type s.now) }
 {
@@ -177,7 +177,7 @@ pub fn type_start(s: &ModType) -> u32
 }
 
 /// The token of the `(` of a parameter. It takes no memory.
-#[tactic(auto, using(ml_syntax::proofs::Variants::functor_param_views))]
+#[tactic(auto, using(ml_trees::proofs::Variants::functor_param_views))]
 fn param_start(part: &FunctorParam) -> u32
     ensures { result ≡ start_of_param (view_functor_param part.now) }
 {

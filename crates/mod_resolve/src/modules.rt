@@ -4,7 +4,7 @@
 //! than the bound on levels.
 
 ghost use Rattle.std.specs.Prelude.{◌≡◌, ◌≤◌, IfOk, length, take};
-ghost use Rattle.ml_syntax.specs.View.{view_mod, view_mod_type, view_mod_argument, view_functor_param, view_item, view_sig_item, mod_arguments, functor_params, signature, items, sig_items};
+ghost use Rattle.ml_trees.specs.View.{view_mod, view_mod_type, view_mod_argument, view_functor_param, view_item, view_sig_item, mod_arguments, functor_params, signature, items, sig_items};
 ghost use Rattle.shape_core.specs.Shape.{◌⊕◌};
 ghost use Rattle.shape_core.specs.Node.{entries_of};
 ghost use Rattle.binding_model.specs.Scopes.{mod_shape, type_shape, applied as applied_shape, applied_all, params_in, adds, opens, entries, sig_adds, sig_opens, sig_entries};
@@ -20,7 +20,7 @@ use crate::functors::{
 };
 use binding_model::Found;
 use expr_resolve::{expression, let_part, let_parts};
-use ml_syntax::{FunctorParam, Item, ModArgument, ModExpr, ModType, SigItem};
+use ml_trees::{FunctorParam, Item, ModArgument, ModExpr, ModType, SigItem};
 use resolve_base::{go_on_with, group, matched, opening, weighed_site};
 use resolve_parts::{applied, apply, apply_to_nothing, let_values, module_entry, shape_at};
 use rotor_base::Place;
@@ -30,7 +30,7 @@ use std::alloc::Global;
 /// The shape of a module expression in its scope. After an `Ok` the scope is as it was. The errors are `Heavy`, at the
 /// first site that is too heavy, and `Memory`. It takes stack at each level of the module.
 #[cycle(modules)]
-#[tactic(auto, using(ml_syntax::proofs::Variants::mod_expr_views, crate::proofs::Parameters::given_so, expr_resolve::proofs::Fronts::front_of_front, binding_model::proofs::Takings::heavy_stays))]
+#[tactic(auto, using(ml_trees::proofs::Variants::mod_expr_views, crate::proofs::Parameters::given_so, expr_resolve::proofs::Fronts::front_of_front, binding_model::proofs::Takings::heavy_stays))]
 pub fn module(
     alloc: Global,
     found: &mut Found,
@@ -101,7 +101,7 @@ fn applications(
 }
 
 #[cycle(modules)]
-#[tactic(auto, using(ml_syntax::proofs::Variants::mod_argument_views, binding_model::proofs::Takings::heavy_stays))]
+#[tactic(auto, using(ml_trees::proofs::Variants::mod_argument_views, binding_model::proofs::Takings::heavy_stays))]
 fn application(
     alloc: Global,
     found: &mut Found,
@@ -165,7 +165,7 @@ fn functor_params(
 
 /// A parameter of a functor, with its shape if it has a name.
 #[cycle(modules)]
-#[tactic(auto, using(ml_syntax::proofs::Variants::functor_param_views, binding_model::proofs::Takings::heavy_stays))]
+#[tactic(auto, using(ml_trees::proofs::Variants::functor_param_views, binding_model::proofs::Takings::heavy_stays))]
 fn functor_param(
     alloc: Global,
     found: &mut Found,
@@ -201,7 +201,7 @@ fn functor_param(
 
 /// The shape of a module type in its scope, as for [`module`].
 #[cycle(modules)]
-#[tactic(auto, using(ml_syntax::proofs::Variants::mod_type_views, crate::proofs::Parameters::given_so, expr_resolve::proofs::Fronts::front_of_front, binding_model::proofs::Takings::heavy_stays))]
+#[tactic(auto, using(ml_trees::proofs::Variants::mod_type_views, crate::proofs::Parameters::given_so, expr_resolve::proofs::Fronts::front_of_front, binding_model::proofs::Takings::heavy_stays))]
 pub fn module_type(
     alloc: Global,
     found: &mut Found,
@@ -369,7 +369,7 @@ fn all_sig_items(
 
 /// An item of a structure: what it adds to the structure and to the scope, and what it opens in the scope alone.
 #[cycle(modules)]
-#[tactic(auto, using(ml_syntax::proofs::Variants::item_views, crate::proofs::Parameters::given_so, crate::proofs::Parameters::sealing_so, expr_resolve::proofs::Fronts::front_of_front, binding_model::proofs::Takings::heavy_stays))]
+#[tactic(auto, using(ml_trees::proofs::Variants::item_views, crate::proofs::Parameters::given_so, crate::proofs::Parameters::sealing_so, expr_resolve::proofs::Fronts::front_of_front, binding_model::proofs::Takings::heavy_stays))]
 fn item(
     alloc: Global,
     found: &mut Found,
@@ -450,7 +450,7 @@ fn item(
 
 /// An item of a signature, as for [`item`].
 #[cycle(modules)]
-#[tactic(auto, using(ml_syntax::proofs::Variants::sig_item_views, crate::proofs::Parameters::given_so, expr_resolve::proofs::Fronts::front_of_front, binding_model::proofs::Takings::heavy_stays))]
+#[tactic(auto, using(ml_trees::proofs::Variants::sig_item_views, crate::proofs::Parameters::given_so, expr_resolve::proofs::Fronts::front_of_front, binding_model::proofs::Takings::heavy_stays))]
 fn sig_item(
     alloc: Global,
     found: &mut Found,

@@ -1,6 +1,6 @@
 -- The files of a unit, joined.
 use Rattle.std.proofs.Common.{◌≡◌, Option, Some, None, refl}
-use Rattle.ml_syntax.specs.Tree.{FileTree}
+use Rattle.ml_trees.specs.Tree.{FileTree}
 use Rattle.shape_core.specs.Shape.{Shape, Entries}
 use Rattle.binding_model.specs.Scopes.{file_shape, parts_shape}
 use Rattle.binding_model.specs.Steps.{Steps}

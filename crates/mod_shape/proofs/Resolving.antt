@@ -8,9 +8,9 @@ use Rattle.rotor_base.specs.declared.place.Link.{Link}
 use Rattle.rotor_base.specs.declared.place.Facts.{Facts}
 use Rattle.rotor_base.specs.declared.looks.Watch.{Watch}
 use Rattle.rotor_base.specs.declared.looks.Looks.{Looks}
-use Rattle.ml_syntax.specs.declared.module.UnitTree.{UnitTree as Unit_tree}
-use Rattle.ml_syntax.specs.Tree.{UnitTree}
-use Rattle.ml_syntax.specs.View.{view_unit}
+use Rattle.ml_trees.specs.declared.module.UnitTree.{UnitTree as Unit_tree}
+use Rattle.ml_trees.specs.Tree.{UnitTree}
+use Rattle.ml_trees.specs.View.{view_unit}
 use Rattle.shape_core.specs.declared.shared.SharedEntry.{SharedEntry}
 use Rattle.shape_core.specs.Node.{entries_of}
 use Rattle.shape_core.specs.Shape.{Shape, Entries, none, weight, or_else, some_if}

@@ -1,6 +1,6 @@
 -- The shapes of the files of a unit, and what joins them (the OCaml manual, "Compilation units").
 use Rattle.std.specs.Prelude.{Option, Some, None}
-use Rattle.ml_syntax.specs.Tree.{FileTree}
+use Rattle.ml_trees.specs.Tree.{FileTree}
 use Rattle.shape_core.specs.Shape.{Shape, Opaque, Entries}
 use Rattle.binding_model.specs.Scopes.{file_shape}
 use Rattle.binding_model.specs.Steps.{Steps, quiet, MatchOf, PinOf}

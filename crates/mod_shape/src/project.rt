@@ -1,7 +1,7 @@
 //! Units, resolved one after another.
 
 ghost use Rattle.std.specs.Prelude.{◌≡◌, IfOk, OnOk, Some, map};
-ghost use Rattle.ml_syntax.specs.View.{view_file, view_part_of, view_unit};
+ghost use Rattle.ml_trees.specs.View.{view_file, view_part_of, view_unit};
 ghost use Rattle.shape_core.specs.Node.{entries_of};
 ghost use Rattle.binding_model.specs.Scopes.{file_shape, unit_shape, after_units};
 ghost use Rattle.binding_model.specs.Steps.{UnitStart, ◌⨾◌};
@@ -10,7 +10,7 @@ ghost use Rattle.binding_model.specs.Walk.{file_steps, maybe_file_steps, file_nu
 ghost use Rattle.mod_shape.specs.Joined.{maybe_shape, joined_steps, joined_shape};
 
 use binding_model::Found;
-use ml_syntax::{FileTree, UnitTree};
+use ml_trees::{FileTree, UnitTree};
 use mod_resolve::{signature, structure};
 use resolve_base::{matched, pinned, unit_start, weighed_site};
 use rotor_base::{Memory, Name, Place};

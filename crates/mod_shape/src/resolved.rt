@@ -3,7 +3,7 @@
 ghost use Rattle.std.specs.Prelude.{◌≡◌, IfOk, IsOk, Err, Some, None};
 ghost use Rattle.rotor_base.specs.declared.place.Place.{Place};
 ghost use Rattle.ml_syntax.specs.Sound.{IsSound};
-ghost use Rattle.ml_syntax.specs.View.{view_project};
+ghost use Rattle.ml_trees.specs.View.{view_project};
 ghost use Rattle.shape_core.specs.declared.error.FactError.TheVariants.{Heavy};
 ghost use Rattle.shape_core.specs.Shape.{none};
 ghost use Rattle.shape_core.specs.Node.{entries_of};
@@ -14,7 +14,7 @@ ghost use Rattle.binding_model.specs.Sums.{heavy};
 
 use crate::project::units;
 use found_facts::{facts_in, from_nothing, looks_in, recorder_of};
-use ml_syntax::Project;
+use ml_trees::Project;
 use rotor_base::{Facts, Looks, Memory, Place, Row, Watch};
 use shape_core::{FactError, Scope};
 use std::alloc::Global;

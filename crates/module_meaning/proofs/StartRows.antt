@@ -4,16 +4,16 @@ use Rattle.std.specs.Prelude.{◌≡◌, ℕ, List, [], ◌∷◌, Option, Some,
 use Rattle.std.proofs.Common.{refl}
 use Rattle.rotor_base.specs.declared.place.Place.{Place}
 use Rattle.rotor_base.specs.declared.token.Class.TheVariants as class
-use Rattle.ml_syntax.specs.declared.fixed.Fixed.TheVariants as key
-use Rattle.ml_syntax.specs.declared.word.Bracket.TheVariants as bracket
-use Rattle.ml_syntax.specs.Tok.{Name, fixed, placed, word}
-use Rattle.ml_syntax.specs.Tree.{PlainName, AnyPat, ValuePat, LiteralPat, UnitPat, PlainVariable, LocalPath, no_local, more_local, Seq}
-use Rattle.ml_syntax.specs.Tree.{LetModule, Match, If, Chain, Minus, Apply, Postfix, Prefixed, Literal, BoolExpr, Value, UnitExpr, Paren}
-use Rattle.ml_syntax.specs.Tree.{ListExpr, While, For, no_link, more_link, no_expr, some_expr, no_else, or_else, or_if, PlainBinding}
-use Rattle.ml_syntax.specs.Tree.{AppliedBinding, no_binding, CaseOf, no_case, more_case, Positional, Labelled, no_argument, more_argument}
-use Rattle.ml_syntax.specs.Tree.{PatternParam, no_param, more_param, IndexPart, no_part, more_part, UpperName, Struct, NamedParam}
-use Rattle.ml_syntax.specs.Tree.{no_functor_param, more_functor_param, Sig, no_type, ValueItem, ModuleItem, no_item, more_item, ValSig}
-use Rattle.ml_syntax.specs.Tree.{no_sig_item, more_sig_item, Body, FileTree, UnitTree}
+use Rattle.ml_trees.specs.declared.fixed.Fixed.TheVariants as key
+use Rattle.ml_trees.specs.declared.word.Bracket.TheVariants as bracket
+use Rattle.ml_trees.specs.Tok.{Name, fixed, placed, word}
+use Rattle.ml_trees.specs.Tree.{PlainName, AnyPat, ValuePat, LiteralPat, UnitPat, PlainVariable, LocalPath, no_local, more_local, Seq}
+use Rattle.ml_trees.specs.Tree.{LetModule, Match, If, Chain, Minus, Apply, Postfix, Prefixed, Literal, BoolExpr, Value, UnitExpr, Paren}
+use Rattle.ml_trees.specs.Tree.{ListExpr, While, For, no_link, more_link, no_expr, some_expr, no_else, or_else, or_if, PlainBinding}
+use Rattle.ml_trees.specs.Tree.{AppliedBinding, no_binding, CaseOf, no_case, more_case, Positional, Labelled, no_argument, more_argument}
+use Rattle.ml_trees.specs.Tree.{PatternParam, no_param, more_param, IndexPart, no_part, more_part, UpperName, Struct, NamedParam}
+use Rattle.ml_trees.specs.Tree.{no_functor_param, more_functor_param, Sig, no_type, ValueItem, ModuleItem, no_item, more_item, ValSig}
+use Rattle.ml_trees.specs.Tree.{no_sig_item, more_sig_item, Body, FileTree, UnitTree}
 use Rattle.module_meaning.specs.Run.{run, Finished, Stopped, OutOfFuel, WasUnrun}
 
 abbrev n : ℕ → List ℕ → Name

@@ -5,7 +5,7 @@ use Rattle.std.specs.Prelude.{nat_le}
 use Rattle.std.specs.Str.{bytes_eq}
 use Rattle.rotor_base.specs.declared.place.Place.{Place}
 use Rattle.ml_lexer.specs.Lexed.{Lexeme}
-use Rattle.ml_syntax.specs.Tree.{FileTree, UnitTree}
+use Rattle.ml_trees.specs.Tree.{FileTree, UnitTree}
 use Rattle.module_openings.specs.Names.{is_among}
 use Rattle.module_openings.specs.Lexemes.{begins_nest, ends_nest, ends_value, is, is_upper}
 use Rattle.module_openings.specs.Sources.{file_of, lexemes_of}

@@ -1,7 +1,7 @@
 -- The lexemes of the files of a unit (own).
 use Rattle.std.specs.Prelude.{ℕ, List, [], slice_get, unwrap_or}
 use Rattle.ml_lexer.specs.Lexed.{Lexeme}
-use Rattle.ml_syntax.specs.Tree.{FileTree, Body, Face}
+use Rattle.ml_trees.specs.Tree.{FileTree, Body, Face}
 
 -- the number of a file
 abbrev pub file_of : FileTree → ℕ

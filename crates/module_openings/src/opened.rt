@@ -2,7 +2,7 @@
 ghost use Rattle.std.specs.Prelude.{◌≡◌, ◌++◌, ◌∷◌, ◌+◌, ◌≤◌, [], All, IfOk, OnOk, cond, false, length, map};
 ghost use Rattle.rotor_base.specs.Limits.{max_file_bytes};
 ghost use Rattle.ml_lexer.specs.Lexed.{view_token, view_tokens};
-ghost use Rattle.ml_syntax.specs.View.{view_part_of, view_unit};
+ghost use Rattle.ml_trees.specs.View.{view_part_of, view_unit};
 ghost use Rattle.module_openings.specs.Named.{view_linked, view_meant, view_names};
 ghost use Rattle.module_openings.specs.Sources.{lexemes_of};
 ghost use Rattle.module_openings.specs.Opened.{depth_behind as depth_behind_of, is_first as is_first_of, is_head as is_head_of, is_meant as is_meant_of, linked_behind, locals_at as locals_at_of, opened_file, opened_in, opened_modules, opened_source, opened_units, part_lexemes, use_at, uses_behind, uses_of};
@@ -12,7 +12,7 @@ use crate::names::{Linked, Names, has_include, is_among, push_declared, push_mod
 use crate::opening::{Opening, Site};
 use crate::openings::{begins_path, behind_head, brings, ends, opening_at, opens_outside, skipped};
 use crate::sources::file_number;
-use ml_syntax::{FileTree, UnitTree};
+use ml_trees::{FileTree, UnitTree};
 use rotor_base::{Memory, Name, Place, Token};
 use std::alloc::Global;
 

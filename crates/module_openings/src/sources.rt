@@ -1,9 +1,9 @@
 //! The numbers of files.
 ghost use Rattle.std.specs.Prelude.{◌≡◌};
-ghost use Rattle.ml_syntax.specs.View.{view_file};
+ghost use Rattle.ml_trees.specs.View.{view_file};
 ghost use Rattle.module_openings.specs.Sources.{file_of};
 
-use ml_syntax::FileTree;
+use ml_trees::FileTree;
 
 /// The number of a file.
 pub fn file_number(tree: &FileTree) -> u32

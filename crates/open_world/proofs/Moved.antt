@@ -15,7 +15,7 @@ use Rattle.rotor_base.proofs.Rising.{some_is}
 use Rattle.ml_syntax.specs.Each.{Each}
 use Rattle.ml_syntax.specs.Places.{Site}
 use Rattle.ml_syntax.specs.Respelled.{Spelling, spell_file}
-use Rattle.ml_syntax.specs.Tree.{FileTree, Body, Face, UnitTree}
+use Rattle.ml_trees.specs.Tree.{FileTree, Body, Face, UnitTree}
 use Rattle.shape_core.specs.Shape.{Name, Entries, vals, or_else, or_value, some_if, last_of}
 use Rattle.shape_core.specs.Links.{link}
 use Rattle.shape_core.specs.Respell.{Words, over}

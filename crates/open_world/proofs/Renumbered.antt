@@ -9,9 +9,9 @@ use Rattle.rotor_base.specs.declared.place.Ref.{Ref}
 use Rattle.rotor_base.specs.declared.place.Link.{Link}
 use Rattle.rotor_base.specs.declared.place.Goal.{Goal}
 use Rattle.rotor_base.specs.declared.place.Goal.TheVariants.{Decl, Outside, Missing, Hidden, Blur}
-use Rattle.ml_syntax.specs.Tok.{Name as Word}
+use Rattle.ml_trees.specs.Tok.{Name as Word}
 use Rattle.ml_syntax.specs.Places.{Site}
-use Rattle.ml_syntax.specs.Tree.{FileTree, Body, Face, UnitTree}
+use Rattle.ml_trees.specs.Tree.{FileTree, Body, Face, UnitTree}
 use Rattle.shape_core.specs.Shape.{Name, Shape, Struct, Functor, Unitary, Opaque, Entries, none, a_val, a_mod, a_mty, a_dark, ◌⊕◌, vals, mods, mtys}
 use Rattle.shape_core.specs.Shape.{or_else, or_value, some_if, unless_some, last_of, passed, last_place, decl_of, behind_of, seen, find_val, find_mod}
 use Rattle.shape_core.specs.Shape.{find_mty, step, step_from, inside, find_path, walk, type_in, brought, value_at, value_in, depth, depths}

@@ -5,9 +5,9 @@ use Rattle.rotor_base.specs.declared.place.Goal.{Goal}
 use Rattle.rotor_base.specs.declared.place.Goal.TheVariants.{Decl, Outside, Missing, Hidden, Blur}
 use Rattle.rotor_base.specs.declared.place.Ref.{Ref}
 use Rattle.rotor_base.specs.declared.token.Class.TheVariants as class
-use Rattle.ml_syntax.specs.Tok.{Name}
-use Rattle.ml_syntax.specs.Tree.{PlainName, ValuePat, Expr, Literal, Value, PlainBinding, no_binding, UpperName, Struct, no_functor_param, no_type}
-use Rattle.ml_syntax.specs.Tree.{Item, ValueItem, ModuleItem, OpenItem, Items, no_item, more_item, Body, UnitTree}
+use Rattle.ml_trees.specs.Tok.{Name}
+use Rattle.ml_trees.specs.Tree.{PlainName, ValuePat, Expr, Literal, Value, PlainBinding, no_binding, UpperName, Struct, no_functor_param, no_type}
+use Rattle.ml_trees.specs.Tree.{Item, ValueItem, ModuleItem, OpenItem, Items, no_item, more_item, Body, UnitTree}
 use Rattle.shape_core.specs.Links.{◌&◌, matched}
 use Rattle.shape_core.specs.Shape.{none}
 use Rattle.binding_model.specs.Facts.{facts}

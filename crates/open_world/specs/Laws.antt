@@ -3,7 +3,7 @@ use Rattle.std.specs.Prelude.{◌≡◌, ◌<◌, ℕ, List, [], ◌∷◌, ◌+
 use Rattle.rotor_base.specs.declared.place.Place.{Place}
 use Rattle.ml_syntax.specs.Each.{Each}
 use Rattle.ml_syntax.specs.Sound.{IsSound}
-use Rattle.ml_syntax.specs.Tree.{FileTree, Body, Face, UnitTree}
+use Rattle.ml_trees.specs.Tree.{FileTree, Body, Face, UnitTree}
 use Rattle.shape_core.specs.Shape.{Shape, Struct, Functor, Unitary, Opaque, Entries, none, a_val, a_mod, a_mty, a_dark}
 use Rattle.shape_core.specs.Respell.{over}
 use Rattle.binding_model.specs.Facts.{facts, IsGood}

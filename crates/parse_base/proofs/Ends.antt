@@ -4,8 +4,8 @@ use Rattle.std.proofs.Common.{ap, ◌∙◌, arith, length-drop}
 use Rattle.std.proofs.lemmas.List.{length-map}
 use Rattle.rotor_base.specs.declared.token.Class.{Class}
 use Rattle.rotor_base.specs.declared.token.Token.{Token}
-use Rattle.ml_syntax.specs.Tok.{Tok, toks_from}
-use Rattle.ml_syntax.specs.Tree.{Pat}
+use Rattle.ml_trees.specs.Tok.{Tok, toks_from}
+use Rattle.ml_trees.specs.Tree.{Pat}
 use Rattle.parse_base.specs.PatReading.{read_pat}
 use Rattle.parse_base.specs.Longest.{IsLongestPat, BeginsNoPat}
 use Rattle.parse_base.specs.Tokens.{lexeme, from}

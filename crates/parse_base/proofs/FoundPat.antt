@@ -3,17 +3,17 @@ use Rattle.std.proofs.Common.{◌≡◌, ℕ, zero, suc, ◌≤◌, List, [], �
 use Rattle.std.proofs.Common.{arith}
 use Rattle.rotor_base.specs.declared.token.Class.{Class}
 use Rattle.rotor_base.specs.declared.token.Class.TheVariants as class
-use Rattle.ml_syntax.specs.declared.fixed.Fixed.{Fixed}
-use Rattle.ml_syntax.specs.declared.fixed.Fixed.TheVariants as key
-use Rattle.ml_syntax.specs.declared.word.Bracket.{Bracket}
-use Rattle.ml_syntax.specs.declared.word.Bracket.TheVariants as bracket
-use Rattle.ml_syntax.specs.Tok.{Name, Tok, fixed, placed, word}
-use Rattle.ml_syntax.specs.Words.{pat_then, pats_then, pat_field_then, pat_fields_then, path_then, dotted_then, qualified_then, name_then, names_then}
-use Rattle.ml_syntax.specs.Words.{type_then, optional_then, open_then, opening, closing}
-use Rattle.ml_syntax.specs.WellFormed.{WfType, WfPat, WfPats, WfPatField, WfPatFields, WfNames, pat_level, is_exception, is_literal, is_number}
-use Rattle.ml_syntax.specs.WellFormed.{is_minus, is_operator}
-use Rattle.ml_syntax.specs.Tree.{ValueName, OperatorName, Pat, LazyPat, ExceptionPat, ValuePat, LiteralPat, NegativePat, ConstrPat, TagPat, Pats}
-use Rattle.ml_syntax.specs.Tree.{no_pat, more_pat, PatField, PatFields, no_pat_field, more_pat_field}
+use Rattle.ml_trees.specs.declared.fixed.Fixed.{Fixed}
+use Rattle.ml_trees.specs.declared.fixed.Fixed.TheVariants as key
+use Rattle.ml_trees.specs.declared.word.Bracket.{Bracket}
+use Rattle.ml_trees.specs.declared.word.Bracket.TheVariants as bracket
+use Rattle.ml_trees.specs.Tok.{Name, Tok, fixed, placed, word}
+use Rattle.ml_trees.specs.Words.{pat_then, pats_then, pat_field_then, pat_fields_then, path_then, dotted_then, qualified_then, name_then, names_then}
+use Rattle.ml_trees.specs.Words.{type_then, optional_then, open_then, opening, closing}
+use Rattle.ml_trees.specs.WellFormed.{WfType, WfPat, WfPats, WfPatField, WfPatFields, WfNames, pat_level, is_exception, is_literal, is_number}
+use Rattle.ml_trees.specs.WellFormed.{is_minus, is_operator}
+use Rattle.ml_trees.specs.Tree.{ValueName, OperatorName, Pat, LazyPat, ExceptionPat, ValuePat, LiteralPat, NegativePat, ConstrPat, TagPat, Pats}
+use Rattle.ml_trees.specs.Tree.{no_pat, more_pat, PatField, PatFields, no_pat_field, more_pat_field}
 use Rattle.parse_base.specs.Steps.{Read, ◌>>=◌, expect, expect_at, many, always}
 use Rattle.parse_base.specs.Pieces.{more_uppers, qualifiers, lower_word, value_name, type_run, optional_type}
 use Rattle.parse_base.specs.PatReading.{grown_as, grown_or, grown_tuple, grown_cons, applied_to, can_apply, last_semicolon, open_end, negative}

@@ -2,14 +2,14 @@
 use Rattle.std.proofs.Common.{◌≡◌, ℕ, suc, ◌≤◌, List, [], ◌∷◌, ◌++◌, length, take, Bool, true, false, cond, Option, Some, None, refl, sym, ap, subst}
 use Rattle.std.proofs.Common.{◌∙◌, arith}
 use Rattle.rotor_base.specs.declared.token.Class.TheVariants as class
-use Rattle.ml_syntax.specs.declared.fixed.Fixed.{Fixed}
-use Rattle.ml_syntax.specs.declared.fixed.Fixed.TheVariants as key
-use Rattle.ml_syntax.specs.Tok.{Name, Tok, fixed, placed, word}
-use Rattle.ml_syntax.specs.Runs.{bracketing, after_bracket, is_matched, beside_type, begins_type, in_type, in_declaration, is_type_run}
-use Rattle.ml_syntax.specs.Runs.{is_declaration_run}
-use Rattle.ml_syntax.specs.Tree.{ValueName, OperatorName}
-use Rattle.ml_syntax.specs.Words.{dotted_then, qualified_then, name_then, type_then}
-use Rattle.ml_syntax.specs.WellFormed.{is_operator, WfName, WfType}
+use Rattle.ml_trees.specs.declared.fixed.Fixed.{Fixed}
+use Rattle.ml_trees.specs.declared.fixed.Fixed.TheVariants as key
+use Rattle.ml_trees.specs.Tok.{Name, Tok, fixed, placed, word}
+use Rattle.ml_trees.specs.Runs.{bracketing, after_bracket, is_matched, beside_type, begins_type, in_type, in_declaration, is_type_run}
+use Rattle.ml_trees.specs.Runs.{is_declaration_run}
+use Rattle.ml_trees.specs.Tree.{ValueName, OperatorName}
+use Rattle.ml_trees.specs.Words.{dotted_then, qualified_then, name_then, type_then}
+use Rattle.ml_trees.specs.WellFormed.{is_operator, WfName, WfType}
 use Rattle.parse_base.specs.Steps.{always}
 use Rattle.parse_base.specs.Pieces.{dot_upper, more_uppers, upper_dot, qualifiers, lower_word, operator_at, value_name, or_none, one_more, longest}
 use Rattle.parse_base.specs.Pieces.{cut_at, type_run, declaration_run, type_or, optional_type}

@@ -15,6 +15,3 @@ pub mod Lone
 pub mod Ends
 pub mod RunTurns
 pub mod MarkSteps
-pub mod Kept
-pub mod FormsKept
-pub mod TokensKept

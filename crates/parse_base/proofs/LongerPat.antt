@@ -2,18 +2,18 @@
 use Rattle.std.proofs.Common.{◌≡◌, ◌≢◌, ℕ, ◌<◌, ◌≤◌, List, [], ◌∷◌, ◌++◌, length, Bool, true, false, Option, Some, None, refl, ap, arith}
 use Rattle.rotor_base.specs.declared.token.Class.{Class}
 use Rattle.rotor_base.specs.declared.token.Class.TheVariants as class
-use Rattle.ml_syntax.specs.declared.fixed.Fixed.{Fixed}
-use Rattle.ml_syntax.specs.declared.fixed.Fixed.TheVariants as key
-use Rattle.ml_syntax.specs.declared.word.Bracket.{Bracket}
-use Rattle.ml_syntax.specs.declared.word.Bracket.TheVariants as bracket
-use Rattle.ml_syntax.specs.Tok.{Name, Tok, fixed, placed, word}
-use Rattle.ml_syntax.specs.Words.{truth, pat_then, pats_then, pat_field_then, pat_fields_then, path_then, dotted_then, qualified_then, name_then}
-use Rattle.ml_syntax.specs.Words.{names_then, type_then, optional_then, open_then, opening, closing}
-use Rattle.ml_syntax.specs.WellFormed.{WfPat, is_operator, is_literal}
-use Rattle.ml_syntax.specs.Tree.{ValueName, PlainName, OperatorName, Pat, AsPat, OrPat, TuplePat, ConsPat, ConstrApplyPat, TagApplyPat, LazyPat}
-use Rattle.ml_syntax.specs.Tree.{ExceptionPat, AnyPat, ValuePat, LiteralPat, NegativePat, RangePat, ConstrPat, TagPat, BoolPat, UnitPat, ParenPat}
-use Rattle.ml_syntax.specs.Tree.{TypedPat, EmptyPat, ListPat, RecordPat, OpenedPat, Pats, no_pat, more_pat, PatField, PunnedField, MatchedField}
-use Rattle.ml_syntax.specs.Tree.{PatFields, no_pat_field, more_pat_field}
+use Rattle.ml_trees.specs.declared.fixed.Fixed.{Fixed}
+use Rattle.ml_trees.specs.declared.fixed.Fixed.TheVariants as key
+use Rattle.ml_trees.specs.declared.word.Bracket.{Bracket}
+use Rattle.ml_trees.specs.declared.word.Bracket.TheVariants as bracket
+use Rattle.ml_trees.specs.Tok.{Name, Tok, fixed, placed, word}
+use Rattle.ml_trees.specs.Words.{truth, pat_then, pats_then, pat_field_then, pat_fields_then, path_then, dotted_then, qualified_then, name_then}
+use Rattle.ml_trees.specs.Words.{names_then, type_then, optional_then, open_then, opening, closing}
+use Rattle.ml_trees.specs.WellFormed.{WfPat, is_operator, is_literal}
+use Rattle.ml_trees.specs.Tree.{ValueName, PlainName, OperatorName, Pat, AsPat, OrPat, TuplePat, ConsPat, ConstrApplyPat, TagApplyPat, LazyPat}
+use Rattle.ml_trees.specs.Tree.{ExceptionPat, AnyPat, ValuePat, LiteralPat, NegativePat, RangePat, ConstrPat, TagPat, BoolPat, UnitPat, ParenPat}
+use Rattle.ml_trees.specs.Tree.{TypedPat, EmptyPat, ListPat, RecordPat, OpenedPat, Pats, no_pat, more_pat, PatField, PunnedField, MatchedField}
+use Rattle.ml_trees.specs.Tree.{PatFields, no_pat_field, more_pat_field}
 
 -- ---- lengths
 

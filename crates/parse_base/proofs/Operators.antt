@@ -3,10 +3,10 @@ use Rattle.std.proofs.Common.{◌≡◌, ℕ, List, [], ◌∷◌, Bool, true, f
 use Rattle.std.specs.Prelude.{codes}
 use Rattle.std.specs.Prelude.{nat_le}
 use Rattle.std.specs.Str.{bytes_eq}
-use Rattle.ml_syntax.specs.WellFormed.{keyword_level, is_operator}
-use Rattle.ml_syntax.specs.declared.fixed.Fixed.TheVariants as key
-use Rattle.ml_syntax.specs.Tok.{Tok, fixed, placed, word}
-use Rattle.ml_syntax.specs.Tree.{ValueName, OperatorName, Pat, ValuePat}
+use Rattle.ml_trees.specs.WellFormed.{keyword_level, is_operator}
+use Rattle.ml_trees.specs.declared.fixed.Fixed.TheVariants as key
+use Rattle.ml_trees.specs.Tok.{Tok, fixed, placed, word}
+use Rattle.ml_trees.specs.Tree.{ValueName, OperatorName, Pat, ValuePat}
 use Rattle.parse_base.specs.Steps.{Read, ◌>>=◌}
 use Rattle.parse_base.specs.Pieces.{operator_at}
 use Rattle.parse_base.specs.PatReading.{paren_pat, closed_by}

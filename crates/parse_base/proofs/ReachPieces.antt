@@ -2,14 +2,14 @@
 use Rattle.std.proofs.Common.{◌≡◌, ℕ, zero, suc, ◌<◌, ◌≤◌, List, [], ◌∷◌, ◌++◌, length, Bool, true, Option, Some, None, refl, arith}
 use Rattle.std.proofs.Math.Seq.{take-append_seam, drop-append_seam}
 use Rattle.rotor_base.specs.declared.token.Class.TheVariants as class
-use Rattle.ml_syntax.specs.declared.fixed.Fixed.{Fixed}
-use Rattle.ml_syntax.specs.declared.fixed.Fixed.TheVariants as key
-use Rattle.ml_syntax.specs.Tok.{Name, Tok, fixed, word}
-use Rattle.ml_syntax.specs.Runs.{bracketing, after_bracket, is_matched, beside_type, begins_type, in_type, in_declaration, is_type_run}
-use Rattle.ml_syntax.specs.Runs.{is_declaration_run}
-use Rattle.ml_syntax.specs.Tree.{ValueName, PlainName, OperatorName}
-use Rattle.ml_syntax.specs.Words.{dotted_then, qualified_then, name_then, type_then}
-use Rattle.ml_syntax.specs.WellFormed.{WfName, WfType}
+use Rattle.ml_trees.specs.declared.fixed.Fixed.{Fixed}
+use Rattle.ml_trees.specs.declared.fixed.Fixed.TheVariants as key
+use Rattle.ml_trees.specs.Tok.{Name, Tok, fixed, word}
+use Rattle.ml_trees.specs.Runs.{bracketing, after_bracket, is_matched, beside_type, begins_type, in_type, in_declaration, is_type_run}
+use Rattle.ml_trees.specs.Runs.{is_declaration_run}
+use Rattle.ml_trees.specs.Tree.{ValueName, PlainName, OperatorName}
+use Rattle.ml_trees.specs.Words.{dotted_then, qualified_then, name_then, type_then}
+use Rattle.ml_trees.specs.WellFormed.{WfName, WfType}
 use Rattle.parse_base.specs.Steps.{always}
 use Rattle.parse_base.specs.Pieces.{dot_upper, more_uppers, upper_dot, qualifiers, value_name, longest, cut_at, type_run, declaration_run}
 use Rattle.parse_base.specs.Pieces.{optional_type}

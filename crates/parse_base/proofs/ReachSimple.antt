@@ -3,18 +3,18 @@ use Rattle.std.proofs.Common.{◌≡◌, ◌≢◌, ℕ, zero, suc, ◌<◌, ◌
 use Rattle.std.proofs.Common.{None, refl, sym, ap, subst, ◌∙◌, arith}
 use Rattle.rotor_base.specs.declared.token.Class.{Class}
 use Rattle.rotor_base.specs.declared.token.Class.TheVariants as class
-use Rattle.ml_syntax.specs.declared.fixed.Fixed.{Fixed}
-use Rattle.ml_syntax.specs.declared.fixed.Fixed.TheVariants as key
-use Rattle.ml_syntax.specs.declared.word.Bracket.{Bracket}
-use Rattle.ml_syntax.specs.declared.word.Bracket.TheVariants as bracket
-use Rattle.ml_syntax.specs.Tok.{Name, Tok, fixed, placed, word}
-use Rattle.ml_syntax.specs.Words.{pat_then, pats_then, pat_field_then, pat_fields_then, path_then, dotted_then, type_then, optional_then, open_then}
-use Rattle.ml_syntax.specs.Words.{opening, closing}
-use Rattle.ml_syntax.specs.Runs.{is_type_run}
-use Rattle.ml_syntax.specs.WellFormed.{WfName, WfType, WfPat, WfPats, WfPatField, WfPatFields, is_literal, is_number, is_minus, is_operator}
-use Rattle.ml_syntax.specs.Tree.{ValueName, PlainName, OperatorName, Pat, ValuePat, LiteralPat, NegativePat, RangePat, ConstrPat, BoolPat, ParenPat}
-use Rattle.ml_syntax.specs.Tree.{TypedPat, EmptyPat, ListPat, RecordPat, OpenedPat, Pats, no_pat, more_pat, PatField, PunnedField, MatchedField}
-use Rattle.ml_syntax.specs.Tree.{PatFields, no_pat_field, more_pat_field}
+use Rattle.ml_trees.specs.declared.fixed.Fixed.{Fixed}
+use Rattle.ml_trees.specs.declared.fixed.Fixed.TheVariants as key
+use Rattle.ml_trees.specs.declared.word.Bracket.{Bracket}
+use Rattle.ml_trees.specs.declared.word.Bracket.TheVariants as bracket
+use Rattle.ml_trees.specs.Tok.{Name, Tok, fixed, placed, word}
+use Rattle.ml_trees.specs.Words.{pat_then, pats_then, pat_field_then, pat_fields_then, path_then, dotted_then, type_then, optional_then, open_then}
+use Rattle.ml_trees.specs.Words.{opening, closing}
+use Rattle.ml_trees.specs.Runs.{is_type_run}
+use Rattle.ml_trees.specs.WellFormed.{WfName, WfType, WfPat, WfPats, WfPatField, WfPatFields, is_literal, is_number, is_minus, is_operator}
+use Rattle.ml_trees.specs.Tree.{ValueName, PlainName, OperatorName, Pat, ValuePat, LiteralPat, NegativePat, RangePat, ConstrPat, BoolPat, ParenPat}
+use Rattle.ml_trees.specs.Tree.{TypedPat, EmptyPat, ListPat, RecordPat, OpenedPat, Pats, no_pat, more_pat, PatField, PunnedField, MatchedField}
+use Rattle.ml_trees.specs.Tree.{PatFields, no_pat_field, more_pat_field}
 use Rattle.parse_base.specs.Steps.{Read, ◌>>=◌, many, always}
 use Rattle.parse_base.specs.Pieces.{dot_upper, more_uppers, qualifiers, lower_word, optional_type}
 use Rattle.parse_base.specs.PatReading.{range_or, closed_by, opened_or, list_pat, record_pat, next_pat, more_pats, paren_pat, opened_part, upper_pat}

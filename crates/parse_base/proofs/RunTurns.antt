@@ -3,14 +3,14 @@ use Rattle.std.proofs.Common.{◌≡◌, ℕ, zero, suc, ◌+◌, ◌-◌, ◌<�
 use Rattle.std.proofs.Common.{cond, Option, Some, None, refl, sym, ap, ◌∙◌, arith}
 use Rattle.std.proofs.lemmas.Bool.{eqb-true}
 use Rattle.std.proofs.lemmas.List.{length-reverse}
-use Rattle.ml_syntax.specs.declared.word.Word.{Word}
-use Rattle.ml_syntax.specs.View.{view_tok}
+use Rattle.ml_trees.specs.declared.word.Word.{Word}
+use Rattle.ml_trees.specs.View.{view_tok}
 use Rattle.rotor_base.specs.declared.token.Token.{Token}
 use Rattle.parse_base.specs.Tokens.{from}
 use Rattle.parse_base.proofs.Places.{from_drop, from_end, from_next}
-use Rattle.ml_syntax.specs.declared.fixed.Fixed.{Fixed}
-use Rattle.ml_syntax.specs.Tok.{Tok}
-use Rattle.ml_syntax.specs.Runs.{bracketing, after_bracket}
+use Rattle.ml_trees.specs.declared.fixed.Fixed.{Fixed}
+use Rattle.ml_trees.specs.Tok.{Tok}
+use Rattle.ml_trees.specs.Runs.{bracketing, after_bracket}
 use Rattle.parse_base.specs.Pieces.{or_none, one_more, longest, cut_at, type_run, declaration_run}
 use Rattle.parse_base.specs.declared.runs.RunKind.{RunKind}
 use Rattle.parse_base.specs.declared.runs.RunKind.TheVariants as run

@@ -1,9 +1,9 @@
 -- The steps of a reading, one by one.
 use Rattle.std.proofs.Common.{◌≡◌, ℕ, zero, suc, List, [], ◌∷◌, Bool, true, false, cond, Option, Some, None, refl, sym, ap, subst, ◌∙◌, eqb}
 use Rattle.std.proofs.lemmas.Bool.{eqb-true}
-use Rattle.ml_syntax.specs.declared.fixed.Fixed.{Fixed}
-use Rattle.ml_syntax.specs.declared.fixed.Fixed.TheVariants as key
-use Rattle.ml_syntax.specs.Tok.{Tok, fixed, placed, same, code}
+use Rattle.ml_trees.specs.declared.fixed.Fixed.{Fixed}
+use Rattle.ml_trees.specs.declared.fixed.Fixed.TheVariants as key
+use Rattle.ml_trees.specs.Tok.{Tok, fixed, placed, same, code}
 use Rattle.parse_base.specs.Steps.{Read, ◌>>=◌, expect, expect_at, turn, many, many_if}
 
 pub some_is : {A : Type 0} {x y : A} → Some x ≡ Some y → x ≡ y

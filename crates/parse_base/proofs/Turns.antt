@@ -1,7 +1,7 @@
 -- Reading parts one after the other, as a loop does.
 use Rattle.std.proofs.Common.{◌≡◌, ℕ, zero, suc, ◌-◌, ◌+◌, ◌≤◌, ◌<◌, List, [], ◌∷◌, ◌++◌, Bool, true, false, Option, Some, None, map, refl, sym, ap}
 use Rattle.std.proofs.Common.{◌∙◌, arith}
-use Rattle.ml_syntax.specs.Tok.{Tok}
+use Rattle.ml_trees.specs.Tok.{Tok}
 use Rattle.parse_base.specs.Steps.{Read, turn, many}
 
 -- these, and then more

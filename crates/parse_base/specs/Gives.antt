@@ -4,8 +4,8 @@ use Rattle.std.specs.Prelude.{◌≡◌, ℕ, ◌+◌, ◌<◌, ◌≤◌, Bool,
 use Rattle.rotor_base.specs.declared.token.Class.{Class}
 use Rattle.rotor_base.specs.declared.token.Class.TheVariants as class
 use Rattle.rotor_base.specs.declared.token.Token.{Token}
-use Rattle.ml_syntax.specs.declared.fixed.Fixed.{Fixed}
-use Rattle.ml_syntax.specs.Tok.{Name, Tok, fixed, placed, word, same, fixed_of, fixed_at}
+use Rattle.ml_trees.specs.declared.fixed.Fixed.{Fixed}
+use Rattle.ml_trees.specs.Tok.{Name, Tok, fixed, placed, word, same, fixed_of, fixed_at}
 use Rattle.parse_base.specs.declared.tokens.Kind.{Kind}
 use Rattle.parse_base.specs.declared.tokens.Kind.TheVariants as kind
 use Rattle.parse_base.specs.declared.error.ReadError.{ReadError}
@@ -15,8 +15,8 @@ use Rattle.parse_base.specs.declared.error.ParseError.TheVariants as refused
 use Rattle.std.specs.declared.alloc.Global.{Global}
 use Rattle.rotor_base.specs.Limits.{max_file_bytes}
 use denote.Ref.{Bor}
-use Rattle.ml_syntax.specs.declared.pattern.Pat.{Pat as Source}
-use Rattle.ml_syntax.specs.View.{view_pat}
+use Rattle.ml_trees.specs.declared.pattern.Pat.{Pat as Source}
+use Rattle.ml_trees.specs.View.{view_pat}
 use Rattle.parse_base.specs.PatReading.{read_pat}
 use Rattle.parse_base.specs.Tokens.{from}
 

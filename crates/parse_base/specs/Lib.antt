@@ -9,4 +9,3 @@ pub mod RunRows
 pub mod Nesting
 pub mod Stops
 pub mod Forms
-pub mod Kept

@@ -1,9 +1,9 @@
 -- What the reading of a pattern promises, in the words of the trees (own; the OCaml manual, "Patterns").
 use Rattle.std.specs.Prelude.{◌≡◌, ◌≤◌, List, ◌++◌, length}
-use Rattle.ml_syntax.specs.Tok.{Tok}
-use Rattle.ml_syntax.specs.Tree.{Pat}
-use Rattle.ml_syntax.specs.Words.{pat_words}
-use Rattle.ml_syntax.specs.WellFormed.{WfPat}
+use Rattle.ml_trees.specs.Tok.{Tok}
+use Rattle.ml_trees.specs.Tree.{Pat}
+use Rattle.ml_trees.specs.Words.{pat_words}
+use Rattle.ml_trees.specs.WellFormed.{WfPat}
 
 -- p is the longest pattern that begins the tokens, and the only one of its length
 pub record IsLongestPat (ts : List Tok) (p : Pat) (rest : List Tok) : Type 0 where

@@ -4,9 +4,9 @@ use Rattle.std.specs.Prelude.{None}
 use Rattle.rotor_base.specs.Limits.{max_nesting}
 use Rattle.rotor_base.specs.declared.token.Class.TheVariants as class
 use Rattle.rotor_base.specs.declared.token.Token.{Token}
-use Rattle.ml_syntax.specs.declared.fixed.Fixed.TheVariants as key
-use Rattle.ml_syntax.specs.Tok.{Tok, fixed, placed, word}
-use Rattle.ml_syntax.specs.WellFormed.{is_minus}
+use Rattle.ml_trees.specs.declared.fixed.Fixed.TheVariants as key
+use Rattle.ml_trees.specs.Tok.{Tok, fixed, placed, word}
+use Rattle.ml_trees.specs.WellFormed.{is_minus}
 use Rattle.parse_base.specs.declared.depth.Role.{Role}
 use Rattle.parse_base.specs.declared.depth.Role.TheVariants as role
 use Rattle.parse_base.specs.declared.depth.Mark.{Mark}

@@ -2,17 +2,17 @@
 use Rattle.std.specs.Prelude.{ℕ, zero, suc, List, [], ◌∷◌, Bool, true, false, if◌then◌else◌, Option, Some, None}
 use Rattle.rotor_base.specs.declared.token.Class.{Class}
 use Rattle.rotor_base.specs.declared.token.Class.TheVariants as class
-use Rattle.ml_syntax.specs.declared.fixed.Fixed.{Fixed}
-use Rattle.ml_syntax.specs.declared.fixed.Fixed.TheVariants as key
-use Rattle.ml_syntax.specs.declared.word.Bracket.{Bracket}
-use Rattle.ml_syntax.specs.declared.word.Bracket.TheVariants as bracket
-use Rattle.ml_syntax.specs.Tok.{Name, Tok, fixed, placed, word}
-use Rattle.ml_syntax.specs.Words.{closing}
-use Rattle.ml_syntax.specs.WellFormed.{is_literal, is_number, is_minus, is_operator}
-use Rattle.ml_syntax.specs.Tree.{ValueName, PlainName, OperatorName, Pat, AsPat, OrPat, TuplePat, ConsPat, ConstrApplyPat, TagApplyPat, LazyPat}
-use Rattle.ml_syntax.specs.Tree.{ExceptionPat, AnyPat, ValuePat, LiteralPat, NegativePat, RangePat, ConstrPat, TagPat, BoolPat, UnitPat, ParenPat}
-use Rattle.ml_syntax.specs.Tree.{TypedPat, EmptyPat, ListPat, RecordPat, OpenedPat, Pats, no_pat, more_pat, PatField, PunnedField, MatchedField}
-use Rattle.ml_syntax.specs.Tree.{PatFields, no_pat_field, more_pat_field}
+use Rattle.ml_trees.specs.declared.fixed.Fixed.{Fixed}
+use Rattle.ml_trees.specs.declared.fixed.Fixed.TheVariants as key
+use Rattle.ml_trees.specs.declared.word.Bracket.{Bracket}
+use Rattle.ml_trees.specs.declared.word.Bracket.TheVariants as bracket
+use Rattle.ml_trees.specs.Tok.{Name, Tok, fixed, placed, word}
+use Rattle.ml_trees.specs.Words.{closing}
+use Rattle.ml_trees.specs.WellFormed.{is_literal, is_number, is_minus, is_operator}
+use Rattle.ml_trees.specs.Tree.{ValueName, PlainName, OperatorName, Pat, AsPat, OrPat, TuplePat, ConsPat, ConstrApplyPat, TagApplyPat, LazyPat}
+use Rattle.ml_trees.specs.Tree.{ExceptionPat, AnyPat, ValuePat, LiteralPat, NegativePat, RangePat, ConstrPat, TagPat, BoolPat, UnitPat, ParenPat}
+use Rattle.ml_trees.specs.Tree.{TypedPat, EmptyPat, ListPat, RecordPat, OpenedPat, Pats, no_pat, more_pat, PatField, PunnedField, MatchedField}
+use Rattle.ml_trees.specs.Tree.{PatFields, no_pat_field, more_pat_field}
 use Rattle.parse_base.specs.Steps.{Read, ◌>>=◌, expect, expect_at, many, always}
 use Rattle.parse_base.specs.Pieces.{more_uppers, qualifiers, lower_word, value_name, type_run, optional_type}
 

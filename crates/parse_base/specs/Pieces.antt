@@ -1,12 +1,12 @@
 -- Readings of paths, names and runs (the OCaml manual, "Names" and "Type expressions").
 use Rattle.std.specs.Prelude.{ℕ, suc, List, [], ◌∷◌, Bool, if◌then◌else◌, Option, Some, None, take, drop}
 use Rattle.rotor_base.specs.declared.token.Class.TheVariants as class
-use Rattle.ml_syntax.specs.declared.fixed.Fixed.{Fixed}
-use Rattle.ml_syntax.specs.declared.fixed.Fixed.TheVariants as key
-use Rattle.ml_syntax.specs.Tok.{Name, Tok, fixed, placed, word}
-use Rattle.ml_syntax.specs.Runs.{bracketing, after_bracket, beside_type, begins_type, in_type, in_declaration}
-use Rattle.ml_syntax.specs.Tree.{ValueName, PlainName, OperatorName}
-use Rattle.ml_syntax.specs.WellFormed.{is_operator}
+use Rattle.ml_trees.specs.declared.fixed.Fixed.{Fixed}
+use Rattle.ml_trees.specs.declared.fixed.Fixed.TheVariants as key
+use Rattle.ml_trees.specs.Tok.{Name, Tok, fixed, placed, word}
+use Rattle.ml_trees.specs.Runs.{bracketing, after_bracket, beside_type, begins_type, in_type, in_declaration}
+use Rattle.ml_trees.specs.Tree.{ValueName, PlainName, OperatorName}
+use Rattle.ml_trees.specs.WellFormed.{is_operator}
 use Rattle.parse_base.specs.Steps.{Read, many, always}
 
 -- ---- paths

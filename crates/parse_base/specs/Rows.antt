@@ -1,8 +1,8 @@
 -- Small tests and readings of tokens, as the code makes them (own).
 use Rattle.std.specs.Prelude.{ℕ, List, [], ◌∷◌, Bool, true, false, ◌||◌, codes}
 use Rattle.std.specs.Str.{bytes_eq}
-use Rattle.ml_syntax.specs.Tok.{Name, Tok}
-use Rattle.ml_syntax.specs.Tree.{Pat}
+use Rattle.ml_trees.specs.Tok.{Name, Tok}
+use Rattle.ml_trees.specs.Tree.{Pat}
 use Rattle.parse_base.specs.Steps.{Read, ◌>>=◌}
 use Rattle.parse_base.specs.PatReading.{closed_by}
 use Rattle.parse_base.specs.Pieces.{more_uppers}

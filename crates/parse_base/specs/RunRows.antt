@@ -1,8 +1,8 @@
 -- The steps of reading a run, as the code takes them (own).
 use Rattle.std.specs.Prelude.{◌≡◌, ℕ, suc, ◌+◌, ◌==◌, Bool, true, false, length, List, [], ◌∷◌, Option, Some, None, if◌then◌else◌}
-use Rattle.ml_syntax.specs.declared.fixed.Fixed.{Fixed}
-use Rattle.ml_syntax.specs.Tok.{Tok}
-use Rattle.ml_syntax.specs.Runs.{Bracketing, opens, closes, neither, bracketing, after_bracket, beside_type, begins_type, in_type, in_declaration}
+use Rattle.ml_trees.specs.declared.fixed.Fixed.{Fixed}
+use Rattle.ml_trees.specs.Tok.{Tok}
+use Rattle.ml_trees.specs.Runs.{Bracketing, opens, closes, neither, bracketing, after_bracket, beside_type, begins_type, in_type, in_declaration}
 use Rattle.parse_base.specs.Pieces.{one_more, longest}
 use Rattle.parse_base.specs.declared.runs.RunKind.{RunKind}
 use Rattle.parse_base.specs.declared.runs.RunKind.TheVariants as run

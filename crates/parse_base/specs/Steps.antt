@@ -1,7 +1,7 @@
 -- Reading as a function on lists of tokens: what is read first, and the tokens after it (own).
 use Rattle.std.specs.Prelude.{ℕ, zero, suc, List, ◌∷◌, Bool, true, if◌then◌else◌, Option, Some, None}
-use Rattle.ml_syntax.specs.declared.fixed.Fixed.{Fixed}
-use Rattle.ml_syntax.specs.Tok.{Tok, fixed, placed, same}
+use Rattle.ml_trees.specs.declared.fixed.Fixed.{Fixed}
+use Rattle.ml_trees.specs.Tok.{Tok, fixed, placed, same}
 
 abbrev pub Read : Type 0 → Type 0
 Read A = List Tok → Option (A × List Tok)

@@ -2,7 +2,7 @@
 use Rattle.std.specs.Prelude.{ℕ, ◌+◌, List, drop, map}
 use Rattle.rotor_base.specs.declared.token.Class.{Class}
 use Rattle.rotor_base.specs.declared.token.Token.{Token}
-use Rattle.ml_syntax.specs.Tok.{Tok, toks_from}
+use Rattle.ml_trees.specs.Tok.{Tok, toks_from}
 
 abbrev pub lexeme : Token → Class × List ℕ
 lexeme t = (t.class, t.bytes.now)

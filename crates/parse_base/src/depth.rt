@@ -2,7 +2,7 @@
 
 ghost use Rattle.std.specs.Prelude.{◌≡◌, ◌≤◌, ◌∷◌, ℕ, length, take, reverse, IfOk, if◌then◌else◌};
 ghost use Rattle.rotor_base.specs.Limits.{max_file_bytes};
-ghost use Rattle.ml_syntax.specs.Tok.{fixed_at};
+ghost use Rattle.ml_trees.specs.Tok.{fixed_at};
 ghost use Rattle.parse_base.specs.declared.depth.Role.TheVariants as variant;
 ghost use Rattle.parse_base.specs.declared.depth.Mark.TheVariants as mark;
 ghost use Rattle.parse_base.specs.Nesting.{role_of, is_let_or_bracket, is_case_or_bracket, after, down_to, without_last, where_last, last_is, is_bracket, is_let, is_case, is_ender, starts_item, is_in_or_semicolon, is_else, is_signed, role_at, DeepIs};
@@ -10,7 +10,7 @@ ghost use Rattle.parse_base.specs.Stops.{test_of};
 
 use crate::names::is_minus;
 use crate::tokens::{Kind, kind_at, number, text};
-use ml_syntax::Fixed;
+use ml_trees::Fixed;
 use rotor_base::{Class, MAX_NESTING, Memory, Token};
 use std::alloc::Global;
 

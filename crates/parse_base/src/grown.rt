@@ -1,15 +1,15 @@
 //! A pattern and the row behind it, as one pattern.
 
 ghost use Rattle.std.specs.Prelude.{Some};
-ghost use Rattle.ml_syntax.specs.View.{view_names, view_pat, pats};
+ghost use Rattle.ml_trees.specs.View.{view_names, view_pat, pats};
 ghost use Rattle.parse_base.specs.PatReading as r;
 ghost use Rattle.parse_base.specs.Gives.{Gives};
 
 use crate::error::ReadError;
-use ml_syntax::{Pat, ValueName};
+use ml_trees::{Pat, ValueName};
 use std::alloc::Global;
 
-#[tactic(auto, using(crate::proofs::Lone::grown, ml_syntax::proofs::Variants::pat_views))]
+#[tactic(auto, using(crate::proofs::Lone::grown, ml_trees::proofs::Variants::pat_views))]
 #[inline(never)]
 pub fn grown_as(alloc: Global, first: Pat, names: Vec<ValueName>) -> Result<Pat, ReadError>
     ensures { Gives view_pat result (Some (r.grown_as (view_pat first) (view_names names.items))) }
@@ -21,7 +21,7 @@ pub fn grown_as(alloc: Global, first: Pat, names: Vec<ValueName>) -> Result<Pat,
     Ok(Pat::As { pat, names })
 }
 
-#[tactic(auto, using(crate::proofs::Lone::grown, ml_syntax::proofs::Variants::pat_views))]
+#[tactic(auto, using(crate::proofs::Lone::grown, ml_trees::proofs::Variants::pat_views))]
 #[inline(never)]
 pub fn grown_or(alloc: Global, first: Pat, rest: Vec<Pat>) -> Result<Pat, ReadError>
     ensures { Gives view_pat result (Some (r.grown_or (view_pat first) (pats rest.items))) }
@@ -33,7 +33,7 @@ pub fn grown_or(alloc: Global, first: Pat, rest: Vec<Pat>) -> Result<Pat, ReadEr
     Ok(Pat::Or { first, rest })
 }
 
-#[tactic(auto, using(crate::proofs::Lone::grown, ml_syntax::proofs::Variants::pat_views))]
+#[tactic(auto, using(crate::proofs::Lone::grown, ml_trees::proofs::Variants::pat_views))]
 #[inline(never)]
 pub fn grown_tuple(alloc: Global, first: Pat, rest: Vec<Pat>) -> Result<Pat, ReadError>
     ensures { Gives view_pat result (Some (r.grown_tuple (view_pat first) (pats rest.items))) }
@@ -45,7 +45,7 @@ pub fn grown_tuple(alloc: Global, first: Pat, rest: Vec<Pat>) -> Result<Pat, Rea
     Ok(Pat::Tuple { first, rest })
 }
 
-#[tactic(auto, using(crate::proofs::Lone::grown, ml_syntax::proofs::Variants::pat_views))]
+#[tactic(auto, using(crate::proofs::Lone::grown, ml_trees::proofs::Variants::pat_views))]
 #[inline(never)]
 pub fn grown_cons(alloc: Global, first: Pat, rest: Vec<Pat>) -> Result<Pat, ReadError>
     ensures { Gives view_pat result (Some (r.grown_cons (view_pat first) (pats rest.items))) }

@@ -21,10 +21,7 @@ mod tokens;
 pub use depth::scan_depth;
 pub use error::{ParseError, ReadError};
 pub use forms::scan_forms;
-pub use laws::{
-    forms_are_kept, nesting_is_kept, one_pat_reading, respelled_tokens_are_kept,
-    respelling_keeps_the_reading,
-};
+pub use laws::one_pat_reading;
 pub use names::{is_minus, is_operator, lower_word, more_uppers, operator, qualifiers, value_name};
 pub use parse::{MAX_NESTED, parse_pat};
 pub use patterns::{pattern, simple_pattern};

@@ -3,8 +3,8 @@
 ghost use Rattle.std.specs.Prelude.{◌≡◌, ◌≤◌, ◌<◌, ◌+◌, ◌∷◌, [], true, length, map, Some, not};
 ghost use Rattle.std.specs.Str.{bytes_eq};
 ghost use Rattle.rotor_base.specs.Limits.{max_file_bytes};
-ghost use Rattle.ml_syntax.specs.View.{view_word, view_words, view_name};
-ghost use Rattle.ml_syntax.specs.WellFormed.{is_minus, is_operator as is_operator_token};
+ghost use Rattle.ml_trees.specs.View.{view_word, view_words, view_name};
+ghost use Rattle.ml_trees.specs.WellFormed.{is_minus, is_operator as is_operator_token};
 ghost use Rattle.parse_base.specs.Pieces.{dot_upper, more_uppers, upper_dot, qualifiers, lower_word, operator_at, value_name};
 ghost use Rattle.parse_base.specs.Gives.{text_at, Gives};
 ghost use Rattle.parse_base.specs.Tokens.{from};
@@ -12,7 +12,7 @@ ghost use Rattle.parse_base.specs.Rows.{first_is, keyword_operator};
 
 use crate::error::ReadError;
 use crate::tokens::{Kind, is, kind_at, number, text, token_word, word};
-use ml_syntax::{Fixed, ValueName, Word};
+use ml_trees::{Fixed, ValueName, Word};
 use rotor_base::{Class, Token};
 use std::alloc::Global;
 

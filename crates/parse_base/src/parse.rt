@@ -2,7 +2,7 @@
 
 ghost use Rattle.std.specs.Prelude.{◌≡◌, ◌≤◌, length, Err, IfOk, IfErr};
 ghost use Rattle.rotor_base.specs.Limits.{max_file_bytes};
-ghost use Rattle.ml_syntax.specs.View.{view_pat};
+ghost use Rattle.ml_trees.specs.View.{view_pat};
 ghost use Rattle.parse_base.specs.Longest.{IsLongestPat, BeginsNoPat};
 ghost use Rattle.parse_base.specs.Gives.{IsPlain};
 ghost use Rattle.parse_base.specs.Tokens.{from};
@@ -10,7 +10,7 @@ ghost use Rattle.parse_base.specs.declared.error.ParseError.TheVariants as refus
 
 use crate::error::{ParseError, ReadError};
 use crate::patterns::pattern;
-use ml_syntax::Pat;
+use ml_trees::Pat;
 use rotor_base::{MAX_LEVELS, Token};
 use std::alloc::Global;
 

@@ -9,14 +9,14 @@
 
 ghost use Rattle.std.specs.Prelude.{◌≡◌, ◌≤◌, ◌<◌, ◌+◌, ◌∷◌, [], true, false, length, map, Some, None, if◌then◌else◌};
 ghost use Rattle.rotor_base.specs.Limits.{max_file_bytes};
-ghost use Rattle.ml_syntax.specs.Tree as pure;
-ghost use Rattle.ml_syntax.specs.declared.fixed.Fixed.TheVariants as key;
-ghost use Rattle.ml_syntax.specs.View.{view_word, view_words, view_path, view_name, view_names, view_run, view_type, view_pat, view_pat_field, pats, pat_fields};
+ghost use Rattle.ml_trees.specs.Tree as pure;
+ghost use Rattle.ml_trees.specs.declared.fixed.Fixed.TheVariants as key;
+ghost use Rattle.ml_trees.specs.View.{view_word, view_words, view_path, view_name, view_names, view_run, view_type, view_pat, view_pat_field, pats, pat_fields};
 ghost use Rattle.parse_base.specs.Steps.{many, always};
 ghost use Rattle.parse_base.specs.PatReading as r;
-ghost use Rattle.ml_syntax.specs.Tok.{is_placed};
-ghost use Rattle.ml_syntax.specs.Words.{closing};
-ghost use Rattle.ml_syntax.specs.WellFormed.{is_minus, is_number, is_literal};
+ghost use Rattle.ml_trees.specs.Tok.{is_placed};
+ghost use Rattle.ml_trees.specs.Words.{closing};
+ghost use Rattle.ml_trees.specs.WellFormed.{is_minus, is_number, is_literal};
 ghost use Rattle.parse_base.specs.Rows.{path_from, inner_pat};
 ghost use Rattle.parse_base.specs.PatReading.{read_pat};
 ghost use Rattle.parse_base.specs.Gives.{name_at, text_at, Gives, Nests};
@@ -28,7 +28,7 @@ use crate::names::{is_minus, lower_word, more_uppers, operator, qualifiers, valu
 use crate::runs::{optional_type, type_run};
 use crate::taking::{take_path, take_word};
 use crate::tokens::{Kind, expect, expect_at, is, kind_at, number, text, word};
-use ml_syntax::{Bracket, Fixed, Pat, PatField, Path, ValueName, Word};
+use ml_trees::{Bracket, Fixed, Pat, PatField, Path, ValueName, Word};
 use rotor_base::{Class, Token};
 use std::alloc::Global;
 
@@ -55,7 +55,7 @@ impl<F: Fn(Global, &[Token<'_>], usize, usize, usize) -> Result<(Pat, usize), Re
     }
 
     /// After a pattern in parentheses: a `)`, or a type and a `)`. `paren` is the place of the `(`.
-    #[tactic(auto, using(ml_syntax::proofs::Variants::pat_views))]
+    #[tactic(auto, using(ml_trees::proofs::Variants::pat_views))]
     #[inline(never)]
     fn closed(
         &self,
@@ -104,7 +104,7 @@ impl<F: Fn(Global, &[Token<'_>], usize, usize, usize) -> Result<(Pat, usize), Re
     }
 
     /// After the `(` at a place.
-    #[tactic(auto, unfolding(crate::specs::PatReading::paren_pat), using(ml_syntax::proofs::Variants::pat_views))]
+    #[tactic(auto, unfolding(crate::specs::PatReading::paren_pat), using(ml_trees::proofs::Variants::pat_views))]
     fn parenthesized(&self, tokens: &[Token<'_>], at: usize) -> Result<(Pat, usize), ReadError>
         requires within { at < length tokens.now }
         requires nests { Nests self.now.depth (F.pre self.now.sub) (F.post self.now.sub) }
@@ -140,7 +140,7 @@ impl<F: Fn(Global, &[Token<'_>], usize, usize, usize) -> Result<(Pat, usize), Re
     }
 
     /// The path that begins with the name at a place, and what is opened with it.
-    #[tactic(auto, unfolding(crate::specs::PatReading::upper_pat), using(ml_syntax::proofs::Variants::pat_views))]
+    #[tactic(auto, unfolding(crate::specs::PatReading::upper_pat), using(ml_trees::proofs::Variants::pat_views))]
     #[inline(never)]
     fn upper(&self, tokens: &[Token<'_>], at: usize) -> Result<(Pat, usize), ReadError>
         requires within { at < length tokens.now }
@@ -209,7 +209,7 @@ impl<F: Fn(Global, &[Token<'_>], usize, usize, usize) -> Result<(Pat, usize), Re
     }
 
     /// After the `[` or `[|` at a place.
-    #[tactic(auto, unfolding(crate::specs::PatReading::bracket_pat), using(ml_syntax::proofs::Variants::pat_views))]
+    #[tactic(auto, unfolding(crate::specs::PatReading::bracket_pat), using(ml_trees::proofs::Variants::pat_views))]
     #[inline(never)]
     fn bracketed(
         &self,
@@ -262,7 +262,7 @@ impl<F: Fn(Global, &[Token<'_>], usize, usize, usize) -> Result<(Pat, usize), Re
     }
 
     /// A field of a record.
-    #[tactic(auto, unfolding(crate::specs::PatReading::field_pat), using(ml_syntax::proofs::Variants::pat_field_views))]
+    #[tactic(auto, unfolding(crate::specs::PatReading::field_pat), using(ml_trees::proofs::Variants::pat_field_views))]
     #[inline(never)]
     fn field(&self, tokens: &[Token<'_>], at: usize) -> Result<(PatField, usize), ReadError>
         requires nests { Nests self.now.depth (F.pre self.now.sub) (F.post self.now.sub) }
@@ -325,7 +325,7 @@ impl<F: Fn(Global, &[Token<'_>], usize, usize, usize) -> Result<(Pat, usize), Re
     }
 
     /// After the `{` at a place.
-    #[tactic(auto, unfolding(crate::specs::PatReading::brace_pat), using(ml_syntax::proofs::Variants::pat_views))]
+    #[tactic(auto, unfolding(crate::specs::PatReading::brace_pat), using(ml_trees::proofs::Variants::pat_views))]
     #[inline(never)]
     fn record(&self, tokens: &[Token<'_>], at: usize) -> Result<(Pat, usize), ReadError>
         requires within { at < length tokens.now }
@@ -352,7 +352,7 @@ impl<F: Fn(Global, &[Token<'_>], usize, usize, usize) -> Result<(Pat, usize), Re
     }
 
     /// A `-` or `-.` and a number.
-    #[tactic(auto, using(ml_syntax::proofs::Variants::pat_views))]
+    #[tactic(auto, using(ml_trees::proofs::Variants::pat_views))]
     #[inline(never)]
     fn negative(&self, tokens: &[Token<'_>], at: usize) -> Result<(Pat, usize), ReadError>
         requires within { at < length tokens.now }
@@ -376,7 +376,7 @@ impl<F: Fn(Global, &[Token<'_>], usize, usize, usize) -> Result<(Pat, usize), Re
     }
 
     /// A character, or two with `..` between them.
-    #[tactic(auto, using(ml_syntax::proofs::Variants::pat_views))]
+    #[tactic(auto, using(ml_trees::proofs::Variants::pat_views))]
     #[inline(never)]
     fn character(&self, tokens: &[Token<'_>], at: usize) -> Result<(Pat, usize), ReadError>
         requires within { at < length tokens.now }
@@ -397,7 +397,7 @@ impl<F: Fn(Global, &[Token<'_>], usize, usize, usize) -> Result<(Pat, usize), Re
     }
 
     /// The pattern that the word of a class at a place begins, other than the name of a module or constructor.
-    #[tactic(auto, using(ml_syntax::proofs::Variants::pat_views))]
+    #[tactic(auto, using(ml_trees::proofs::Variants::pat_views))]
     #[inline(never)]
     fn free(&self, tokens: &[Token<'_>], class: Class, at: usize) -> Result<(Pat, usize), ReadError>
         requires within { at < length tokens.now }
@@ -422,7 +422,7 @@ impl<F: Fn(Global, &[Token<'_>], usize, usize, usize) -> Result<(Pat, usize), Re
     }
 
     /// A Simple pattern.
-    #[tactic(auto, unfolding(crate::specs::PatReading::simple_pat), using(ml_syntax::proofs::Variants::pat_views))]
+    #[tactic(auto, unfolding(crate::specs::PatReading::simple_pat), using(ml_trees::proofs::Variants::pat_views))]
     pub fn simple(&self, tokens: &[Token<'_>], at: usize) -> Result<(Pat, usize), ReadError>
         requires nests { Nests self.now.depth (F.pre self.now.sub) (F.post self.now.sub) }
         requires few { length tokens.now ≤ max_file_bytes }
@@ -455,7 +455,7 @@ impl<F: Fn(Global, &[Token<'_>], usize, usize, usize) -> Result<(Pat, usize), Re
     }
 
     /// What a pattern is applied to, if it is a constructor or a tag.
-    #[tactic(auto, using(ml_syntax::proofs::Variants::pat_views))]
+    #[tactic(auto, using(ml_trees::proofs::Variants::pat_views))]
     #[inline(never)]
     fn argument(
         &self,
@@ -492,7 +492,7 @@ impl<F: Fn(Global, &[Token<'_>], usize, usize, usize) -> Result<(Pat, usize), Re
     }
 
     /// A Simple, a `lazy`, or a constructor or tag with what it is applied to.
-    #[tactic(auto, unfolding(crate::specs::PatReading::plain_pat), using(ml_syntax::proofs::Variants::pat_views))]
+    #[tactic(auto, unfolding(crate::specs::PatReading::plain_pat), using(ml_trees::proofs::Variants::pat_views))]
     fn plain(&self, tokens: &[Token<'_>], at: usize) -> Result<(Pat, usize), ReadError>
         requires nests { Nests self.now.depth (F.pre self.now.sub) (F.post self.now.sub) }
         requires few { length tokens.now ≤ max_file_bytes }
@@ -518,7 +518,7 @@ impl<F: Fn(Global, &[Token<'_>], usize, usize, usize) -> Result<(Pat, usize), Re
     }
 
     /// The same, or behind an `exception`.
-    #[tactic(auto, unfolding(crate::specs::PatReading::applied_pat), using(ml_syntax::proofs::Variants::pat_views))]
+    #[tactic(auto, unfolding(crate::specs::PatReading::applied_pat), using(ml_trees::proofs::Variants::pat_views))]
     fn applied(&self, tokens: &[Token<'_>], at: usize) -> Result<(Pat, usize), ReadError>
         requires nests { Nests self.now.depth (F.pre self.now.sub) (F.post self.now.sub) }
         requires few { length tokens.now ≤ max_file_bytes }

@@ -2,8 +2,8 @@
 
 ghost use Rattle.std.specs.Prelude.{◌≡◌, ◌≤◌, ◌<◌, ◌+◌, ◌&&◌, ◌==◌, length, take, reverse, Some, IfOk, if◌then◌else◌};
 ghost use Rattle.rotor_base.specs.Limits.{max_file_bytes};
-ghost use Rattle.ml_syntax.specs.Runs.{type_word, declaration_word, has_colon, is_optional, beside_type};
-ghost use Rattle.ml_syntax.specs.View.{view_run, view_type};
+ghost use Rattle.ml_trees.specs.Runs.{type_word, declaration_word, has_colon, is_optional, beside_type};
+ghost use Rattle.ml_trees.specs.View.{view_run, view_type};
 ghost use Rattle.parse_base.specs.Pieces.{type_run as read_type, declaration_run as read_declaration, optional_type as read_optional_type};
 ghost use Rattle.parse_base.specs.RunRows.{is_inside, is_beside, is_first, bracket_of, first_bracketing, first_after, shape_outside, run_length, counted, count_after, StepsTo};
 ghost use Rattle.parse_base.specs.Rows.{first_is};
@@ -12,7 +12,7 @@ ghost use Rattle.parse_base.specs.Tokens.{from};
 
 use crate::error::ReadError;
 use crate::tokens::{Kind, is, is_same, kind_at, text, token_word};
-use ml_syntax::{Fixed, Run};
+use ml_trees::{Fixed, Run};
 use rotor_base::{Class, Memory, Token};
 use std::alloc::Global;
 

@@ -2,7 +2,7 @@
 
 ghost use Rattle.std.specs.Prelude.{◌≡◌};
 
-use ml_syntax::{Path, ValueName, Word};
+use ml_trees::{Path, ValueName, Word};
 use rotor_base::{Class, Name};
 use std::alloc::Global;
 use std::mem::replace;

@@ -2,14 +2,14 @@
 
 ghost use Rattle.std.specs.Prelude.{◌≡◌, ◌≤◌, ◌<◌, ◌+◌, ◌∷◌, true, false, length, IfOk};
 ghost use Rattle.rotor_base.specs.Limits.{max_file_bytes};
-ghost use Rattle.ml_syntax.specs.Tok.{fixed_at, is_placed, fixed_of, same};
-ghost use Rattle.ml_syntax.specs.View.{view_word, view_tok};
+ghost use Rattle.ml_trees.specs.Tok.{fixed_at, is_placed, fixed_of, same};
+ghost use Rattle.ml_trees.specs.View.{view_word, view_tok};
 ghost use Rattle.parse_base.specs.Steps.{expect as read_expect, expect_at as read_expect_at};
 ghost use Rattle.parse_base.specs.Gives.{text_at, name_at, kind_of, kind_or, Sees, IsThere, Gives, starts};
 ghost use Rattle.parse_base.specs.Tokens.{from};
 
 use crate::error::ReadError;
-use ml_syntax::{Fixed, Word, fixed_word};
+use ml_trees::{Fixed, Word, fixed_word};
 use rotor_base::{Class, Memory, Name, Token};
 use std::alloc::Global;
 

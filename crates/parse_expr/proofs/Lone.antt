@@ -4,17 +4,17 @@ use Rattle.std.specs.Str.{bytes_eq}
 use Rattle.std.specs.Prelude.{codes}
 use Rattle.std.specs.Global.{Vec, Box}
 use Rattle.rotor_base.specs.declared.token.Class.TheVariants as class
-use Rattle.ml_syntax.specs.declared.word.Word.{Word}
-use Rattle.ml_syntax.specs.declared.word.Path.{Path}
-use Rattle.ml_syntax.specs.declared.word.ValueName.{ValueName}
-use Rattle.ml_syntax.specs.declared.expression.Expr.{Expr}
-use Rattle.ml_syntax.specs.declared.expression.Expr.TheVariants as v
-use Rattle.ml_syntax.specs.declared.expression.Argument.TheBlock as t
-use Rattle.ml_syntax.specs.declared.fixed.Fixed.TheVariants as key
-use Rattle.ml_syntax.specs.Tok.{Name, Tok, fixed, placed, word}
-use Rattle.ml_syntax.specs.Tree as pure
-use Rattle.ml_syntax.specs.View.{view, view_word, view_words, view_path}
-use Rattle.ml_syntax.specs.WellFormed.{is_bare, is_bracketed, is_operator, op_level, keyword_level, infix_level, begins_among, begins_power}
+use Rattle.ml_trees.specs.declared.word.Word.{Word}
+use Rattle.ml_trees.specs.declared.word.Path.{Path}
+use Rattle.ml_trees.specs.declared.word.ValueName.{ValueName}
+use Rattle.ml_trees.specs.declared.expression.Expr.{Expr}
+use Rattle.ml_trees.specs.declared.expression.Expr.TheVariants as v
+use Rattle.ml_trees.specs.declared.expression.Argument.TheBlock as t
+use Rattle.ml_trees.specs.declared.fixed.Fixed.TheVariants as key
+use Rattle.ml_trees.specs.Tok.{Name, Tok, fixed, placed, word}
+use Rattle.ml_trees.specs.Tree as pure
+use Rattle.ml_trees.specs.View.{view, view_word, view_words, view_path}
+use Rattle.ml_trees.specs.WellFormed.{is_bare, is_bracketed, is_operator, op_level, keyword_level, infix_level, begins_among, begins_power}
 use Rattle.parse_base.specs.Steps.{Read, ◌>>=◌, expect}
 use Rattle.parse_base.specs.Pieces.{operator_at}
 use Rattle.parse_base.specs.Gives.{starts}

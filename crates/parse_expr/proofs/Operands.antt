@@ -2,16 +2,16 @@
 use Rattle.std.proofs.Common.{◌≡◌, ℕ, zero, suc, ◌-◌, ◌+◌, ◌<◌, List, [], ◌∷◌, ◌++◌, Bool, true, false, cond, ◌==◌, Option, Some, None, map, refl}
 use Rattle.std.proofs.Common.{sym, ap, ◌∙◌}
 use Rattle.std.proofs.lemmas.Bool.{eqb-true}
-use Rattle.ml_syntax.specs.declared.word.Word.{Word}
-use Rattle.ml_syntax.specs.declared.expression.Expr.{Expr as Source}
+use Rattle.ml_trees.specs.declared.word.Word.{Word}
+use Rattle.ml_trees.specs.declared.expression.Expr.{Expr as Source}
 use Rattle.rotor_base.specs.declared.token.Class.TheVariants as class
-use Rattle.ml_syntax.specs.declared.fixed.Fixed.TheVariants as key
-use Rattle.ml_syntax.specs.Tok.{Tok, fixed, placed, word}
-use Rattle.ml_syntax.specs.WellFormed.{op_level}
+use Rattle.ml_trees.specs.declared.fixed.Fixed.TheVariants as key
+use Rattle.ml_trees.specs.Tok.{Tok, fixed, placed, word}
+use Rattle.ml_trees.specs.WellFormed.{op_level}
 use Rattle.parse_expr.specs.Parts.{operator_of}
 use Rattle.parse_expr.proofs.Lone.{comma_alone}
-use Rattle.ml_syntax.specs.Tree.{Expr, Links, no_link, more_link}
-use Rattle.ml_syntax.specs.View.{view, view_tok, ops, commas}
+use Rattle.ml_trees.specs.Tree.{Expr, Links, no_link, more_link}
+use Rattle.ml_trees.specs.View.{view, view_tok, ops, commas}
 use Rattle.parse_base.specs.Steps.{Read, ◌>>=◌, expect}
 use Rattle.parse_base.proofs.Turns.{before, before_last, Left, pushed, turn_off}
 use Rattle.expr_reading.specs.ExprReading.{cons_operand, operator_part, goes_on, read_expr, unary, tier}

@@ -1,9 +1,9 @@
 -- Parts and operators, as the code reads them (own).
 use Rattle.std.specs.Prelude.{ℕ, [], ◌∷◌, ◌==◌, if◌then◌else◌, Some, None}
-use Rattle.ml_syntax.specs.declared.fixed.Fixed.TheVariants as key
-use Rattle.ml_syntax.specs.Tok.{Tok, placed}
-use Rattle.ml_syntax.specs.Tree.{Part, IndexPart, CharPart}
-use Rattle.ml_syntax.specs.WellFormed.{op_level}
+use Rattle.ml_trees.specs.declared.fixed.Fixed.TheVariants as key
+use Rattle.ml_trees.specs.Tok.{Tok, placed}
+use Rattle.ml_trees.specs.Tree.{Part, IndexPart, CharPart}
+use Rattle.ml_trees.specs.WellFormed.{op_level}
 use Rattle.parse_base.specs.Steps.{Read, ◌>>=◌, expect}
 use Rattle.expr_reading.specs.declared.wanted.Wanted.TheVariants as wanted
 use Rattle.expr_reading.specs.ExprReading.{read_expr, label_part}

@@ -2,8 +2,8 @@
 
 ghost use Rattle.std.specs.Prelude.{◌≤◌, ◌<◌, ◌+◌, length, Some};
 ghost use Rattle.rotor_base.specs.Limits.{max_file_bytes};
-ghost use Rattle.ml_syntax.specs.Tree as pure;
-ghost use Rattle.ml_syntax.specs.View.{view, view_argument, view_part, arguments, parts};
+ghost use Rattle.ml_trees.specs.Tree as pure;
+ghost use Rattle.ml_trees.specs.View.{view, view_argument, view_part, arguments, parts};
 ghost use Rattle.parse_base.specs.Steps.{many, always};
 ghost use Rattle.parse_base.specs.Gives.{Gives};
 ghost use Rattle.parse_base.specs.Tokens.{from};
@@ -16,7 +16,7 @@ ghost use Rattle.expr_parts.specs.Rows.{given, wrapped_by, with_parts};
 use crate::readers::Readers;
 use expr_parts::{grown_apply, grown_postfix, has_colon, is_bare, is_constr, push_boxed};
 use expr_reading::Wanted;
-use ml_syntax::{Argument, Expr, Fixed, Part};
+use ml_trees::{Argument, Expr, Fixed, Part};
 use parse_base::{
     Kind, ReadError, expect, kind_at, lower_word, number, qualifiers, take_path, take_word, text,
     word,
@@ -36,7 +36,7 @@ impl<
         ) -> Result<(Box<Expr>, usize), ReadError>,
 > Readers<F> {
     /// An expression in parentheses or brackets, or the name of a field.
-    #[tactic(auto, using(ml_syntax::proofs::Variants::part_views))]
+    #[tactic(auto, using(ml_trees::proofs::Variants::part_views))]
     #[inline(never)]
     fn part_after(&self, tokens: &[Token<'_>], at: usize) -> Result<(Box<Part>, usize), ReadError>
         requires nests { Nests self.now.grammar.depth (F.pre self.now.grammar.sub) (F.post self.now.grammar.sub) }
@@ -154,7 +154,7 @@ impl<
     }
 
     /// An argument.
-    #[tactic(auto, unfolding(expr_reading::specs::ExprReading::argument), using(ml_syntax::proofs::Variants::argument_views))]
+    #[tactic(auto, unfolding(expr_reading::specs::ExprReading::argument), using(ml_trees::proofs::Variants::argument_views))]
     #[inline(never)]
     pub(crate) fn argument(
         &self,
@@ -257,7 +257,7 @@ impl<
     }
 
     /// After the `assert` at a place.
-    #[tactic(auto, using(ml_syntax::proofs::Variants::expr_views))]
+    #[tactic(auto, using(ml_trees::proofs::Variants::expr_views))]
     #[inline(never)]
     fn assertion(&self, tokens: &[Token<'_>], at: usize) -> Result<(Box<Expr>, usize), ReadError>
         requires nests { Nests self.now.grammar.depth (F.pre self.now.grammar.sub) (F.post self.now.grammar.sub) }
@@ -274,7 +274,7 @@ impl<
     }
 
     /// After the `lazy` at a place.
-    #[tactic(auto, using(ml_syntax::proofs::Variants::expr_views))]
+    #[tactic(auto, using(ml_trees::proofs::Variants::expr_views))]
     #[inline(never)]
     fn lazy_value(&self, tokens: &[Token<'_>], at: usize) -> Result<(Box<Expr>, usize), ReadError>
         requires nests { Nests self.now.grammar.depth (F.pre self.now.grammar.sub) (F.post self.now.grammar.sub) }
@@ -292,7 +292,7 @@ impl<
 }
 
 /// A constructor or a tag with its argument.
-#[tactic(auto, using(crate::proofs::Lone::given_other, ml_syntax::proofs::Variants::expr_views))]
+#[tactic(auto, using(crate::proofs::Lone::given_other, ml_trees::proofs::Variants::expr_views))]
 #[inline(never)]
 fn with_argument(
     alloc: Global,
@@ -317,7 +317,7 @@ fn with_argument(
 
 /// An expression in parentheses behind a `.`.
 #[inline(never)]
-#[tactic(auto, using(ml_syntax::proofs::Variants::part_views))]
+#[tactic(auto, using(ml_trees::proofs::Variants::part_views))]
 fn index_part(alloc: Global, paren: u32, index: Box<Expr>) -> Result<Box<Part>, ReadError>
     ensures { Gives (λ p. view_part p.value) result (Some (pure.IndexPart paren (view index.value))) }
 {
@@ -327,7 +327,7 @@ fn index_part(alloc: Global, paren: u32, index: Box<Expr>) -> Result<Box<Part>, 
 
 /// An expression in brackets behind a `.`.
 #[inline(never)]
-#[tactic(auto, using(ml_syntax::proofs::Variants::part_views))]
+#[tactic(auto, using(ml_trees::proofs::Variants::part_views))]
 fn char_part(alloc: Global, paren: u32, index: Box<Expr>) -> Result<Box<Part>, ReadError>
     ensures { Gives (λ p. view_part p.value) result (Some (pure.CharPart paren (view index.value))) }
 {

@@ -1,23 +1,23 @@
 //! Names, constants, and expressions in brackets.
 
-ghost use Rattle.ml_syntax.specs.Tok.{Tok};
+ghost use Rattle.ml_trees.specs.Tok.{Tok};
 ghost use Rattle.std.specs.Prelude.{List, ◌≡◌, ◌≤◌, ◌<◌, ◌+◌, [], length, Some};
 ghost use Rattle.rotor_base.specs.Limits.{max_file_bytes};
-ghost use Rattle.ml_syntax.specs.Tree as pure;
-ghost use Rattle.ml_syntax.specs.View.{view, view_path, view_name};
+ghost use Rattle.ml_trees.specs.Tree as pure;
+ghost use Rattle.ml_trees.specs.View.{view, view_path, view_name};
 ghost use Rattle.parse_base.specs.Gives.{name_at, Gives};
 ghost use Rattle.parse_base.specs.Tokens.{from};
 ghost use Rattle.expr_reading.specs.declared.wanted.Wanted.TheVariants as wanted;
 ghost use Rattle.expr_reading.specs.ExprReading as r;
 ghost use Rattle.expr_reading.specs.ExprReading.{read_expr};
 ghost use Rattle.expr_forms.specs.Reads.{Nests};
-ghost use Rattle.ml_syntax.specs.WellFormed.{is_bracketed};
+ghost use Rattle.ml_trees.specs.WellFormed.{is_bracketed};
 ghost use Rattle.expr_parts.specs.Rows.{dot_enclosed, wrapped_by};
 
 use crate::readers::Readers;
 use expr_parts::{is_literal, path_from};
 use expr_reading::Wanted;
-use ml_syntax::{Bracket, Expr, Fixed, Path, ValueName};
+use ml_trees::{Bracket, Expr, Fixed, Path, ValueName};
 use parse_base::{Kind, ReadError, expect, kind_at, number, take_name, word};
 use rotor_base::{Class, Token};
 use std::alloc::Global;
@@ -71,7 +71,7 @@ impl<
     }
 
     /// After the name of a module or constructor at a place.
-    #[tactic(auto, unfolding(expr_reading::specs::ExprReading::upper_expr), using(ml_syntax::proofs::Variants::expr_views))]
+    #[tactic(auto, unfolding(expr_reading::specs::ExprReading::upper_expr), using(ml_trees::proofs::Variants::expr_views))]
     #[inline(never)]
     pub(crate) fn upper(
         &self,
@@ -122,7 +122,7 @@ impl<
     }
 
     /// After the Prefix word at a place.
-    #[tactic(auto, using(ml_syntax::proofs::Variants::expr_views))]
+    #[tactic(auto, using(ml_trees::proofs::Variants::expr_views))]
     #[inline(never)]
     fn operated(&self, tokens: &[Token<'_>], at: usize) -> Result<(Box<Expr>, usize), ReadError>
         requires nests { Nests self.now.grammar.depth (F.pre self.now.grammar.sub) (F.post self.now.grammar.sub) }
@@ -158,7 +158,7 @@ impl<
 }
 
 /// The `true` or `false` at a place.
-#[tactic(auto, using(ml_syntax::proofs::Variants::expr_views))]
+#[tactic(auto, using(ml_trees::proofs::Variants::expr_views))]
 #[inline(never)]
 fn boolean(
     alloc: Global,
@@ -176,7 +176,7 @@ fn boolean(
 }
 
 /// The number, character or text at a place.
-#[tactic(auto, using(ml_syntax::proofs::Variants::expr_views))]
+#[tactic(auto, using(ml_trees::proofs::Variants::expr_views))]
 #[inline(never)]
 fn literal(
     alloc: Global,
@@ -193,7 +193,7 @@ fn literal(
 }
 
 /// The tag at a place.
-#[tactic(auto, using(ml_syntax::proofs::Variants::expr_views))]
+#[tactic(auto, using(ml_trees::proofs::Variants::expr_views))]
 #[inline(never)]
 fn tag(alloc: Global, tokens: &[Token<'_>], at: usize) -> Result<(Box<Expr>, usize), ReadError>
     requires within { at < length tokens.now }
@@ -205,7 +205,7 @@ fn tag(alloc: Global, tokens: &[Token<'_>], at: usize) -> Result<(Box<Expr>, usi
 }
 
 /// The name of a value.
-#[tactic(auto, using(ml_syntax::proofs::Variants::expr_views))]
+#[tactic(auto, using(ml_trees::proofs::Variants::expr_views))]
 #[inline(never)]
 fn value(alloc: Global, tokens: &[Token<'_>], at: usize) -> Result<(Box<Expr>, usize), ReadError>
     requires within { at < length tokens.now }
@@ -218,7 +218,7 @@ fn value(alloc: Global, tokens: &[Token<'_>], at: usize) -> Result<(Box<Expr>, u
 }
 
 /// A module path, a `.` and the expression behind it, if that may follow them; else the path, as a constructor.
-#[tactic(auto, using(crate::proofs::Lone::qualifications, ml_syntax::proofs::Variants::expr_views))]
+#[tactic(auto, using(crate::proofs::Lone::qualifications, ml_trees::proofs::Variants::expr_views))]
 #[inline(never)]
 fn qualified(
     alloc: Global,
@@ -251,7 +251,7 @@ fn qualified(
 }
 
 /// A value of a module.
-#[tactic(auto, using(ml_syntax::proofs::Variants::expr_views))]
+#[tactic(auto, using(ml_trees::proofs::Variants::expr_views))]
 #[inline(never)]
 fn value_of(alloc: Global, path: Path, name: ValueName) -> Result<Box<Expr>, ReadError>
     ensures { Gives (λ e. view e.value) result (Some (pure.Value (view_path path) (view_name name))) }
@@ -261,7 +261,7 @@ fn value_of(alloc: Global, path: Path, name: ValueName) -> Result<Box<Expr>, Rea
 }
 
 /// Whether the expression may follow a module path and a `.`.
-#[tactic(auto, unfolding(ml_syntax::specs::View::view))]
+#[tactic(auto, unfolding(ml_trees::specs::View::view))]
 #[inline(never)]
 fn is_bracketed(expr: &Expr) -> bool
     ensures { result ≡ is_bracketed (view expr.now) }

@@ -2,8 +2,8 @@
 
 ghost use Rattle.std.specs.Prelude.{◌≤◌, ◌<◌, ◌+◌, [], true, length, Some};
 ghost use Rattle.rotor_base.specs.Limits.{max_file_bytes};
-ghost use Rattle.ml_syntax.specs.Tree as pure;
-ghost use Rattle.ml_syntax.specs.View.{view, view_name, links};
+ghost use Rattle.ml_trees.specs.Tree as pure;
+ghost use Rattle.ml_trees.specs.View.{view, view_name, links};
 ghost use Rattle.parse_base.specs.Steps.{many};
 ghost use Rattle.parse_base.specs.Gives.{Gives};
 ghost use Rattle.parse_base.specs.Tokens.{from};
@@ -16,7 +16,7 @@ ghost use Rattle.expr_parts.specs.Rows.{link_of, item_of, row_rest, paren_of};
 use crate::readers::Readers;
 use expr_parts::{Edge, closed, closing, direction, on_edge, row_ends, semicolon_if, variable};
 use expr_reading::Wanted;
-use ml_syntax::{Bracket, Expr, Fixed, ValueName};
+use ml_trees::{Bracket, Expr, Fixed, ValueName};
 use parse_base::{ReadError, expect, expect_at, is, number, operator};
 use rotor_base::Token;
 use std::alloc::Global;
@@ -99,7 +99,7 @@ impl<
     }
 
     /// The items of the list whose bracket is at `start`.
-    #[tactic(auto, using(ml_syntax::proofs::Variants::expr_views))]
+    #[tactic(auto, using(ml_trees::proofs::Variants::expr_views))]
     #[inline(never)]
     pub(crate) fn list(
         &self,
@@ -132,7 +132,7 @@ impl<
     }
 
     /// After the `[` or `[|` at a place.
-    #[tactic(auto, unfolding(expr_reading::specs::ExprReading::bracket_expr), using(ml_syntax::proofs::Variants::expr_views))]
+    #[tactic(auto, unfolding(expr_reading::specs::ExprReading::bracket_expr), using(ml_trees::proofs::Variants::expr_views))]
     #[inline(never)]
     pub(crate) fn bracketed(
         &self,
@@ -177,7 +177,7 @@ impl<
     }
 
     /// After the `(` at a place.
-    #[tactic(auto, unfolding(expr_reading::specs::ExprReading::paren_expr), using(ml_syntax::proofs::Variants::expr_views))]
+    #[tactic(auto, unfolding(expr_reading::specs::ExprReading::paren_expr), using(ml_trees::proofs::Variants::expr_views))]
     #[inline(never)]
     pub(crate) fn parenthesized(
         &self,
@@ -203,7 +203,7 @@ impl<
     }
 
     /// After the `begin` at a place.
-    #[tactic(auto, unfolding(expr_reading::specs::ExprReading::begin_expr), using(ml_syntax::proofs::Variants::expr_views))]
+    #[tactic(auto, unfolding(expr_reading::specs::ExprReading::begin_expr), using(ml_trees::proofs::Variants::expr_views))]
     #[inline(never)]
     pub(crate) fn begin(
         &self,
@@ -236,7 +236,7 @@ impl<
     }
 
     /// After the `while` at a place.
-    #[tactic(auto, unfolding(expr_reading::specs::ExprReading::while_expr), using(ml_syntax::proofs::Variants::expr_views))]
+    #[tactic(auto, unfolding(expr_reading::specs::ExprReading::while_expr), using(ml_trees::proofs::Variants::expr_views))]
     #[inline(never)]
     pub(crate) fn while_loop(
         &self,
@@ -256,7 +256,7 @@ impl<
     }
 
     /// After the `for` at a place.
-    #[tactic(auto, unfolding(expr_reading::specs::ExprReading::for_expr), using(ml_syntax::proofs::Variants::expr_views))]
+    #[tactic(auto, unfolding(expr_reading::specs::ExprReading::for_expr), using(ml_trees::proofs::Variants::expr_views))]
     #[inline(never)]
     pub(crate) fn for_loop(
         &self,
@@ -295,7 +295,7 @@ impl<
 }
 
 /// An operator in parentheses, as a value.
-#[tactic(auto, using(ml_syntax::proofs::Variants::expr_views))]
+#[tactic(auto, using(ml_trees::proofs::Variants::expr_views))]
 #[inline(never)]
 fn operator_value(alloc: Global, name: ValueName) -> Result<Box<Expr>, ReadError>
     ensures { Gives (λ e. view e.value) result (Some (pure.Value [] (view_name name))) }
@@ -305,7 +305,7 @@ fn operator_value(alloc: Global, name: ValueName) -> Result<Box<Expr>, ReadError
 }
 
 /// A `while` with its condition and its body.
-#[tactic(auto, using(ml_syntax::proofs::Variants::expr_views))]
+#[tactic(auto, using(ml_trees::proofs::Variants::expr_views))]
 #[inline(never)]
 fn while_do(
     alloc: Global,

@@ -2,9 +2,9 @@
 
 ghost use Rattle.std.specs.Prelude.{◌≤◌, ◌<◌, ◌+◌, ◌-◌, false, length, Some};
 ghost use Rattle.rotor_base.specs.Limits.{max_file_bytes};
-ghost use Rattle.ml_syntax.specs.Tree as pure;
-ghost use Rattle.ml_syntax.specs.declared.fixed.Fixed.TheVariants as key;
-ghost use Rattle.ml_syntax.specs.View.{view, view_tok, links, commas, ops};
+ghost use Rattle.ml_trees.specs.Tree as pure;
+ghost use Rattle.ml_trees.specs.declared.fixed.Fixed.TheVariants as key;
+ghost use Rattle.ml_trees.specs.View.{view, view_tok, links, commas, ops};
 ghost use Rattle.parse_base.specs.Steps.{many};
 ghost use Rattle.parse_base.specs.Gives.{name_at, Gives};
 ghost use Rattle.parse_base.specs.Tokens.{from};
@@ -12,7 +12,7 @@ ghost use Rattle.expr_reading.specs.declared.wanted.Wanted.TheVariants as wanted
 ghost use Rattle.expr_reading.specs.ExprReading as r;
 ghost use Rattle.expr_reading.specs.ExprReading.{read_expr};
 ghost use Rattle.expr_forms.specs.Reads.{Nests};
-ghost use Rattle.ml_syntax.specs.Tok.{fixed};
+ghost use Rattle.ml_trees.specs.Tok.{fixed};
 ghost use Rattle.parse_expr.specs.Parts.{operator_of};
 ghost use Rattle.expr_parts.specs.Rows.{link_of, item_of, row_rest, wrapped_by, grown_tier, with_steps};
 
@@ -22,7 +22,7 @@ use expr_parts::{
     semicolon_if,
 };
 use expr_reading::Wanted;
-use ml_syntax::{Expr, Fixed, Word};
+use ml_trees::{Expr, Fixed, Word};
 use parse_base::{Kind, ReadError, expect, is_minus, kind_at, text, token_word, word};
 use rotor_base::{Class, Token};
 use std::alloc::Global;
@@ -39,7 +39,7 @@ impl<
         ) -> Result<(Box<Expr>, usize), ReadError>,
 > Readers<F> {
     /// The operand of the sign at a place.
-    #[tactic(auto, using(ml_syntax::proofs::Variants::expr_views))]
+    #[tactic(auto, using(ml_trees::proofs::Variants::expr_views))]
     #[inline(never)]
     pub(crate) fn minus(
         &self,

@@ -2,7 +2,7 @@
 
 ghost use Rattle.std.specs.Prelude.{◌≡◌, ◌≤◌, length, Err, IfOk, IfErr};
 ghost use Rattle.rotor_base.specs.Limits.{max_file_bytes};
-ghost use Rattle.ml_syntax.specs.View.{view};
+ghost use Rattle.ml_trees.specs.View.{view};
 ghost use Rattle.parse_base.specs.Gives.{IsPlain};
 ghost use Rattle.parse_base.specs.Tokens.{from};
 ghost use Rattle.parse_base.specs.declared.error.ParseError.TheVariants as refused;
@@ -11,7 +11,7 @@ ghost use Rattle.expr_levels.specs.Height.{height};
 
 use crate::reading::read;
 use expr_reading::Wanted;
-use ml_syntax::Expr;
+use ml_trees::Expr;
 use parse_base::{MAX_NESTED, ParseError, ReadError};
 use rotor_base::Token;
 use std::alloc::Global;

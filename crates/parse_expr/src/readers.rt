@@ -5,7 +5,7 @@ ghost use Rattle.parse_base.specs.declared.error.ReadError.TheVariants as unread
 
 use expr_forms::Grammar;
 use expr_reading::Wanted;
-use ml_syntax::Expr;
+use ml_trees::Expr;
 use parse_base::ReadError;
 use rotor_base::Token;
 use std::alloc::Global;

@@ -2,7 +2,7 @@
 
 ghost use Rattle.std.specs.Prelude.{◌≤◌, length, IfOk};
 ghost use Rattle.rotor_base.specs.Limits.{max_file_bytes};
-ghost use Rattle.ml_syntax.specs.View.{view};
+ghost use Rattle.ml_trees.specs.View.{view};
 ghost use Rattle.parse_base.specs.Gives.{Gives};
 ghost use Rattle.parse_base.specs.Tokens.{from};
 ghost use Rattle.expr_reading.specs.ExprReading as r;
@@ -14,7 +14,7 @@ use crate::readers::Readers;
 use expr_forms::Grammar;
 use expr_levels::fits;
 use expr_reading::Wanted;
-use ml_syntax::Expr;
+use ml_trees::Expr;
 use parse_base::ReadError;
 use rotor_base::Token;
 use std::alloc::Global;

@@ -2,8 +2,8 @@
 
 ghost use Rattle.std.specs.Prelude.{◌≤◌, ◌<◌, ◌+◌, length, Some};
 ghost use Rattle.rotor_base.specs.Limits.{max_file_bytes};
-ghost use Rattle.ml_syntax.specs.Tree as pure;
-ghost use Rattle.ml_syntax.specs.View.{view, view_word, view_words, view_type, view_field, maybe, fields};
+ghost use Rattle.ml_trees.specs.Tree as pure;
+ghost use Rattle.ml_trees.specs.View.{view, view_word, view_words, view_type, view_field, maybe, fields};
 ghost use Rattle.parse_base.specs.Steps.{many};
 ghost use Rattle.parse_base.specs.Gives.{Gives};
 ghost use Rattle.parse_base.specs.Tokens.{from};
@@ -16,7 +16,7 @@ ghost use Rattle.expr_parts.specs.Rows.{fields_rest, base_with};
 use crate::readers::Readers;
 use expr_parts::{ends_field, fields_end, push_boxed, semicolon_if};
 use expr_reading::Wanted;
-use ml_syntax::{Expr, Field, Fixed, Run, Word};
+use ml_trees::{Expr, Field, Fixed, Run, Word};
 use parse_base::{ReadError, expect, lower_word, number, optional_type, qualifiers};
 use rotor_base::Token;
 use std::alloc::Global;
@@ -33,7 +33,7 @@ impl<
         ) -> Result<(Box<Expr>, usize), ReadError>,
 > Readers<F> {
     /// A field of a record.
-    #[tactic(auto, unfolding(expr_reading::specs::ExprReading::field_expr), using(ml_syntax::proofs::Variants::field_views))]
+    #[tactic(auto, unfolding(expr_reading::specs::ExprReading::field_expr), using(ml_trees::proofs::Variants::field_views))]
     #[inline(never)]
     pub(crate) fn field(
         &self,
@@ -158,7 +158,7 @@ impl<
     }
 
     /// After the `{` at a place.
-    #[tactic(auto, unfolding(expr_reading::specs::ExprReading::brace_expr), using(ml_syntax::proofs::Variants::expr_views))]
+    #[tactic(auto, unfolding(expr_reading::specs::ExprReading::brace_expr), using(ml_trees::proofs::Variants::expr_views))]
     #[inline(never)]
     pub(crate) fn record(
         &self,
@@ -184,7 +184,7 @@ impl<
 
 /// A field and its value.
 #[inline(never)]
-#[tactic(auto, using(ml_syntax::proofs::Variants::field_views))]
+#[tactic(auto, using(ml_trees::proofs::Variants::field_views))]
 fn assigned(
     alloc: Global,
     path: Vec<Word>,
@@ -210,7 +210,7 @@ fn assigned(
 
 /// A field without a value.
 #[inline(never)]
-#[tactic(auto, using(ml_syntax::proofs::Variants::field_views))]
+#[tactic(auto, using(ml_trees::proofs::Variants::field_views))]
 fn field_pun(
     alloc: Global,
     path: Vec<Word>,
@@ -224,7 +224,7 @@ fn field_pun(
 
 /// A record.
 #[inline(never)]
-#[tactic(auto, using(ml_syntax::proofs::Variants::expr_views))]
+#[tactic(auto, using(ml_trees::proofs::Variants::expr_views))]
 fn record_of(
     alloc: Global,
     at: u32,

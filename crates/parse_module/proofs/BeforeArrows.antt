@@ -1,8 +1,8 @@
 -- Reading the parts before arrows one after the other, as the loops do.
 use Rattle.std.proofs.Common.{◌≡◌, ◌∙◌, refl, sym, ap, ℕ, suc, ◌-◌, ◌+◌, ◌<◌, List, [], ◌∷◌, ◌++◌, Option, arith}
 use Rattle.rotor_base.specs.declared.token.Token.{Token}
-use Rattle.ml_syntax.specs.Tok.{Tok}
-use Rattle.ml_syntax.specs.Tree.{ModType}
+use Rattle.ml_trees.specs.Tok.{Tok}
+use Rattle.ml_trees.specs.Tree.{ModType}
 use Rattle.parse_base.specs.Tokens.{from}
 use Rattle.parse_module.specs.declared.arrows.Domain.{Domain}
 use Rattle.parse_module.specs.ModReading.{read_mod, read_type, mod_type}

@@ -1,23 +1,23 @@
 -- What is read as a module, a module type or an item is one, and has the words read.
 use Rattle.std.proofs.Common.{◌≡◌, ℕ, zero, suc, List, [], ◌∷◌, ◌++◌, Bool, true, false, cond, Option, Some, None, refl, sym, ap, subst, ◌∙◌}
 use Rattle.rotor_base.specs.declared.token.Class.TheVariants as class
-use Rattle.ml_syntax.specs.declared.fixed.Fixed.{Fixed}
-use Rattle.ml_syntax.specs.declared.fixed.Fixed.TheVariants as key
-use Rattle.ml_syntax.specs.Tok.{Name, Tok, fixed, placed, word}
+use Rattle.ml_trees.specs.declared.fixed.Fixed.{Fixed}
+use Rattle.ml_trees.specs.declared.fixed.Fixed.TheVariants as key
+use Rattle.ml_trees.specs.Tok.{Name, Tok, fixed, placed, word}
 use Rattle.expr_reading.specs.declared.wanted.Wanted.TheVariants as wanted
-use Rattle.ml_syntax.specs.Words.{path_then, name_then, optional_then, bang_then, module_name_then, constraint_then, constraints_then, withs_then}
-use Rattle.ml_syntax.specs.Words.{texts_then, external_then, mod_then, mod_argument_then, mod_arguments_then, functor_param_then, functor_params_then}
-use Rattle.ml_syntax.specs.Words.{mod_type_then, signature_then, items_then, sig_item_then, sig_items_then, words}
-use Rattle.ml_syntax.specs.Words.{item_then as item_then_words}
-use Rattle.ml_syntax.specs.Runs.{is_type_run}
-use Rattle.ml_syntax.specs.WellFormed.{WfName, WfOpen, WfExternal, is_constraint_sign, WfConstraint, WfConstraints, WfWiths, is_functor}
-use Rattle.ml_syntax.specs.WellFormed.{is_simple_mod, is_simple_type, is_separator, WfMod, WfModArgument, WfModArguments, WfFunctorParam}
-use Rattle.ml_syntax.specs.WellFormed.{WfFunctorParams, WfModType, WfSignature, WfItem, WfItems, WfSigItem, WfSigItems, WfFile}
-use Rattle.ml_syntax.specs.Tree.{ValueName, Expr, ModuleName, Constraint, WithClause, WithOf, ModExpr, ModPath, Struct, Functor, ModArgument}
-use Rattle.ml_syntax.specs.Tree.{ModArguments, no_mod_argument, more_mod_argument, FunctorParam, FunctorParams, no_functor_param, more_functor_param}
-use Rattle.ml_syntax.specs.Tree.{ModType, TypePath, Sig, TypeOf, TypeParen, MaybeType, some_type, Item, ExternalItem, TypeItem, ExceptionItem}
-use Rattle.ml_syntax.specs.Tree.{ModuleTypeItem, OpenItem, IncludeItem, Items, SigItem, ExternalSig, TypeSig, ExceptionSig, AliasSig, ModuleTypeSig}
-use Rattle.ml_syntax.specs.Tree.{OpenSig, IncludeSig, SigItems, no_sig_item, more_sig_item, FileTree}
+use Rattle.ml_trees.specs.Words.{path_then, name_then, optional_then, bang_then, module_name_then, constraint_then, constraints_then, withs_then}
+use Rattle.ml_trees.specs.Words.{texts_then, external_then, mod_then, mod_argument_then, mod_arguments_then, functor_param_then, functor_params_then}
+use Rattle.ml_trees.specs.Words.{mod_type_then, signature_then, items_then, sig_item_then, sig_items_then, words}
+use Rattle.ml_trees.specs.Words.{item_then as item_then_words}
+use Rattle.ml_trees.specs.Runs.{is_type_run}
+use Rattle.ml_trees.specs.WellFormed.{WfName, WfOpen, WfExternal, is_constraint_sign, WfConstraint, WfConstraints, WfWiths, is_functor}
+use Rattle.ml_trees.specs.WellFormed.{is_simple_mod, is_simple_type, is_separator, WfMod, WfModArgument, WfModArguments, WfFunctorParam}
+use Rattle.ml_trees.specs.WellFormed.{WfFunctorParams, WfModType, WfSignature, WfItem, WfItems, WfSigItem, WfSigItems, WfFile}
+use Rattle.ml_trees.specs.Tree.{ValueName, Expr, ModuleName, Constraint, WithClause, WithOf, ModExpr, ModPath, Struct, Functor, ModArgument}
+use Rattle.ml_trees.specs.Tree.{ModArguments, no_mod_argument, more_mod_argument, FunctorParam, FunctorParams, no_functor_param, more_functor_param}
+use Rattle.ml_trees.specs.Tree.{ModType, TypePath, Sig, TypeOf, TypeParen, MaybeType, some_type, Item, ExternalItem, TypeItem, ExceptionItem}
+use Rattle.ml_trees.specs.Tree.{ModuleTypeItem, OpenItem, IncludeItem, Items, SigItem, ExternalSig, TypeSig, ExceptionSig, AliasSig, ModuleTypeSig}
+use Rattle.ml_trees.specs.Tree.{OpenSig, IncludeSig, SigItems, no_sig_item, more_sig_item, FileTree}
 use Rattle.parse_base.specs.Steps.{Read, ◌>>=◌, expect, expect_at, many, always}
 use Rattle.parse_base.specs.Pieces.{value_name, type_run, declaration_run}
 use Rattle.parse_base.proofs.Stepping.{from_some, bind_ok, expect_ok, expect_at_ok, many_ind}

@@ -1,13 +1,13 @@
 -- Reading items one after the other, as a loop does, and what a loop found, as a row.
 use Rattle.std.proofs.Common.{◌≡◌, ℕ, suc, ◌-◌, ◌+◌, ◌≤◌, ◌<◌, List, [], ◌∷◌, ◌++◌, Bool, Some, None, map, refl, sym, ap, ◌∙◌, arith}
-use Rattle.ml_syntax.specs.declared.module.Item.{Item}
-use Rattle.ml_syntax.specs.declared.module.SigItem.{SigItem}
-use Rattle.ml_syntax.specs.declared.module.ModArgument.{ModArgument}
-use Rattle.ml_syntax.specs.declared.module.FunctorParam.{FunctorParam}
-use Rattle.ml_syntax.specs.Tok.{Tok}
-use Rattle.ml_syntax.specs.Tree as pure
-use Rattle.ml_syntax.specs.View.{view_item, view_sig_item, view_mod_argument, view_functor_param, items, sig_items, mod_arguments, functor_params}
-use Rattle.ml_syntax.specs.WellFormed.{is_separator}
+use Rattle.ml_trees.specs.declared.module.Item.{Item}
+use Rattle.ml_trees.specs.declared.module.SigItem.{SigItem}
+use Rattle.ml_trees.specs.declared.module.ModArgument.{ModArgument}
+use Rattle.ml_trees.specs.declared.module.FunctorParam.{FunctorParam}
+use Rattle.ml_trees.specs.Tok.{Tok}
+use Rattle.ml_trees.specs.Tree as pure
+use Rattle.ml_trees.specs.View.{view_item, view_sig_item, view_mod_argument, view_functor_param, items, sig_items, mod_arguments, functor_params}
+use Rattle.ml_trees.specs.WellFormed.{is_separator}
 use Rattle.parse_base.proofs.Turns.{before, before_last}
 use Rattle.parse_module.specs.ModReading.{read_mod, read_type, items_of, item_of}
 

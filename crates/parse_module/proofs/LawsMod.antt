@@ -1,9 +1,9 @@
 -- The law of one reading of files, and what is read of a whole file.
 use Rattle.std.proofs.Common.{◌≡◌, ℕ, ◌≤◌, List, [], length, true, Option, Some, None, sym, ap, subst, ◌∙◌, arith}
-use Rattle.ml_syntax.specs.Tok.{Tok}
-use Rattle.ml_syntax.specs.Words.{items_then, sig_items_then}
-use Rattle.ml_syntax.specs.WellFormed.{WfItems, WfSigItems}
-use Rattle.ml_syntax.specs.Tree.{Items, SigItems, FileTree, Body, Face}
+use Rattle.ml_trees.specs.Tok.{Tok}
+use Rattle.ml_trees.specs.Words.{items_then, sig_items_then}
+use Rattle.ml_trees.specs.WellFormed.{WfItems, WfSigItems}
+use Rattle.ml_trees.specs.Tree.{Items, SigItems, FileTree, Body, Face}
 use Rattle.parse_base.proofs.Stepping.{some_is}
 use Rattle.parse_module.specs.ModReading.{read_body, read_face}
 use Rattle.parse_module.specs.Whole.{OneFileReading}

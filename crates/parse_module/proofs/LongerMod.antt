@@ -1,18 +1,18 @@
 -- What a module is put before is no longer than its words and this.
 use Rattle.std.proofs.Common.{ℕ, ◌≤◌, List, [], ◌∷◌, ◌++◌, length, Option, arith}
-use Rattle.ml_syntax.specs.declared.fixed.Fixed.TheVariants as key
-use Rattle.ml_syntax.specs.Tok.{Name, Tok, fixed, placed}
-use Rattle.ml_syntax.specs.Words.{path_then, optional_then, binding_then, bindings_then, module_name_then, constraint_then, constraints_then}
-use Rattle.ml_syntax.specs.Words.{withs_then, texts_then, external_then, open_item_then, mod_then, mod_argument_then, mod_arguments_then}
-use Rattle.ml_syntax.specs.Words.{functor_param_then, functor_params_then, mod_type_then, signature_then, item_then, items_then, sig_item_then}
-use Rattle.ml_syntax.specs.Words.{sig_items_then}
-use Rattle.ml_syntax.specs.Tree.{ValueName, ModuleName, UpperName, AnyName, Constraint, ConstraintOf, WithClause, WithOf, ModExpr, ModPath, Struct}
-use Rattle.ml_syntax.specs.Tree.{Functor, ModApply, ModParen, Sealed, ModArgument, ModuleArgument, SealedArgument, NoArgument, ModArguments}
-use Rattle.ml_syntax.specs.Tree.{no_mod_argument, more_mod_argument, FunctorParam, NamedParam, NoParam, FunctorParams, no_functor_param}
-use Rattle.ml_syntax.specs.Tree.{more_functor_param, ModType, TypePath, Sig, TypeOf, TypeParen, With, FunctorType, ParamArrow, Arrow, MaybeType}
-use Rattle.ml_syntax.specs.Tree.{no_type, some_type, Item, ExprItem, SeparatorItem, ValueItem, ExternalItem, TypeItem, ExceptionItem, ModuleItem}
-use Rattle.ml_syntax.specs.Tree.{ModuleTypeItem, OpenItem, IncludeItem, Items, no_item, more_item, SigItem, SeparatorSig, ValSig, ExternalSig}
-use Rattle.ml_syntax.specs.Tree.{TypeSig, ExceptionSig, ModuleSig, AliasSig, ModuleTypeSig, OpenSig, IncludeSig, SigItems, no_sig_item, more_sig_item}
+use Rattle.ml_trees.specs.declared.fixed.Fixed.TheVariants as key
+use Rattle.ml_trees.specs.Tok.{Name, Tok, fixed, placed}
+use Rattle.ml_trees.specs.Words.{path_then, optional_then, binding_then, bindings_then, module_name_then, constraint_then, constraints_then}
+use Rattle.ml_trees.specs.Words.{withs_then, texts_then, external_then, open_item_then, mod_then, mod_argument_then, mod_arguments_then}
+use Rattle.ml_trees.specs.Words.{functor_param_then, functor_params_then, mod_type_then, signature_then, item_then, items_then, sig_item_then}
+use Rattle.ml_trees.specs.Words.{sig_items_then}
+use Rattle.ml_trees.specs.Tree.{ValueName, ModuleName, UpperName, AnyName, Constraint, ConstraintOf, WithClause, WithOf, ModExpr, ModPath, Struct}
+use Rattle.ml_trees.specs.Tree.{Functor, ModApply, ModParen, Sealed, ModArgument, ModuleArgument, SealedArgument, NoArgument, ModArguments}
+use Rattle.ml_trees.specs.Tree.{no_mod_argument, more_mod_argument, FunctorParam, NamedParam, NoParam, FunctorParams, no_functor_param}
+use Rattle.ml_trees.specs.Tree.{more_functor_param, ModType, TypePath, Sig, TypeOf, TypeParen, With, FunctorType, ParamArrow, Arrow, MaybeType}
+use Rattle.ml_trees.specs.Tree.{no_type, some_type, Item, ExprItem, SeparatorItem, ValueItem, ExternalItem, TypeItem, ExceptionItem, ModuleItem}
+use Rattle.ml_trees.specs.Tree.{ModuleTypeItem, OpenItem, IncludeItem, Items, no_item, more_item, SigItem, SeparatorSig, ValSig, ExternalSig}
+use Rattle.ml_trees.specs.Tree.{TypeSig, ExceptionSig, ModuleSig, AliasSig, ModuleTypeSig, OpenSig, IncludeSig, SigItems, no_sig_item, more_sig_item}
 use Rattle.parse_base.proofs.LongerPat.{path_longer, name_longer, run_longer, optional_longer}
 use Rattle.expr_reading.proofs.LongerExpr.{expr_more, binding_more, bindings_more, bang_more}
 

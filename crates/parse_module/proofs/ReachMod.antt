@@ -2,32 +2,32 @@
 use Rattle.std.proofs.Common.{◌≡◌, ◌≢◌, ℕ, zero, suc, ◌<◌, ◌≤◌, List, [], ◌∷◌, ◌++◌, length, Bool, true, false, Option, Some, None, refl, sym, ap}
 use Rattle.std.proofs.Common.{subst, ◌∙◌, arith}
 use Rattle.rotor_base.specs.declared.token.Class.TheVariants as class
-use Rattle.ml_syntax.specs.declared.fixed.Fixed.{Fixed}
-use Rattle.ml_syntax.specs.declared.fixed.Fixed.TheVariants as key
-use Rattle.ml_syntax.specs.declared.word.Bracket.{Bracket}
-use Rattle.ml_syntax.specs.declared.word.Bracket.TheVariants as bracket
-use Rattle.ml_syntax.specs.Tok.{Name, Tok, fixed, placed, word}
+use Rattle.ml_trees.specs.declared.fixed.Fixed.{Fixed}
+use Rattle.ml_trees.specs.declared.fixed.Fixed.TheVariants as key
+use Rattle.ml_trees.specs.declared.word.Bracket.{Bracket}
+use Rattle.ml_trees.specs.declared.word.Bracket.TheVariants as bracket
+use Rattle.ml_trees.specs.Tok.{Name, Tok, fixed, placed, word}
 use Rattle.expr_reading.specs.declared.wanted.Wanted.TheVariants as wanted
-use Rattle.ml_syntax.specs.Runs.{bracketing, after_bracket, beside_type, in_type, in_declaration, is_type_run}
-use Rattle.ml_syntax.specs.Words.{links_then, arguments_then, parts_then, opening, truth, path_then, qualified_then, name_then, optional_then}
-use Rattle.ml_syntax.specs.Words.{bang_then, expr_then, binding_then, bindings_then, module_name_then, constraint_then, constraints_then, withs_then}
-use Rattle.ml_syntax.specs.Words.{texts_then, external_then, mod_then, mod_argument_then, mod_arguments_then, functor_param_then, functor_params_then}
-use Rattle.ml_syntax.specs.Words.{mod_type_then, signature_then, items_then, sig_item_then, sig_items_then}
-use Rattle.ml_syntax.specs.Words.{item_then as item_then_words}
-use Rattle.ml_syntax.specs.WellFormed.{WfOpen, WfExternal, WfBinding, WfBindings, Wf, level, is_constraint_sign, WfConstraint, WfConstraints, WfWiths}
-use Rattle.ml_syntax.specs.WellFormed.{is_functor, is_simple_mod, is_simple_type, is_separator, WfMod, WfModArgument, WfModArguments, WfFunctorParam}
-use Rattle.ml_syntax.specs.WellFormed.{WfFunctorParams, WfModType, WfSignature, WfItem, WfItems, WfSigItem, WfSigItems}
-use Rattle.ml_syntax.specs.Tree.{LocalModule, ValueName, PlainName, OperatorName, Expr, Seq, Let, LetOpen, LetModule, Fun, Function, Match, Try, If}
-use Rattle.ml_syntax.specs.Tree.{Chain, Minus, Apply, ConstrApply, TagApply, Assert, Lazy, Postfix, Prefixed, Literal, BoolExpr, Value, Constr, Tag}
-use Rattle.ml_syntax.specs.Tree.{UnitExpr, Paren, Typed, Coerced, EmptyBegin, Begin, EmptyList, ListExpr, Record, Opened, While, For, Binding}
-use Rattle.ml_syntax.specs.Tree.{Bindings, ModuleName, UpperName, AnyName, Constraint, ConstraintOf, WithClause, WithOf, ModExpr, ModPath, Struct}
-use Rattle.ml_syntax.specs.Tree.{Functor, ModApply, ModParen, Sealed, ModArgument, ModuleArgument, SealedArgument, NoArgument, ModArguments}
-use Rattle.ml_syntax.specs.Tree.{no_mod_argument, more_mod_argument, FunctorParam, NamedParam, NoParam, FunctorParams, no_functor_param}
-use Rattle.ml_syntax.specs.Tree.{more_functor_param, ModType, TypePath, Sig, TypeOf, TypeParen, With, FunctorType, ParamArrow, Arrow, MaybeType}
-use Rattle.ml_syntax.specs.Tree.{no_type, some_type, Item, ExprItem, SeparatorItem, ValueItem, ExternalItem, TypeItem, ExceptionItem, ModuleItem}
-use Rattle.ml_syntax.specs.Tree.{ModuleTypeItem, OpenItem, IncludeItem, Items, no_item, more_item, SigItem, SeparatorSig, ValSig, ExternalSig}
-use Rattle.ml_syntax.specs.Tree.{TypeSig, ExceptionSig, ModuleSig, AliasSig, ModuleTypeSig, OpenSig, IncludeSig, SigItems, no_sig_item, more_sig_item}
-use Rattle.ml_syntax.specs.Tree.{Body, Face}
+use Rattle.ml_trees.specs.Runs.{bracketing, after_bracket, beside_type, in_type, in_declaration, is_type_run}
+use Rattle.ml_trees.specs.Words.{links_then, arguments_then, parts_then, opening, truth, path_then, qualified_then, name_then, optional_then}
+use Rattle.ml_trees.specs.Words.{bang_then, expr_then, binding_then, bindings_then, module_name_then, constraint_then, constraints_then, withs_then}
+use Rattle.ml_trees.specs.Words.{texts_then, external_then, mod_then, mod_argument_then, mod_arguments_then, functor_param_then, functor_params_then}
+use Rattle.ml_trees.specs.Words.{mod_type_then, signature_then, items_then, sig_item_then, sig_items_then}
+use Rattle.ml_trees.specs.Words.{item_then as item_then_words}
+use Rattle.ml_trees.specs.WellFormed.{WfOpen, WfExternal, WfBinding, WfBindings, Wf, level, is_constraint_sign, WfConstraint, WfConstraints, WfWiths}
+use Rattle.ml_trees.specs.WellFormed.{is_functor, is_simple_mod, is_simple_type, is_separator, WfMod, WfModArgument, WfModArguments, WfFunctorParam}
+use Rattle.ml_trees.specs.WellFormed.{WfFunctorParams, WfModType, WfSignature, WfItem, WfItems, WfSigItem, WfSigItems}
+use Rattle.ml_trees.specs.Tree.{LocalModule, ValueName, PlainName, OperatorName, Expr, Seq, Let, LetOpen, LetModule, Fun, Function, Match, Try, If}
+use Rattle.ml_trees.specs.Tree.{Chain, Minus, Apply, ConstrApply, TagApply, Assert, Lazy, Postfix, Prefixed, Literal, BoolExpr, Value, Constr, Tag}
+use Rattle.ml_trees.specs.Tree.{UnitExpr, Paren, Typed, Coerced, EmptyBegin, Begin, EmptyList, ListExpr, Record, Opened, While, For, Binding}
+use Rattle.ml_trees.specs.Tree.{Bindings, ModuleName, UpperName, AnyName, Constraint, ConstraintOf, WithClause, WithOf, ModExpr, ModPath, Struct}
+use Rattle.ml_trees.specs.Tree.{Functor, ModApply, ModParen, Sealed, ModArgument, ModuleArgument, SealedArgument, NoArgument, ModArguments}
+use Rattle.ml_trees.specs.Tree.{no_mod_argument, more_mod_argument, FunctorParam, NamedParam, NoParam, FunctorParams, no_functor_param}
+use Rattle.ml_trees.specs.Tree.{more_functor_param, ModType, TypePath, Sig, TypeOf, TypeParen, With, FunctorType, ParamArrow, Arrow, MaybeType}
+use Rattle.ml_trees.specs.Tree.{no_type, some_type, Item, ExprItem, SeparatorItem, ValueItem, ExternalItem, TypeItem, ExceptionItem, ModuleItem}
+use Rattle.ml_trees.specs.Tree.{ModuleTypeItem, OpenItem, IncludeItem, Items, no_item, more_item, SigItem, SeparatorSig, ValSig, ExternalSig}
+use Rattle.ml_trees.specs.Tree.{TypeSig, ExceptionSig, ModuleSig, AliasSig, ModuleTypeSig, OpenSig, IncludeSig, SigItems, no_sig_item, more_sig_item}
+use Rattle.ml_trees.specs.Tree.{Body, Face}
 use Rattle.parse_base.specs.Steps.{Read, ◌>>=◌, expect, many, always}
 use Rattle.parse_base.specs.Pieces.{dot_upper}
 use Rattle.parse_base.proofs.Stepping.{some_is, from_some}

@@ -1,15 +1,15 @@
 -- Readings that depend on whether a list is empty, or on more than one token.
 use Rattle.std.proofs.Common.{◌≡◌, ℕ, ◌<◌, List, [], ◌∷◌, length, map, true, false, Some, None, refl, arith}
 use Rattle.rotor_base.specs.declared.token.Class.TheVariants as class
-use Rattle.ml_syntax.specs.declared.word.Word.{Word}
-use Rattle.ml_syntax.specs.declared.module.WithClause.{WithClause}
-use Rattle.ml_syntax.specs.declared.module.ModArgument.{ModArgument}
-use Rattle.ml_syntax.specs.declared.module.FunctorParam.{FunctorParam}
-use Rattle.ml_syntax.specs.declared.fixed.Fixed.TheVariants as key
-use Rattle.ml_syntax.specs.Tok.{Tok, fixed, placed, word}
-use Rattle.ml_syntax.specs.Tree as pure
-use Rattle.ml_syntax.specs.View.{view_words, view_with, mod_arguments, functor_params}
-use Rattle.ml_syntax.specs.WellFormed.{is_constraint_sign}
+use Rattle.ml_trees.specs.declared.word.Word.{Word}
+use Rattle.ml_trees.specs.declared.module.WithClause.{WithClause}
+use Rattle.ml_trees.specs.declared.module.ModArgument.{ModArgument}
+use Rattle.ml_trees.specs.declared.module.FunctorParam.{FunctorParam}
+use Rattle.ml_trees.specs.declared.fixed.Fixed.TheVariants as key
+use Rattle.ml_trees.specs.Tok.{Tok, fixed, placed, word}
+use Rattle.ml_trees.specs.Tree as pure
+use Rattle.ml_trees.specs.View.{view_words, view_with, mod_arguments, functor_params}
+use Rattle.ml_trees.specs.WellFormed.{is_constraint_sign}
 use Rattle.parse_base.specs.Steps.{◌>>=◌, expect}
 use Rattle.parse_base.specs.Gives.{starts}
 use Rattle.parse_base.specs.Rows.{first_is}

@@ -1,10 +1,10 @@
 -- What is read of the tokens of a file is its tree, and if nothing is read, it has none.
 use Rattle.std.proofs.Common.{◌≡◌, ℕ, ◌+◌, ◌≤◌, ◌<◌, List, [], ◌∷◌, length, true, Some, None, sym, ap, refl, ◌∙◌, arith}
 use Rattle.rotor_base.specs.declared.token.Token.{Token}
-use Rattle.ml_syntax.specs.Tok.{Tok}
-use Rattle.ml_syntax.specs.Tree.{Items, SigItems, FileTree, Body, Face}
-use Rattle.ml_syntax.specs.Words.{words}
-use Rattle.ml_syntax.specs.WellFormed.{WfFile}
+use Rattle.ml_trees.specs.Tok.{Tok}
+use Rattle.ml_trees.specs.Tree.{Items, SigItems, FileTree, Body, Face}
+use Rattle.ml_trees.specs.Words.{words}
+use Rattle.ml_trees.specs.WellFormed.{WfFile}
 use Rattle.parse_base.specs.Tokens.{from}
 use Rattle.parse_base.proofs.Ends.{from_length}
 use Rattle.parse_base.proofs.Places.{from_end, from_next}

@@ -2,10 +2,10 @@
 -- behind the last (the OCaml manual, "Module types").
 use Rattle.std.specs.Prelude.{◌≡◌, ℕ, List, [], ◌∷◌, Option, Some, None, Result, Ok, Err}
 use Rattle.rotor_base.specs.declared.token.Token.{Token}
-use Rattle.ml_syntax.specs.declared.module.ModType.{ModType as Source}
-use Rattle.ml_syntax.specs.Tok.{Tok}
-use Rattle.ml_syntax.specs.Tree.{ModType, FunctorType, ParamArrow, Arrow}
-use Rattle.ml_syntax.specs.View.{view_mod_type, view_functor_param, functor_params}
+use Rattle.ml_trees.specs.declared.module.ModType.{ModType as Source}
+use Rattle.ml_trees.specs.Tok.{Tok}
+use Rattle.ml_trees.specs.Tree.{ModType, FunctorType, ParamArrow, Arrow}
+use Rattle.ml_trees.specs.View.{view_mod_type, view_functor_param, functor_params}
 use Rattle.parse_base.specs.declared.error.ReadError.{ReadError}
 use Rattle.parse_base.specs.Gives.{Fails}
 use Rattle.parse_base.specs.Tokens.{from}

@@ -1,11 +1,11 @@
 -- The parts of items, modules and module types, as the code reads them (own).
 use Rattle.std.specs.Prelude.{ℕ, List, ◌∷◌, Bool, true, false, Option, Some}
 use Rattle.rotor_base.specs.declared.token.Class.TheVariants as class
-use Rattle.ml_syntax.specs.declared.fixed.Fixed.TheVariants as key
-use Rattle.ml_syntax.specs.declared.module.External.{External as Source}
-use Rattle.ml_syntax.specs.Tok.{Tok, placed, word}
-use Rattle.ml_syntax.specs.Tree.{ModType, TypeOf, Item, ModuleTypeItem, SigItem, ModuleTypeSig, AliasSig, FileTree}
-use Rattle.ml_syntax.specs.View.{view_name, view_run, view_words}
+use Rattle.ml_trees.specs.declared.fixed.Fixed.TheVariants as key
+use Rattle.ml_trees.specs.declared.module.External.{External as Source}
+use Rattle.ml_trees.specs.Tok.{Tok, placed, word}
+use Rattle.ml_trees.specs.Tree.{ModType, TypeOf, Item, ModuleTypeItem, SigItem, ModuleTypeSig, AliasSig, FileTree}
+use Rattle.ml_trees.specs.View.{view_name, view_run, view_words}
 use Rattle.parse_base.specs.Steps.{Read, ◌>>=◌, expect, expect_at}
 use Rattle.expr_reading.specs.ExprReading.{upper_path}
 use Rattle.expr_parts.specs.Rows.{upper_word}

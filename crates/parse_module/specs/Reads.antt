@@ -4,9 +4,9 @@ use Rattle.std.specs.declared.alloc.Global.{Global}
 use Rattle.rotor_base.specs.Limits.{max_file_bytes}
 use denote.Ref.{Bor}
 use Rattle.rotor_base.specs.declared.token.Token.{Token}
-use Rattle.ml_syntax.specs.declared.module.ModExpr.{ModExpr}
-use Rattle.ml_syntax.specs.declared.module.ModType.{ModType}
-use Rattle.ml_syntax.specs.View.{view_mod, view_mod_type}
+use Rattle.ml_trees.specs.declared.module.ModExpr.{ModExpr}
+use Rattle.ml_trees.specs.declared.module.ModType.{ModType}
+use Rattle.ml_trees.specs.View.{view_mod, view_mod_type}
 use Rattle.parse_base.specs.declared.error.ReadError.{ReadError}
 use Rattle.parse_base.specs.Gives.{Gives}
 use Rattle.parse_base.specs.Tokens.{from}

@@ -1,11 +1,11 @@
 -- What the reading of a whole file promises, in the words of the trees (own; the OCaml manual, "Compilation units").
 use Rattle.std.specs.Prelude.{◌≡◌, ℕ, List, Option, Some, None, Result, Err}
 use Rattle.rotor_base.specs.declared.token.FormKind.{FormKind}
-use Rattle.ml_syntax.specs.declared.module.FileTree.{FileTree as Source}
-use Rattle.ml_syntax.specs.Tok.{Tok}
-use Rattle.ml_syntax.specs.Tree.{FileTree, Body, Face}
-use Rattle.ml_syntax.specs.Words.{words}
-use Rattle.ml_syntax.specs.WellFormed.{WfFile}
+use Rattle.ml_trees.specs.declared.module.FileTree.{FileTree as Source}
+use Rattle.ml_trees.specs.Tok.{Tok}
+use Rattle.ml_trees.specs.Tree.{FileTree, Body, Face}
+use Rattle.ml_trees.specs.Words.{words}
+use Rattle.ml_trees.specs.WellFormed.{WfFile}
 use Rattle.parse_base.specs.declared.error.ParseError.{ParseError}
 use Rattle.parse_base.specs.declared.error.ParseError.TheVariants as refused
 use Rattle.parse_module.specs.declared.files.FileKind.{FileKind}

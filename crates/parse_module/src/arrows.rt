@@ -1,12 +1,12 @@
 //! The parts before the arrows of a module type.
 
 ghost use Rattle.std.specs.Prelude.{◌≡◌, ℕ, List, Some, IfOk};
-ghost use Rattle.ml_syntax.specs.Tok.{Tok};
+ghost use Rattle.ml_trees.specs.Tok.{Tok};
 ghost use Rattle.parse_base.specs.Gives.{Gives};
-ghost use Rattle.ml_syntax.specs.View.{view_mod_type};
+ghost use Rattle.ml_trees.specs.View.{view_mod_type};
 ghost use Rattle.parse_module.specs.Arrows.{read_so, before_arrow, before_arrows};
 
-use ml_syntax::{FunctorParam, ModType};
+use ml_trees::{FunctorParam, ModType};
 use parse_base::ReadError;
 use rotor_base::Memory;
 use std::alloc::Global;
@@ -32,7 +32,7 @@ pub(crate) enum Step {
 }
 
 /// An arrow, with the parts before and behind it.
-#[tactic(auto, using(ml_syntax::proofs::Variants::mod_type_views))]
+#[tactic(auto, using(ml_trees::proofs::Variants::mod_type_views))]
 #[inline(never)]
 fn arrow(alloc: Global, domain: Domain, behind: ModType) -> Result<ModType, Memory>
     ensures { IfOk result (λ whole. (end : ℕ → List Tok) (at : ℕ) → read_so end (Some (whole, at)) ≡ before_arrow end domain (read_so end (Some (behind, at)))) }

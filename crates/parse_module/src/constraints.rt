@@ -2,14 +2,14 @@
 
 ghost use Rattle.std.specs.Prelude.{◌≡◌, ◌≤◌, ◌<◌, true, length, map, Some};
 ghost use Rattle.rotor_base.specs.Limits.{max_file_bytes};
-ghost use Rattle.ml_syntax.specs.View.{view_tok, view_constraint, view_with};
-ghost use Rattle.ml_syntax.specs.WellFormed.{is_constraint_sign};
+ghost use Rattle.ml_trees.specs.View.{view_tok, view_constraint, view_with};
+ghost use Rattle.ml_trees.specs.WellFormed.{is_constraint_sign};
 ghost use Rattle.parse_base.specs.Gives.{Gives};
 ghost use Rattle.parse_base.specs.Tokens.{from};
 ghost use Rattle.parse_base.specs.Rows.{first_is};
 ghost use Rattle.parse_module.specs.ModReading as r;
 
-use ml_syntax::{Constraint, Fixed, WithClause, Word};
+use ml_trees::{Constraint, Fixed, WithClause, Word};
 use parse_base::{Kind, ReadError, expect, kind_at, text, token_word, type_run};
 use rotor_base::{Class, Token};
 use std::alloc::Global;

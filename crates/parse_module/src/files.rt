@@ -2,8 +2,8 @@
 
 ghost use Rattle.std.specs.Prelude.{◌≡◌, ◌≢◌, ◌≤◌, ◌+◌, length, Err, None, Some, IfOk};
 ghost use Rattle.rotor_base.specs.Limits.{max_file_bytes};
-ghost use Rattle.ml_syntax.specs.View as v;
-ghost use Rattle.ml_syntax.specs.View.{view_file};
+ghost use Rattle.ml_trees.specs.View as v;
+ghost use Rattle.ml_trees.specs.View.{view_file};
 ghost use Rattle.parse_base.specs.Forms.{first_form};
 ghost use Rattle.parse_base.specs.Gives.{Gives};
 ghost use Rattle.parse_base.specs.Tokens.{from};
@@ -15,7 +15,7 @@ ghost use Rattle.parse_module.specs.Whole.{IsTreeOf, HasNoTree, told_form, told_
 
 use crate::modules::Modules;
 use crate::reading::{read_module, read_module_type};
-use ml_syntax::{FileTree, Item, SigItem};
+use ml_trees::{FileTree, Item, SigItem};
 use parse_base::{ParseError, ReadError, scan_depth, scan_forms};
 use parse_expr::MAX_DEEPER;
 use rotor_base::{Memory, Token};

@@ -2,10 +2,10 @@
 
 ghost use Rattle.std.specs.Prelude.{◌≡◌, ◌≤◌, ◌<◌, ◌+◌, ◌∷◌, true, length, Some};
 ghost use Rattle.rotor_base.specs.Limits.{max_file_bytes};
-ghost use Rattle.ml_syntax.specs.declared.fixed.Fixed.TheVariants as key;
-ghost use Rattle.ml_syntax.specs.Tok.{placed};
-ghost use Rattle.ml_syntax.specs.WellFormed.{is_separator as separates};
-ghost use Rattle.ml_syntax.specs.View as v;
+ghost use Rattle.ml_trees.specs.declared.fixed.Fixed.TheVariants as key;
+ghost use Rattle.ml_trees.specs.Tok.{placed};
+ghost use Rattle.ml_trees.specs.WellFormed.{is_separator as separates};
+ghost use Rattle.ml_trees.specs.View as v;
 ghost use Rattle.parse_base.specs.Gives.{Gives};
 ghost use Rattle.parse_base.specs.Tokens.{from};
 ghost use Rattle.parse_module.specs.ModReading as r;
@@ -17,13 +17,13 @@ use crate::modules::Modules;
 use crate::names::{external, module_name, opened};
 use crate::values::{sequence, value_item};
 use expr_parts::upper_word;
-use ml_syntax::{Fixed, Item, ModExpr, ModType, Open};
+use ml_trees::{Fixed, Item, ModExpr, ModType, Open};
 use parse_base::{Kind, ReadError, declaration_run, expect_at, is, kind_at, number};
 use rotor_base::Token;
 use std::alloc::Global;
 
 /// Whether an item is `;;`.
-#[tactic(auto, unfolding(ml_syntax::specs::View::view_mod))]
+#[tactic(auto, unfolding(ml_trees::specs::View::view_mod))]
 fn is_separator(item: &Item) -> bool
     ensures { result ≡ separates (v.view_item item.now) }
 {
@@ -38,7 +38,7 @@ impl<
     G: Copy + Fn(Global, &[Token<'_>], usize, usize, usize) -> Result<(ModType, usize), ReadError>,
 > Modules<F, G> {
     /// After the `module` at `start`: a name, parameters, a module type or none, `=` and a module.
-    #[tactic(auto, using(ml_syntax::proofs::Variants::item_views))]
+    #[tactic(auto, using(ml_trees::proofs::Variants::item_views))]
     #[inline(never)]
     fn module_rest(
         &self,
@@ -69,7 +69,7 @@ impl<
     }
 
     /// After the `module type` at `start`: a name, `=` and a module type.
-    #[tactic(auto, using(ml_syntax::proofs::Variants::item_views))]
+    #[tactic(auto, using(ml_trees::proofs::Variants::item_views))]
     #[inline(never)]
     fn module_type_item(
         &self,
@@ -112,7 +112,7 @@ impl<
     }
 
     /// An item that is no expression.
-    #[tactic(auto, unfolding(crate::specs::ModReading::plain_item), using(ml_syntax::proofs::Variants::item_views))]
+    #[tactic(auto, unfolding(crate::specs::ModReading::plain_item), using(ml_trees::proofs::Variants::item_views))]
     #[inline(never)]
     fn plain_item(&self, tokens: &[Token<'_>], at: usize) -> Result<(Item, usize), ReadError>
         requires modules { ReadsModules self.now.depth (F.pre self.now.modules) (F.post self.now.modules) }
@@ -152,7 +152,7 @@ impl<
     }
 
     /// An item. If it is `fresh`, it may be an expression, which is tried first.
-    #[tactic(auto, unfolding(crate::specs::ModReading::item_of), using(ml_syntax::proofs::Variants::item_views))]
+    #[tactic(auto, unfolding(crate::specs::ModReading::item_of), using(ml_trees::proofs::Variants::item_views))]
     #[inline(never)]
     fn item(&self, tokens: &[Token<'_>], fresh: bool, at: usize) -> Result<(Item, usize), ReadError>
         requires modules { ReadsModules self.now.depth (F.pre self.now.modules) (F.post self.now.modules) }

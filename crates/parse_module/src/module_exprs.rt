@@ -2,8 +2,8 @@
 
 ghost use Rattle.std.specs.Prelude.{◌≤◌, ◌<◌, ◌+◌, length, Some};
 ghost use Rattle.rotor_base.specs.Limits.{max_file_bytes};
-ghost use Rattle.ml_syntax.specs.Tree as pure;
-ghost use Rattle.ml_syntax.specs.View as v;
+ghost use Rattle.ml_trees.specs.Tree as pure;
+ghost use Rattle.ml_trees.specs.View as v;
 ghost use Rattle.parse_base.specs.Gives.{Gives};
 ghost use Rattle.parse_base.specs.Tokens.{from};
 ghost use Rattle.parse_module.specs.ModReading as r;
@@ -13,13 +13,13 @@ ghost use Rattle.parse_module.specs.Reads.{ReadsModules, ReadsTypes};
 
 use crate::modules::Modules;
 use expr_parts::path;
-use ml_syntax::{Fixed, FunctorParam, ModArgument, ModExpr, ModType};
+use ml_trees::{Fixed, FunctorParam, ModArgument, ModExpr, ModType};
 use parse_base::{Kind, ReadError, expect, is, kind_at, number};
 use rotor_base::{Class, Token};
 use std::alloc::Global;
 
 /// A module and what is given to it, if anything is.
-#[tactic(auto, using(crate::proofs::Rows::applications, ml_syntax::proofs::Variants::mod_expr_views))]
+#[tactic(auto, using(crate::proofs::Rows::applications, ml_trees::proofs::Variants::mod_expr_views))]
 #[inline(never)]
 fn grown(
     alloc: Global,
@@ -43,7 +43,7 @@ impl<
     G: Copy + Fn(Global, &[Token<'_>], usize, usize, usize) -> Result<(ModType, usize), ReadError>,
 > Modules<F, G> {
     /// After a module behind the `(` at `start`: a `)`, or `:`, a module type and a `)`.
-    #[tactic(auto, using(ml_syntax::proofs::Variants::mod_expr_views))]
+    #[tactic(auto, using(ml_trees::proofs::Variants::mod_expr_views))]
     #[inline(never)]
     fn closed(
         &self,
@@ -81,7 +81,7 @@ impl<
     }
 
     /// A path, a structure, or a module in parentheses.
-    #[tactic(auto, unfolding(crate::specs::ModReading::simple_mod), using(ml_syntax::proofs::Variants::mod_expr_views))]
+    #[tactic(auto, unfolding(crate::specs::ModReading::simple_mod), using(ml_trees::proofs::Variants::mod_expr_views))]
     #[inline(never)]
     fn simple_mod(&self, tokens: &[Token<'_>], at: usize) -> Result<(ModExpr, usize), ReadError>
         requires modules { ReadsModules self.now.depth (F.pre self.now.modules) (F.post self.now.modules) }
@@ -109,7 +109,7 @@ impl<
     }
 
     /// After an argument behind the `(` at `start`: a `)`, or `:`, a module type and a `)`.
-    #[tactic(auto, using(ml_syntax::proofs::Variants::mod_argument_views))]
+    #[tactic(auto, using(ml_trees::proofs::Variants::mod_argument_views))]
     #[inline(never)]
     fn argument_closed(
         &self,
@@ -150,7 +150,7 @@ impl<
     }
 
     /// An argument of a functor.
-    #[tactic(auto, unfolding(crate::specs::ModReading::mod_argument), using(ml_syntax::proofs::Variants::mod_argument_views))]
+    #[tactic(auto, unfolding(crate::specs::ModReading::mod_argument), using(ml_trees::proofs::Variants::mod_argument_views))]
     #[inline(never)]
     fn argument(&self, tokens: &[Token<'_>], at: usize) -> Result<(ModArgument, usize), ReadError>
         requires modules { ReadsModules self.now.depth (F.pre self.now.modules) (F.post self.now.modules) }
@@ -214,7 +214,7 @@ impl<
     }
 
     /// After the parameters of the `functor` at `start`, of which there is one at least: `->` and a module.
-    #[tactic(auto, using(crate::proofs::Rows::functors, ml_syntax::proofs::Variants::mod_expr_views))]
+    #[tactic(auto, using(crate::proofs::Rows::functors, ml_trees::proofs::Variants::mod_expr_views))]
     #[inline(never)]
     fn functor_end(
         &self,

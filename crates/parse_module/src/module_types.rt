@@ -2,9 +2,9 @@
 
 ghost use Rattle.std.specs.Prelude.{◌≤◌, ◌<◌, ◌+◌, ◌∷◌, length, map, Some};
 ghost use Rattle.rotor_base.specs.Limits.{max_file_bytes};
-ghost use Rattle.ml_syntax.specs.declared.fixed.Fixed.TheVariants as key;
-ghost use Rattle.ml_syntax.specs.Tok.{placed};
-ghost use Rattle.ml_syntax.specs.View as v;
+ghost use Rattle.ml_trees.specs.declared.fixed.Fixed.TheVariants as key;
+ghost use Rattle.ml_trees.specs.Tok.{placed};
+ghost use Rattle.ml_trees.specs.View as v;
 ghost use Rattle.parse_base.specs.Gives.{Gives};
 ghost use Rattle.parse_base.specs.Tokens.{from};
 ghost use Rattle.parse_module.specs.ModReading as r;
@@ -17,7 +17,7 @@ use crate::arrows::{Domain, Step};
 use crate::constraints::with_clauses;
 use crate::modules::Modules;
 use expr_parts::path;
-use ml_syntax::{Fixed, FunctorParam, ModExpr, ModType, WithClause};
+use ml_trees::{Fixed, FunctorParam, ModExpr, ModType, WithClause};
 use parse_base::{Kind, ReadError, expect, is, kind_at, number};
 use rotor_base::{Class, Token};
 use std::alloc::Global;
@@ -27,7 +27,7 @@ impl<
     G: Copy + Fn(Global, &[Token<'_>], usize, usize, usize) -> Result<(ModType, usize), ReadError>,
 > Modules<F, G> {
     /// After the `module type` at `start`: `of` and a module.
-    #[tactic(auto, using(ml_syntax::proofs::Variants::mod_type_views))]
+    #[tactic(auto, using(ml_trees::proofs::Variants::mod_type_views))]
     #[inline(never)]
     fn type_of(
         &self,
@@ -65,7 +65,7 @@ impl<
     }
 
     /// A path, a signature, `module type of`, or a module type in parentheses.
-    #[tactic(auto, unfolding(crate::specs::ModReading::simple_type), using(ml_syntax::proofs::Variants::mod_type_views))]
+    #[tactic(auto, unfolding(crate::specs::ModReading::simple_type), using(ml_trees::proofs::Variants::mod_type_views))]
     #[inline(never)]
     fn simple_type(&self, tokens: &[Token<'_>], at: usize) -> Result<(ModType, usize), ReadError>
         requires modules { ReadsModules self.now.depth (F.pre self.now.modules) (F.post self.now.modules) }
@@ -97,7 +97,7 @@ impl<
     }
 
     /// Each `with` behind a module type, which ends at `after`, or, if there is none, an arrow or nothing.
-    #[tactic(auto, using(crate::proofs::Rows::withs, ml_syntax::proofs::Variants::mod_type_views))]
+    #[tactic(auto, using(crate::proofs::Rows::withs, ml_trees::proofs::Variants::mod_type_views))]
     #[inline(never)]
     fn with_or(
         &self,

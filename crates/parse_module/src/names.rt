@@ -2,7 +2,7 @@
 
 ghost use Rattle.std.specs.Prelude.{◌≤◌, ◌∷◌, [], length, Some};
 ghost use Rattle.rotor_base.specs.Limits.{max_file_bytes};
-ghost use Rattle.ml_syntax.specs.View.{view_word, view_words, view_name, view_run, view_path, view_bang, view_module_name};
+ghost use Rattle.ml_trees.specs.View.{view_word, view_words, view_name, view_run, view_path, view_bang, view_module_name};
 ghost use Rattle.parse_base.specs.Gives.{Gives};
 ghost use Rattle.parse_base.specs.Tokens.{from};
 ghost use Rattle.parse_base.specs.Steps.{many, always};
@@ -10,7 +10,7 @@ ghost use Rattle.parse_module.specs.ModReading as r;
 ghost use Rattle.parse_module.specs.Parts as p;
 
 use expr_parts::{bang, path};
-use ml_syntax::{External, Fixed, ModuleName, Path, Run, ValueName, Word};
+use ml_trees::{External, Fixed, ModuleName, Path, Run, ValueName, Word};
 use parse_base::{Kind, ReadError, expect, expect_at, kind_at, number, type_run, value_name, word};
 use rotor_base::{Class, Token};
 use std::alloc::Global;

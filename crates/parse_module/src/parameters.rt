@@ -2,8 +2,8 @@
 
 ghost use Rattle.std.specs.Prelude.{◌≤◌, ◌<◌, ◌+◌, length, Some};
 ghost use Rattle.rotor_base.specs.Limits.{max_file_bytes};
-ghost use Rattle.ml_syntax.specs.Tree as pure;
-ghost use Rattle.ml_syntax.specs.View as v;
+ghost use Rattle.ml_trees.specs.Tree as pure;
+ghost use Rattle.ml_trees.specs.View as v;
 ghost use Rattle.parse_base.specs.Gives.{Gives};
 ghost use Rattle.parse_base.specs.Tokens.{from};
 ghost use Rattle.parse_module.specs.ModReading as r;
@@ -13,7 +13,7 @@ ghost use Rattle.parse_module.specs.Reads.{ReadsModules, ReadsTypes};
 
 use crate::modules::Modules;
 use crate::names::module_name;
-use ml_syntax::{Fixed, FunctorParam, ModExpr, ModType};
+use ml_trees::{Fixed, FunctorParam, ModExpr, ModType};
 use parse_base::{Kind, ReadError, expect, is, kind_at, number};
 use rotor_base::Token;
 use std::alloc::Global;
@@ -23,7 +23,7 @@ impl<
     G: Copy + Fn(Global, &[Token<'_>], usize, usize, usize) -> Result<(ModType, usize), ReadError>,
 > Modules<F, G> {
     /// After the `(` at `start`: a name, its module type and a `)`.
-    #[tactic(auto, using(ml_syntax::proofs::Variants::functor_param_views))]
+    #[tactic(auto, using(ml_trees::proofs::Variants::functor_param_views))]
     #[inline(never)]
     fn named_param(
         &self,
@@ -53,7 +53,7 @@ impl<
     }
 
     /// A parameter.
-    #[tactic(auto, unfolding(crate::specs::ModReading::functor_param), using(ml_syntax::proofs::Variants::functor_param_views))]
+    #[tactic(auto, unfolding(crate::specs::ModReading::functor_param), using(ml_trees::proofs::Variants::functor_param_views))]
     #[inline(never)]
     pub(crate) fn functor_param(
         &self,

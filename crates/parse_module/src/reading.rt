@@ -2,14 +2,14 @@
 
 ghost use Rattle.std.specs.Prelude.{◌≤◌, length};
 ghost use Rattle.rotor_base.specs.Limits.{max_file_bytes};
-ghost use Rattle.ml_syntax.specs.View as v;
+ghost use Rattle.ml_trees.specs.View as v;
 ghost use Rattle.parse_base.specs.Gives.{Gives};
 ghost use Rattle.parse_base.specs.Tokens.{from};
 ghost use Rattle.parse_module.specs.ModReading.{read_mod, read_type};
 
 use crate::arrows::{Step, with_arrows};
 use crate::modules::Modules;
-use ml_syntax::{ModExpr, ModType};
+use ml_trees::{ModExpr, ModType};
 use parse_base::ReadError;
 use rotor_base::Token;
 use std::alloc::Global;

@@ -2,11 +2,11 @@
 
 ghost use Rattle.std.specs.Prelude.{◌≡◌, ◌≤◌, ◌<◌, ◌+◌, ◌∷◌, length, Some};
 ghost use Rattle.rotor_base.specs.Limits.{max_file_bytes};
-ghost use Rattle.ml_syntax.specs.Tree as pure;
-ghost use Rattle.ml_syntax.specs.declared.fixed.Fixed.TheVariants as key;
-ghost use Rattle.ml_syntax.specs.Tok.{placed};
+ghost use Rattle.ml_trees.specs.Tree as pure;
+ghost use Rattle.ml_trees.specs.declared.fixed.Fixed.TheVariants as key;
+ghost use Rattle.ml_trees.specs.Tok.{placed};
 ghost use Rattle.parse_base.specs.Steps.{many, always};
-ghost use Rattle.ml_syntax.specs.View as v;
+ghost use Rattle.ml_trees.specs.View as v;
 ghost use Rattle.parse_base.specs.Gives.{Gives};
 ghost use Rattle.parse_base.specs.Tokens.{from};
 ghost use Rattle.parse_module.specs.ModReading as r;
@@ -17,7 +17,7 @@ ghost use Rattle.parse_module.specs.Reads.{ReadsModules, ReadsTypes};
 use crate::modules::Modules;
 use crate::names::{external, module_name, opened};
 use expr_parts::{path, upper_word};
-use ml_syntax::{Fixed, ModExpr, ModType, Open, SigItem};
+use ml_trees::{Fixed, ModExpr, ModType, Open, SigItem};
 use parse_base::{
     Kind, ReadError, declaration_run, expect, expect_at, is, kind_at, number, type_run, value_name,
 };
@@ -25,7 +25,7 @@ use rotor_base::{Class, Token};
 use std::alloc::Global;
 
 /// After the `module` at `start`: a name, `=` and the path of a module.
-#[tactic(auto, using(ml_syntax::proofs::Variants::sig_item_views))]
+#[tactic(auto, using(ml_trees::proofs::Variants::sig_item_views))]
 #[inline(never)]
 fn alias(
     alloc: Global,
@@ -68,7 +68,7 @@ impl<
     G: Copy + Fn(Global, &[Token<'_>], usize, usize, usize) -> Result<(ModType, usize), ReadError>,
 > Modules<F, G> {
     /// After `val`: a name and its type.
-    #[tactic(auto, using(ml_syntax::proofs::Variants::sig_item_views))]
+    #[tactic(auto, using(ml_trees::proofs::Variants::sig_item_views))]
     #[inline(never)]
     fn val_rest(&self, tokens: &[Token<'_>], at: usize) -> Result<(SigItem, usize), ReadError>
         requires few { length tokens.now ≤ max_file_bytes }
@@ -81,7 +81,7 @@ impl<
     }
 
     /// After the `module` at `start`: a name, parameters and a module type.
-    #[tactic(auto, using(ml_syntax::proofs::Variants::sig_item_views))]
+    #[tactic(auto, using(ml_trees::proofs::Variants::sig_item_views))]
     #[inline(never)]
     fn module_sig_rest(
         &self,
@@ -109,7 +109,7 @@ impl<
     }
 
     /// After the `module type` at `start`: a name, `=` and a module type.
-    #[tactic(auto, using(ml_syntax::proofs::Variants::sig_item_views))]
+    #[tactic(auto, using(ml_trees::proofs::Variants::sig_item_views))]
     #[inline(never)]
     fn module_type_sig(
         &self,
@@ -155,7 +155,7 @@ impl<
     }
 
     /// An item.
-    #[tactic(auto, unfolding(crate::specs::ModReading::sig_item), using(ml_syntax::proofs::Variants::sig_item_views))]
+    #[tactic(auto, unfolding(crate::specs::ModReading::sig_item), using(ml_trees::proofs::Variants::sig_item_views))]
     #[inline(never)]
     fn sig_item(&self, tokens: &[Token<'_>], at: usize) -> Result<(SigItem, usize), ReadError>
         requires modules { ReadsModules self.now.depth (F.pre self.now.modules) (F.post self.now.modules) }

@@ -2,7 +2,7 @@
 
 ghost use Rattle.std.specs.Prelude.{◌≤◌, ◌<◌, ◌+◌, length};
 ghost use Rattle.rotor_base.specs.Limits.{max_file_bytes};
-ghost use Rattle.ml_syntax.specs.View.{view, view_item};
+ghost use Rattle.ml_trees.specs.View.{view, view_item};
 ghost use Rattle.parse_base.specs.Gives.{Gives};
 ghost use Rattle.parse_base.specs.Tokens.{from};
 ghost use Rattle.expr_reading.specs.declared.wanted.Wanted.TheVariants as wanted;
@@ -11,7 +11,7 @@ ghost use Rattle.parse_module.specs.ModReading as r;
 
 use expr_forms::Grammar;
 use expr_reading::Wanted;
-use ml_syntax::{Expr, Fixed, Item};
+use ml_trees::{Expr, Fixed, Item};
 use parse_base::{Kind, ReadError, kind_at, number};
 use parse_expr::read;
 use rotor_base::Token;
@@ -48,7 +48,7 @@ pub(crate) fn sequence(
 }
 
 /// The bindings of the item `let` at `start`.
-#[tactic(auto, using(ml_syntax::proofs::Variants::item_views))]
+#[tactic(auto, using(ml_trees::proofs::Variants::item_views))]
 fn some_bindings(
     alloc: Global,
     tokens: &[Token<'_>],

@@ -2,7 +2,7 @@
 use Rattle.std.proofs.Common.{◌≡◌, ℕ, zero, suc, List, [], ◌∷◌, Some, None, slice_get, subst}
 use Rattle.rotor_base.specs.declared.source.SourceFile.{SourceFile}
 use Rattle.ml_lexer.specs.Lexed.{Lexeme, Lexed}
-use Rattle.ml_syntax.specs.Tree.{FileTree}
+use Rattle.ml_trees.specs.Tree.{FileTree}
 use Rattle.project_reading.specs.Sources.{ReadAll, AreCut}
 
 -- each source is cut into lexemes

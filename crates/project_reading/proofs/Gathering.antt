@@ -5,9 +5,9 @@ use Rattle.std.proofs.lemmas.List.{drop_more}
 use Rattle.rotor_base.specs.declared.source.SourceFile.{SourceFile}
 use Rattle.rotor_base.specs.Stem.{is_body_name}
 use Rattle.rotor_base.specs.Unit.{unit_of}
-use Rattle.ml_syntax.specs.declared.module.FileTree.{FileTree as Source}
-use Rattle.ml_syntax.specs.Tree.{UnitTree}
-use Rattle.ml_syntax.specs.View.{view_file}
+use Rattle.ml_trees.specs.declared.module.FileTree.{FileTree as Source}
+use Rattle.ml_trees.specs.Tree.{UnitTree}
+use Rattle.ml_trees.specs.View.{view_file}
 use Rattle.project_reading.specs.Gathered.{put_part}
 use Rattle.project_reading.specs.Units.{units_of}
 use Rattle.project_reading.proofs.Parts.{units_more}

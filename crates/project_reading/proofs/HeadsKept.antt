@@ -5,23 +5,23 @@ use Rattle.ml_syntax.specs.Respelled.{spell_expr, spell_field, spell_fields, spe
 use Rattle.ml_syntax.specs.Respelled.{spell_links, spell_maybe_expr, spell_maybe_type, spell_mod_argument, spell_mod_arguments, spell_mod_expr}
 use Rattle.ml_syntax.specs.Respelled.{spell_mod_type, spell_param, spell_params, spell_part, spell_parts, spell_pat, spell_pat_field}
 use Rattle.ml_syntax.specs.Respelled.{spell_pat_fields, spell_pats, spell_sig_item, spell_sig_items, spell_tail}
-use Rattle.ml_syntax.specs.Tree.{FileTree, Body, Face, AliasSig, AnyPat, AppliedBinding, Apply, Argument, Arguments, Arrow, AsPat, Assert}
-use Rattle.ml_syntax.specs.Tree.{AssignedField, Begin, Binding, Bindings, BoolExpr, BoolPat, Case, CaseOf, Cases, Chain, CharPart, Coerced, ConsPat}
-use Rattle.ml_syntax.specs.Tree.{Constr, ConstrApply, ConstrApplyPat, ConstrPat, DefaultParam, EmptyBegin, EmptyList, EmptyPat, ExceptionItem}
-use Rattle.ml_syntax.specs.Tree.{ExceptionPat, ExceptionSig, Expr, ExprItem, ExternalItem, ExternalSig, Field, FieldPun, Fields, For, Fun, Function}
-use Rattle.ml_syntax.specs.Tree.{Functor, FunctorParam, FunctorParams, FunctorType, If, IncludeItem, IncludeSig, IndexPart, Item, Items, LabelParam}
-use Rattle.ml_syntax.specs.Tree.{LabelPart, LabelPattern, LabelPun, Labelled, Lazy, LazyPat, Let, LetModule, LetOpen, Links, ListExpr, ListPat}
-use Rattle.ml_syntax.specs.Tree.{Literal, LiteralPat, Match, MatchedField, MaybeExpr, MaybeType, Minus, ModApply, ModArgument, ModArguments, ModExpr}
-use Rattle.ml_syntax.specs.Tree.{ModParen, ModPath, ModType, ModuleArgument, ModuleItem, ModuleSig, ModuleTypeItem, ModuleTypeSig, NamedParam}
-use Rattle.ml_syntax.specs.Tree.{NegativePat, NoArgument, NoParam, OpenItem, OpenSig, Opened, OpenedPat, OrPat, Param, ParamArrow, Params, Paren}
-use Rattle.ml_syntax.specs.Tree.{ParenPat, Part, Parts, Pat, PatField, PatFields, Pats, PatternParam, PlainBinding, Positional, Postfix, Prefixed}
-use Rattle.ml_syntax.specs.Tree.{PunnedField, RangePat, Record, RecordPat, Sealed, SealedArgument, SeparatorItem, SeparatorSig, Seq, Sig, SigItem}
-use Rattle.ml_syntax.specs.Tree.{SigItems, Struct, Tag, TagApply, TagApplyPat, TagPat, Tail, Try, TuplePat, TypeItem, TypeOf, TypeParen, TypePath}
-use Rattle.ml_syntax.specs.Tree.{TypeSig, Typed, TypedPat, TypesParam, UnitExpr, UnitPat, ValSig, Value, ValueItem, ValuePat, While, With}
-use Rattle.ml_syntax.specs.Tree.{WrappedDefault, WrappedParam, more_argument, more_binding, more_case, more_field, more_functor_param, more_item}
-use Rattle.ml_syntax.specs.Tree.{more_link, more_mod_argument, more_param, more_part, more_pat, more_pat_field, more_sig_item, no_argument}
-use Rattle.ml_syntax.specs.Tree.{no_binding, no_case, no_else, no_expr, no_field, no_functor_param, no_item, no_link, no_mod_argument, no_param}
-use Rattle.ml_syntax.specs.Tree.{no_part, no_pat, no_pat_field, no_sig_item, no_type, or_else, or_if, some_expr, some_type}
+use Rattle.ml_trees.specs.Tree.{FileTree, Body, Face, AliasSig, AnyPat, AppliedBinding, Apply, Argument, Arguments, Arrow, AsPat, Assert}
+use Rattle.ml_trees.specs.Tree.{AssignedField, Begin, Binding, Bindings, BoolExpr, BoolPat, Case, CaseOf, Cases, Chain, CharPart, Coerced, ConsPat}
+use Rattle.ml_trees.specs.Tree.{Constr, ConstrApply, ConstrApplyPat, ConstrPat, DefaultParam, EmptyBegin, EmptyList, EmptyPat, ExceptionItem}
+use Rattle.ml_trees.specs.Tree.{ExceptionPat, ExceptionSig, Expr, ExprItem, ExternalItem, ExternalSig, Field, FieldPun, Fields, For, Fun, Function}
+use Rattle.ml_trees.specs.Tree.{Functor, FunctorParam, FunctorParams, FunctorType, If, IncludeItem, IncludeSig, IndexPart, Item, Items, LabelParam}
+use Rattle.ml_trees.specs.Tree.{LabelPart, LabelPattern, LabelPun, Labelled, Lazy, LazyPat, Let, LetModule, LetOpen, Links, ListExpr, ListPat}
+use Rattle.ml_trees.specs.Tree.{Literal, LiteralPat, Match, MatchedField, MaybeExpr, MaybeType, Minus, ModApply, ModArgument, ModArguments, ModExpr}
+use Rattle.ml_trees.specs.Tree.{ModParen, ModPath, ModType, ModuleArgument, ModuleItem, ModuleSig, ModuleTypeItem, ModuleTypeSig, NamedParam}
+use Rattle.ml_trees.specs.Tree.{NegativePat, NoArgument, NoParam, OpenItem, OpenSig, Opened, OpenedPat, OrPat, Param, ParamArrow, Params, Paren}
+use Rattle.ml_trees.specs.Tree.{ParenPat, Part, Parts, Pat, PatField, PatFields, Pats, PatternParam, PlainBinding, Positional, Postfix, Prefixed}
+use Rattle.ml_trees.specs.Tree.{PunnedField, RangePat, Record, RecordPat, Sealed, SealedArgument, SeparatorItem, SeparatorSig, Seq, Sig, SigItem}
+use Rattle.ml_trees.specs.Tree.{SigItems, Struct, Tag, TagApply, TagApplyPat, TagPat, Tail, Try, TuplePat, TypeItem, TypeOf, TypeParen, TypePath}
+use Rattle.ml_trees.specs.Tree.{TypeSig, Typed, TypedPat, TypesParam, UnitExpr, UnitPat, ValSig, Value, ValueItem, ValuePat, While, With}
+use Rattle.ml_trees.specs.Tree.{WrappedDefault, WrappedParam, more_argument, more_binding, more_case, more_field, more_functor_param, more_item}
+use Rattle.ml_trees.specs.Tree.{more_link, more_mod_argument, more_param, more_part, more_pat, more_pat_field, more_sig_item, no_argument}
+use Rattle.ml_trees.specs.Tree.{no_binding, no_case, no_else, no_expr, no_field, no_functor_param, no_item, no_link, no_mod_argument, no_param}
+use Rattle.ml_trees.specs.Tree.{no_part, no_pat, no_pat_field, no_sig_item, no_type, or_else, or_if, some_expr, some_type}
 use Rattle.unit_order.specs.Heads.{file_heads, argument_heads, arguments_heads, binding_heads, bindings_heads, bound_by_item, bound_by_param}
 use Rattle.unit_order.specs.Heads.{bound_by_params, bound_by_sig_item, case_heads, cases_heads, expr_heads, field_heads, fields_heads}
 use Rattle.unit_order.specs.Heads.{functor_param_heads, functor_params_heads, item_heads, items_heads, links_heads, local_heads, maybe_heads}

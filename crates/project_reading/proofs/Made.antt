@@ -2,7 +2,7 @@
 use Rattle.std.proofs.Common.{◌≡◌, ℕ, ◌<◌, List, All, Option, None, map, length, ap, sym, subst, ◌∙◌, true}
 use Rattle.rotor_base.specs.Files.{FileSet, IsProject}
 use Rattle.ml_syntax.specs.Sound.{AreDistinct, IsSound}
-use Rattle.ml_syntax.specs.Tree.{FileTree, UnitTree}
+use Rattle.ml_trees.specs.Tree.{FileTree, UnitTree}
 use Rattle.unit_order.specs.Order.{order_of, takes_all}
 use Rattle.unit_order.specs.Positions.{unit_at, names_at}
 use Rattle.project_reading.specs.Reads.{Reads}

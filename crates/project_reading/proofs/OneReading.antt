@@ -9,7 +9,7 @@ use Rattle.rotor_base.specs.declared.token.FormKind.{FormKind}
 use Rattle.ml_lexer.specs.Lexed.{Lexeme, Bad, LongName}
 use Rattle.ml_lexer.proofs.OneCutting.{one_lexed, one_fault, not_both}
 use Rattle.ml_syntax.specs.RespelledFile.{lexeme_toks}
-use Rattle.ml_syntax.specs.Tree.{FileTree, UnitTree}
+use Rattle.ml_trees.specs.Tree.{FileTree, UnitTree}
 use Rattle.parse_base.specs.Nesting.{IsFirstDeep}
 use Rattle.unit_order.specs.Order.{order_of, takes_all, LiesOnCycle, IsStuck}
 use Rattle.project_reading.specs.Laws.{OneProject, OneRefusal, ReadOrRefused}

@@ -8,9 +8,9 @@ use Rattle.std.specs.declared.cmp.Ordering.TheVariants.{Less, Equal, Greater}
 use Rattle.std.specs.Ordering.{nat_cmp, is_gt, match_ordering}
 use Rattle.std.specs.Cmp.Lexicographic.{slice_cmp}
 use Rattle.std.specs.Str.{bytes_eq}
-use Rattle.ml_syntax.specs.declared.module.UnitTree as trees
-use Rattle.ml_syntax.specs.Tree.{FileTree, UnitTree}
-use Rattle.ml_syntax.specs.View.{view_unit}
+use Rattle.ml_trees.specs.declared.module.UnitTree as trees
+use Rattle.ml_trees.specs.Tree.{FileTree, UnitTree}
+use Rattle.ml_trees.specs.View.{view_unit}
 use Rattle.unit_order.specs.Positions.{views}
 use Rattle.unit_order.proofs.Taken.{position_cons}
 use Rattle.project_reading.specs.Gathered.{with_part, empty_unit, put_part}

@@ -5,8 +5,8 @@ use Rattle.rotor_base.specs.declared.source.SourceFile.{SourceFile}
 use Rattle.rotor_base.specs.declared.token.FormKind.{FormKind}
 use Rattle.rotor_base.specs.declared.token.Token.{Token}
 use Rattle.ml_lexer.specs.Lexed.{Lexed, view_tokens}
-use Rattle.ml_syntax.specs.declared.module.FileTree.{FileTree as Source}
-use Rattle.ml_syntax.specs.View.{view_file}
+use Rattle.ml_trees.specs.declared.module.FileTree.{FileTree as Source}
+use Rattle.ml_trees.specs.View.{view_file}
 use Rattle.parse_base.specs.Forms.{first_form}
 use Rattle.parse_base.specs.Tokens.{from}
 use Rattle.parse_base.specs.Nesting.{DeepIs}

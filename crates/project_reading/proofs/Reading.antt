@@ -6,9 +6,9 @@ use Rattle.rotor_base.specs.declared.refusal.Refusal.{Refusal}
 use Rattle.rotor_base.specs.declared.source.SourceFile.{SourceFile}
 use Rattle.rotor_base.specs.declared.token.Token.{Token}
 use Rattle.ml_lexer.specs.Lexed.{Lexeme, Lexed, view_tokens}
-use Rattle.ml_syntax.specs.declared.module.FileTree.{FileTree as Source}
-use Rattle.ml_syntax.specs.Tree.{FileTree}
-use Rattle.ml_syntax.specs.View.{view_file}
+use Rattle.ml_trees.specs.declared.module.FileTree.{FileTree as Source}
+use Rattle.ml_trees.specs.Tree.{FileTree}
+use Rattle.ml_trees.specs.View.{view_file}
 use Rattle.project_reading.specs.Source.{ReadsAs, IsUnread, IsSourceRefused}
 use Rattle.project_reading.specs.Sources.{ReadAll, FirstUnread, AreCut, AreSourcesRefused}
 

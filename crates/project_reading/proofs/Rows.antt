@@ -15,8 +15,8 @@ use Rattle.ml_lexer.specs.Pieces.{piece_at, lexeme_at, word_at, word_class, mark
 use Rattle.ml_lexer.specs.Pieces.{begins_label, begins_operator, sign_at}
 use Rattle.ml_lexer.specs.Quotes.{char_length, text_end, opens_quoted, closes_quoted, quoted_end, quoted_length}
 use Rattle.ml_lexer.specs.Trivia.{plain_part, comment_part, level_end, comment_length, attribute_part, attribute_length}
-use Rattle.ml_syntax.specs.Tok.{Name}
-use Rattle.ml_syntax.specs.Tree as pure
+use Rattle.ml_trees.specs.Tok.{Name}
+use Rattle.ml_trees.specs.Tree as pure
 use Rattle.parse_module.specs.declared.files.FileKind.TheVariants as kind
 use Rattle.unit_order.specs.Order.{taking, order_of}
 use Rattle.project_reading.specs.Source.{kind_of_source, bad, form, place}

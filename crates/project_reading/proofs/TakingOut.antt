@@ -3,8 +3,8 @@ use Rattle.std.proofs.Common.{◌≡◌, ◌≢◌, ℕ, ◌<◌, List, [], ◌�
 use Rattle.std.proofs.Common.{◌∙◌, arith, length-set}
 use Rattle.std.proofs.lemmas.List.{map-append, get_or-map, get_or-set_other, get_or_default, length-map}
 use Rattle.std.proofs.lemmas.List.Elements.{All-head, All-tail}
-use Rattle.ml_syntax.specs.declared.module.UnitTree as trees
-use Rattle.ml_syntax.specs.View.{view_unit}
+use Rattle.ml_trees.specs.declared.module.UnitTree as trees
+use Rattle.ml_trees.specs.View.{view_unit}
 use Rattle.ml_syntax.specs.Sound.{AreDistinct}
 use Rattle.unit_order.specs.Positions.{blank, unit_at, views}
 

@@ -4,15 +4,15 @@ use Rattle.rotor_base.specs.declared.token.Class.{Class}
 use Rattle.rotor_base.specs.declared.token.Class.TheVariants as class
 use Rattle.rotor_base.specs.declared.token.Token.{Token}
 use Rattle.ml_lexer.specs.Lexed.{Lexeme, view_token, view_tokens}
-use Rattle.ml_syntax.specs.Tok.{Name, Tok, fixed, placed, word, toks_from}
+use Rattle.ml_trees.specs.Tok.{Name, Tok, fixed, placed, word, toks_from}
 use Rattle.ml_syntax.specs.Respelled.{Spelling, spelled, spell_tok}
 use Rattle.ml_syntax.specs.RespelledFile.{lexeme_toks}
 use Rattle.parse_base.specs.Forms.{first_form}
 use Rattle.parse_base.specs.Tokens.{lexeme, from}
-use Rattle.parse_base.specs.Kept.{touches, AreAlike}
+use Rattle.respelled_tokens.specs.Kept.{touches, AreAlike}
 use Rattle.parse_base.specs.Nesting.{DeepIs}
-use Rattle.parse_base.proofs.FormsKept.{forms_are_kept}
-use Rattle.parse_base.proofs.Kept.{nesting_is_kept}
+use Rattle.respelled_tokens.proofs.FormsKept.{forms_are_kept}
+use Rattle.respelled_tokens.proofs.Kept.{nesting_is_kept}
 use Rattle.project_reading.specs.Source.{token_of, tokens_of, form_among, IsDeepAt}
 
 touch : (t : Token) (ts : List Token) → touches (token_of (view_token t)) (tokens_of (view_tokens ts)) ≡ touches t ts

@@ -18,7 +18,7 @@ use Rattle.ml_lexer.proofs.OneCutting.{one_lexed}
 use Rattle.ml_syntax.specs.Places.{sites}
 use Rattle.ml_syntax.specs.Respelled.{Spelling, spell_file}
 use Rattle.ml_syntax.specs.RespelledFile.{lexeme_toks, new_words, ChangesNames}
-use Rattle.ml_syntax.specs.Tree.{FileTree, Body, Face, UnitTree}
+use Rattle.ml_trees.specs.Tree.{FileTree, Body, Face, UnitTree}
 use Rattle.ml_syntax.proofs.RespelledNames.{respelled_names_are_read}
 use Rattle.parse_module.specs.declared.files.FileKind.{FileKind}
 use Rattle.parse_module.specs.declared.files.FileKind.TheVariants as kind

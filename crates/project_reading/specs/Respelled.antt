@@ -7,7 +7,7 @@ use Rattle.ml_syntax.specs.Places.{sites}
 use Rattle.ml_syntax.specs.Respelled.{spell_file}
 use Rattle.ml_syntax.specs.RespelledFile.{new_words, ChangesNames}
 use Rattle.ml_syntax.specs.RespelledSource.{Spellings, AreRespelled}
-use Rattle.ml_syntax.specs.Tree.{FileTree, Body, Face, UnitTree}
+use Rattle.ml_trees.specs.Tree.{FileTree, Body, Face, UnitTree}
 use Rattle.project_reading.specs.Reads.{Reads}
 use Rattle.project_reading.specs.Sources.{AreCut}
 

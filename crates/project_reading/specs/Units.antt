@@ -8,7 +8,7 @@ use Rattle.std.specs.Str.{bytes_eq}
 use Rattle.rotor_base.specs.Stem.{is_body_name}
 use Rattle.rotor_base.specs.Unit.{unit_of}
 use Rattle.rotor_base.specs.declared.source.SourceFile.{SourceFile}
-use Rattle.ml_syntax.specs.Tree.{FileTree, UnitTree}
+use Rattle.ml_trees.specs.Tree.{FileTree, UnitTree}
 use Rattle.std.specs.Bool.{beq}
 use Rattle.unit_order.specs.Positions.{blank}
 

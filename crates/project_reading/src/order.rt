@@ -10,7 +10,7 @@ ghost use Rattle.unit_order.specs.Order.{IsListed, order_of, takes_all};
 ghost use Rattle.unit_order.specs.Positions.{names_at, unit_at, views};
 ghost use Rattle.project_reading.specs.Reads.{IsOrderRefused};
 
-use ml_syntax::UnitTree;
+use ml_trees::UnitTree;
 use rotor_base::{Memory, Refusal};
 use std::alloc::Global;
 use unit_order::{OrderError, order};

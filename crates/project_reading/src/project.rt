@@ -3,14 +3,14 @@
 ghost use Rattle.std.specs.Prelude.{IfErr, IfOk, map};
 ghost use Rattle.ml_lexer.specs.Lexed.{view_tokens};
 ghost use Rattle.ml_syntax.specs.Sound.{IsSound};
-ghost use Rattle.ml_syntax.specs.View.{view_project};
+ghost use Rattle.ml_trees.specs.View.{view_project};
 ghost use Rattle.project_reading.specs.Reads.{IsRefused, Reads};
 ghost use Rattle.project_reading.specs.Sources.{AreCut};
 
 use crate::order::{link_order, units_at};
 use crate::sources::read_sources;
 use crate::units::gathered;
-use ml_syntax::Project;
+use ml_trees::Project;
 use rotor_base::{Files, Refusal, Token};
 use std::alloc::Global;
 

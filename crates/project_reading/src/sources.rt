@@ -4,12 +4,12 @@ ghost use Rattle.std.specs.Prelude.{◌≡◌, ◌≤◌, All, IfErr, IfOk, leng
 ghost use Rattle.rotor_base.specs.Limits.{max_file_bytes, max_sources};
 ghost use Rattle.rotor_base.specs.Stem.{is_body_name};
 ghost use Rattle.ml_lexer.specs.Lexed.{Lexed, view_tokens};
-ghost use Rattle.ml_syntax.specs.View.{view_file};
+ghost use Rattle.ml_trees.specs.View.{view_file};
 ghost use Rattle.project_reading.specs.Source.{IsSourceRefused, ReadsAs, kind_of_source};
 ghost use Rattle.project_reading.specs.Sources.{AreCut, AreSourcesRefused, ReadAll};
 
 use ml_lexer::{LexError, lex};
-use ml_syntax::FileTree;
+use ml_trees::FileTree;
 use parse_base::ParseError;
 use parse_module::{FileKind, parse_file};
 use rotor_base::{Place, Refusal, SourceFile, Token, is_body};

@@ -4,12 +4,12 @@ ghost use Rattle.std.specs.Prelude.{◌≡◌, IfOk, OnOk, length, map, not};
 ghost use Rattle.std.specs.List.{position};
 ghost use Rattle.std.specs.Ordering.{is_gt, nat_cmp};
 ghost use Rattle.std.specs.Cmp.Lexicographic.{slice_cmp};
-ghost use Rattle.ml_syntax.specs.View.{view_file, view_unit};
+ghost use Rattle.ml_trees.specs.View.{view_file, view_unit};
 ghost use Rattle.unit_order.specs.Positions.{views};
 ghost use Rattle.project_reading.specs.Gathered.{put_part, with_part, empty_unit};
 ghost use Rattle.project_reading.specs.Units.{units_of};
 
-use ml_syntax::{FileTree, UnitTree};
+use ml_trees::{FileTree, UnitTree};
 use rotor_base::{Memory, Name, SourceFile, source_unit};
 use std::alloc::Global;
 use std::cmp::Ordering;

@@ -4,7 +4,7 @@ use Rattle.std.specs.Prelude.{◌≡◌, ℕ, ◌+◌, List, [], ◌∷◌, ◌+
 use Rattle.rotor_base.specs.Files.{FileSet}
 use Rattle.rotor_base.specs.declared.source.SourceFile.{SourceFile}
 use Rattle.ml_lexer.specs.Lexed.{Lexeme}
-use Rattle.ml_syntax.specs.Tree.{UnitTree}
+use Rattle.ml_trees.specs.Tree.{UnitTree}
 use Rattle.binding_model.specs.Facts.{in_order}
 use Rattle.project_reading.specs.Reads.{Reads}
 use Rattle.project_reading.specs.Sources.{AreCut}

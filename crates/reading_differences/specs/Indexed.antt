@@ -4,7 +4,7 @@ use Rattle.std.specs.Prelude.{ℕ, ◌+◌, List, [], ◌∷◌, ◌++◌, Bool,
 use Rattle.std.specs.Str.{bytes_eq}
 use Rattle.rotor_base.specs.declared.place.Place.{Place}
 use Rattle.ml_lexer.specs.Lexed.{Lexeme}
-use Rattle.ml_syntax.specs.Tree.{FileTree, UnitTree}
+use Rattle.ml_trees.specs.Tree.{FileTree, UnitTree}
 use Rattle.binding_model.specs.Facts.{earlier}
 use Rattle.module_openings.specs.Lexemes.{is, is_lower, is_upper}
 use Rattle.module_openings.specs.Sources.{file_of, lexemes_of}

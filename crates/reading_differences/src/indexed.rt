@@ -2,13 +2,13 @@
 ghost use Rattle.std.specs.Prelude.{◌≡◌, ◌++◌, ◌≤◌, All, IfOk, None, OnOk, Some, false, length, map};
 ghost use Rattle.rotor_base.specs.Limits.{max_file_bytes};
 ghost use Rattle.ml_lexer.specs.Lexed.{view_token, view_tokens};
-ghost use Rattle.ml_syntax.specs.View.{view_part_of, view_unit};
+ghost use Rattle.ml_trees.specs.View.{view_part_of, view_unit};
 ghost use Rattle.binding_model.specs.Facts.{earlier as earlier_of, is_before as is_before_of};
 ghost use Rattle.module_openings.specs.Sources.{lexemes_of};
 ghost use Rattle.reading_differences.specs.Indexed.{bracket_of, brings as brings_of, declared_in as declared_in_of, declares as declares_of, declares_file as declares_file_of, declares_unit as declares_unit_of, first_index as first_index_of, first_place as first_place_of, index_in as index_in_of, indexes, indexing, module_of, opens_index as opens_index_of, opens_module as opens_module_of, opens_path as opens_path_of};
 
 use crate::difference::{Difference, Indexed, Parting};
-use ml_syntax::{FileTree, UnitTree};
+use ml_trees::{FileTree, UnitTree};
 use module_openings::{file_number, is_lower, is_upper, is_word};
 use rotor_base::{Memory, Place, Token};
 use std::alloc::Global;

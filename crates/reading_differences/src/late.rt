@@ -3,13 +3,13 @@ ghost use Rattle.std.specs.Prelude.{◌≡◌, ◌++◌, ◌≤◌, All, IfOk, O
 ghost use Rattle.std.specs.Option.{option_copied};
 ghost use Rattle.rotor_base.specs.Limits.{max_file_bytes};
 ghost use Rattle.ml_lexer.specs.Lexed.{view_tokens};
-ghost use Rattle.ml_syntax.specs.View.{view_part_of, view_unit};
+ghost use Rattle.ml_trees.specs.View.{view_part_of, view_unit};
 ghost use Rattle.unit_order.specs.Heads.{unit_heads};
 ghost use Rattle.module_openings.specs.Sources.{lexemes_of};
 ghost use Rattle.reading_differences.specs.Late.{first_head as first_head_of, head_in as head_in_of, late, late_behind, late_head as late_head_of, late_needs, needed_head};
 
 use crate::difference::{Difference, Parting};
-use ml_syntax::{FileTree, UnitTree};
+use ml_trees::{FileTree, UnitTree};
 use module_openings::{file_number, is_among, is_upper, is_word};
 use rotor_base::{Memory, Name, Place, Token};
 use std::alloc::Global;

@@ -2,7 +2,7 @@
 ghost use Rattle.std.specs.Prelude.{◌≡◌, ◌++◌, ◌≤◌, All, IfOk, OnOk, is_some, length, map};
 ghost use Rattle.rotor_base.specs.Limits.{max_file_bytes, max_sources};
 ghost use Rattle.ml_lexer.specs.Lexed.{view_tokens};
-ghost use Rattle.ml_syntax.specs.View.{view_project, view_unit};
+ghost use Rattle.ml_trees.specs.View.{view_project, view_unit};
 ghost use Rattle.binding_model.specs.Facts.{in_order};
 ghost use Rattle.project_reading.specs.Sources.{AreCut};
 ghost use Rattle.reading_differences.specs.Comments.{comments_in};
@@ -15,7 +15,7 @@ use crate::comments::add_comments;
 use crate::difference::{Difference, Indexed, Parting};
 use crate::indexed::add_indexing;
 use crate::late::add_late_needs;
-use ml_syntax::UnitTree;
+use ml_trees::UnitTree;
 use module_openings::{OpenedUse, opened_uses};
 use project_reading::Read;
 use rotor_base::{Files, Memory, Name, Row, SourceFile, Token};

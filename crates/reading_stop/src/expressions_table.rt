@@ -3,7 +3,7 @@
 use crate::lows_table::lows;
 use crate::rule::Rule;
 use crate::step::{Form, Step, Trait, Want};
-use ml_syntax::Fixed;
+use ml_trees::Fixed;
 use rotor_base::Class;
 
 /// The steps of a rule: the rules of expressions; or of another.

@@ -3,7 +3,7 @@
 use crate::expressions_table::expressions;
 use crate::rule::Rule;
 use crate::step::{Form, Step, Trait, Want};
-use ml_syntax::Fixed;
+use ml_trees::Fixed;
 
 /// The steps of a rule: the rules of operators, by their levels; or of another.
 pub(crate) fn levels(rule: Rule) -> &'static [Step] {

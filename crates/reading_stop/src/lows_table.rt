@@ -3,7 +3,7 @@
 use crate::modules_table::modules;
 use crate::rule::Rule;
 use crate::step::{Step, Trait, Want};
-use ml_syntax::Fixed;
+use ml_trees::Fixed;
 use rotor_base::Class;
 
 /// The steps of a rule: the rules of expressions that begin with a keyword; or of another.

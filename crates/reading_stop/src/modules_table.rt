@@ -2,7 +2,7 @@
 
 use crate::rule::Rule;
 use crate::step::{Step, Want};
-use ml_syntax::Fixed;
+use ml_trees::Fixed;
 use rotor_base::Class;
 
 /// The steps of a rule: the rules of files, items, modules and module types; or of another.

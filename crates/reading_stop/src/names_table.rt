@@ -3,7 +3,7 @@
 use crate::patterns_table::patterns;
 use crate::rule::Rule;
 use crate::step::{Step, Want};
-use ml_syntax::Fixed;
+use ml_trees::Fixed;
 use rotor_base::Class;
 
 /// The steps of a rule: the rules of names, paths and types; or of another.

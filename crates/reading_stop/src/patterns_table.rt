@@ -3,7 +3,7 @@
 use crate::levels_table::levels;
 use crate::rule::Rule;
 use crate::step::{Form, Step, Want};
-use ml_syntax::Fixed;
+use ml_trees::Fixed;
 use rotor_base::Class;
 
 /// The steps of a rule: the rules of patterns and parameters; or of another.

@@ -1,7 +1,7 @@
 //! The steps of rules.
 
 use crate::rule::Rule;
-use ml_syntax::Fixed;
+use ml_trees::Fixed;
 use rotor_base::Class;
 
 /// What a token has to be.

@@ -2,7 +2,7 @@
 
 use crate::step::Want;
 use expr_parts::level_at;
-use ml_syntax::Fixed;
+use ml_trees::Fixed;
 use parse_base::{Kind, is, is_minus, is_operator, kind_at};
 use rotor_base::{Class, Token};
 

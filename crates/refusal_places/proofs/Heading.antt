@@ -3,8 +3,8 @@ use Rattle.std.proofs.Common.{◌≡◌, ℕ, ◌+◌, List, [], Some, length, a
 use Rattle.rotor_base.specs.declared.token.Token.{Token}
 use Rattle.ml_lexer.specs.Lexed.{view_tokens}
 use Rattle.ml_syntax.specs.RespelledFile.{lexeme_toks}
-use Rattle.ml_syntax.specs.Tok.{Tok}
-use Rattle.ml_syntax.specs.Tree.{Items, SigItems}
+use Rattle.ml_trees.specs.Tok.{Tok}
+use Rattle.ml_trees.specs.Tree.{Items, SigItems}
 use Rattle.parse_base.specs.Tokens.{from}
 use Rattle.parse_base.proofs.Stepping.{some_is}
 use Rattle.parse_module.specs.declared.files.FileKind.TheVariants as kind

@@ -4,8 +4,8 @@ use Rattle.std.proofs.lemmas.List.{length-map}
 use Rattle.rotor_base.specs.declared.token.Class.{Class}
 use Rattle.ml_lexer.specs.Lexed.{Lexeme}
 use Rattle.ml_syntax.specs.RespelledFile.{lexeme_toks}
-use Rattle.ml_syntax.specs.Tok.{Tok}
-use Rattle.ml_syntax.specs.Tree.{Body, Face, FileTree, Items, SigItems}
+use Rattle.ml_trees.specs.Tok.{Tok}
+use Rattle.ml_trees.specs.Tree.{Body, Face, FileTree, Items, SigItems}
 use Rattle.parse_module.specs.declared.files.FileKind.{FileKind}
 use Rattle.parse_module.specs.declared.files.FileKind.TheVariants as kind
 use Rattle.parse_module.specs.ModReading.{body_start, face_start, read_body, read_face, whole_body, whole_face}

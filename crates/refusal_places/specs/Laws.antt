@@ -3,9 +3,9 @@
 use Rattle.std.specs.Prelude.{◌≡◌, ◌↔◌, ℕ, List, length, true}
 use Rattle.ml_lexer.specs.Lexed.{Lexeme}
 use Rattle.ml_syntax.specs.RespelledFile.{lexeme_toks}
-use Rattle.ml_syntax.specs.Tree.{FileTree, Items, SigItems}
-use Rattle.ml_syntax.specs.WellFormed.{WfItems, WfSigItems}
-use Rattle.ml_syntax.specs.Words.{items_then, sig_items_then}
+use Rattle.ml_trees.specs.Tree.{FileTree, Items, SigItems}
+use Rattle.ml_trees.specs.WellFormed.{WfItems, WfSigItems}
+use Rattle.ml_trees.specs.Words.{items_then, sig_items_then}
 use Rattle.parse_module.specs.declared.files.FileKind.{FileKind}
 use Rattle.parse_module.specs.declared.files.FileKind.TheVariants as kind
 use Rattle.parse_module.specs.Whole.{IsTreeOf}

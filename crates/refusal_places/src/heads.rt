@@ -2,13 +2,13 @@
 ghost use Rattle.std.specs.Prelude.{◌≡◌, ◌≤◌, ◌+◌, [], All, IfOk, length, map};
 ghost use Rattle.rotor_base.specs.Limits.{max_file_bytes};
 ghost use Rattle.ml_lexer.specs.Lexed.{view_tokens};
-ghost use Rattle.ml_syntax.specs.View.{view_unit};
+ghost use Rattle.ml_trees.specs.View.{view_unit};
 ghost use Rattle.unit_order.specs.Heads.{unit_heads};
 ghost use Rattle.refusal_words.specs.Cut.{view_cut};
 ghost use Rattle.refusal_places.specs.Heads.{cut_heads as cut_heads_of, heads_of as heads_for};
 
 use crate::unread::kind_of;
-use ml_syntax::{FileTree, UnitTree};
+use ml_trees::{FileTree, UnitTree};
 use need_chains::UnitHeads;
 use parse_module::{FileKind, body_items, face_items};
 use refusal_words::CutSource;

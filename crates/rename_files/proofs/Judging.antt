@@ -13,7 +13,7 @@ use Rattle.rotor_base.specs.Files.{are_over, first_with, too_large, names_of}
 use Rattle.dependency_kernel.specs.Foot.{IsFoot}
 use Rattle.ml_syntax.specs.RespelledSource.{AreRespelled, Spellings}
 use Rattle.ml_syntax.specs.Sound.{IsSound}
-use Rattle.ml_syntax.specs.Tree.{UnitTree}
+use Rattle.ml_trees.specs.Tree.{UnitTree}
 use Rattle.shape_core.specs.Shape.{Name}
 use Rattle.binding_model.specs.Facts.{facts}
 use Rattle.binding_model.specs.Renaming.{IsBinder}

@@ -9,7 +9,7 @@ use Rattle.rotor_base.specs.declared.target.Target.{Target}
 use Rattle.rotor_base.specs.Files.{FileSet}
 use Rattle.dependency_kernel.specs.Foot.{IsFoot}
 use Rattle.dependency_kernel.proofs.Only.{is_the_only}
-use Rattle.ml_syntax.specs.Tree.{UnitTree}
+use Rattle.ml_trees.specs.Tree.{UnitTree}
 use Rattle.shape_core.specs.Shape.{Name}
 use Rattle.binding_model.specs.Facts.{facts}
 use Rattle.project_reading.specs.Reads.{Reads}

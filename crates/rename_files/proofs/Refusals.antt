@@ -3,7 +3,7 @@ use Rattle.std.proofs.Common.{inl, inr, List, Err}
 use Rattle.rotor_base.specs.declared.refusal.Refusal.{Refusal}
 use Rattle.rotor_base.specs.declared.target.Target.{Target}
 use Rattle.rotor_base.specs.Files.{FileSet}
-use Rattle.ml_syntax.specs.Tree.{UnitTree}
+use Rattle.ml_trees.specs.Tree.{UnitTree}
 use Rattle.project_reading.specs.Reads.{Reads, IsRefused}
 use Rattle.rename_model.specs.Project.{refusals_of_project}
 use Rattle.rename_model.specs.Renaming.{HasNoTarget}

@@ -2,7 +2,7 @@
 use Rattle.std.specs.Prelude.{List}
 use Rattle.rotor_base.specs.declared.refusal.Refusal.{Refusal}
 use Rattle.rotor_base.specs.declared.looks.Watch.{Watch}
-use Rattle.ml_syntax.specs.Tree.{UnitTree}
+use Rattle.ml_trees.specs.Tree.{UnitTree}
 use Rattle.capture_check.specs.Fault.{before}
 use Rattle.rename_model.specs.Ladder.{no_more}
 use Rattle.rename_model.specs.Renaming.{IsClash, IsCapture, IsMislink, renamed}

@@ -1,6 +1,6 @@
 -- Runs that are kept twice are kept.
 use Rattle.std.proofs.Common.{◌≡◌, ◌∙◌, List, ap}
-use Rattle.ml_syntax.specs.Tree.{UnitTree}
+use Rattle.ml_trees.specs.Tree.{UnitTree}
 use Rattle.module_meaning.specs.Run.{run}
 use Rattle.project_reading.proofs.OneReading.{one_project}
 use Rattle.rename_laws.specs.Laws.{KeptRunsGoOn}

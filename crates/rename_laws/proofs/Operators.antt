@@ -23,12 +23,12 @@ use Rattle.lexeme_laws.specs.Table.{IsLabel, IsOfClass, is_word, is_prefix, is_i
 use Rattle.lexeme_laws.proofs.NotBad.{lexemes_are_not_bad}
 use Rattle.lexeme_laws.proofs.Taken.{lexemes_begin}
 use Rattle.lexeme_laws.proofs.Tests.{among_fails, not_true, or_cases}
-use Rattle.ml_syntax.specs.declared.fixed.Fixed.{Fixed}
-use Rattle.ml_syntax.specs.Tok.{Name, Tok, fixed, placed, word, is_placed, fixed_of, tok_or, tok, toks_from}
-use Rattle.ml_syntax.specs.Tree.{FileTree, Body, Face, UnitTree}
-use Rattle.ml_syntax.specs.Words.{words}
-use Rattle.ml_syntax.specs.WellFormed.{keyword_level}
-use Rattle.ml_syntax.specs.Runs.{has_colon}
+use Rattle.ml_trees.specs.declared.fixed.Fixed.{Fixed}
+use Rattle.ml_trees.specs.Tok.{Name, Tok, fixed, placed, word, is_placed, fixed_of, tok_or, tok, toks_from}
+use Rattle.ml_trees.specs.Tree.{FileTree, Body, Face, UnitTree}
+use Rattle.ml_trees.specs.Words.{words}
+use Rattle.ml_trees.specs.WellFormed.{keyword_level}
+use Rattle.ml_trees.specs.Runs.{has_colon}
 use Rattle.ml_syntax.specs.Places.{Site, sites, without_colon, label_name}
 use Rattle.ml_syntax.specs.Sound.{IsLexeme, AreNumbered, IsSound, IsSoundFile, IsSoundUnit, IsBodyPart, IsFacePart}
 use Rattle.ml_syntax.specs.Each.{Each}

@@ -22,7 +22,7 @@ use Rattle.ml_lexer.specs.Lexed.{Lexeme, Lexed}
 use Rattle.ml_lexer.specs.Respelled.{respelled}
 use Rattle.ml_lexer.proofs.OneCutting.{one_lexed}
 use Rattle.ml_syntax.specs.RespelledSource.{IsRespelled, AreRespelled}
-use Rattle.ml_syntax.specs.Tree.{UnitTree}
+use Rattle.ml_trees.specs.Tree.{UnitTree}
 use Rattle.shape_core.specs.Shape.{Name, none}
 use Rattle.shape_core.specs.Respell.{Words}
 use Rattle.binding_model.specs.Scopes.{after_units}

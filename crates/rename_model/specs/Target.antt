@@ -9,7 +9,7 @@ use Rattle.rotor_base.specs.declared.target.Target.{Target}
 use Rattle.rotor_base.specs.declared.target.Target.TheVariants.{At, Spot, Dotted}
 use Rattle.rotor_base.specs.Files.{FileSet}
 use Rattle.ml_lexer.specs.Lexed.{Lexeme, Lexed}
-use Rattle.ml_syntax.specs.Tree.{UnitTree}
+use Rattle.ml_trees.specs.Tree.{UnitTree}
 use Rattle.shape_core.specs.Shape.{Name, Opaque, Entries, none, or_else, or_value, find_val, find_mod, find_mty, entries_in}
 use Rattle.binding_model.specs.Scopes.{after_units}
 use Rattle.binding_model.specs.Renaming.{IsBinder}

@@ -8,7 +8,7 @@ use Rattle.rotor_base.specs.Place.{place_cmp}
 use Rattle.dependency_kernel.proofs.Below.{FoundBelow, found_none, found_more, found_last, found_split, found_all, found_within}
 use Rattle.ml_syntax.specs.declared.place.Mark.{Mark}
 use Rattle.ml_syntax.specs.Places.{Site, mark, sites, binder_sites, use_sites}
-use Rattle.ml_syntax.specs.Tree.{FileTree, Body, Face, UnitTree}
+use Rattle.ml_trees.specs.Tree.{FileTree, Body, Face, UnitTree}
 use Rattle.binding_model.specs.Facts.{earlier}
 use Rattle.binding_model.specs.Scopes.{here}
 use Rattle.binding_model.specs.Renaming.{placed_sites, file_places}

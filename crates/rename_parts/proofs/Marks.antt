@@ -7,7 +7,7 @@ use Rattle.rotor_base.specs.Place.{same_place}
 use Rattle.ml_syntax.specs.declared.place.Mark.{Mark}
 use Rattle.ml_syntax.specs.Places.{Site, mark, sites, binder_sites}
 use Rattle.ml_syntax.specs.Sound.{IsSound}
-use Rattle.ml_syntax.specs.Tree.{FileTree, Body, Face, UnitTree}
+use Rattle.ml_trees.specs.Tree.{FileTree, Body, Face, UnitTree}
 use Rattle.shape_core.specs.Shape.{or_else, some_if}
 use Rattle.shape_core.specs.Respell.{over}
 use Rattle.ml_syntax.specs.Each.{Each}

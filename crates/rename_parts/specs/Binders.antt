@@ -3,7 +3,7 @@ use Rattle.std.specs.Prelude.{◌≡◌, List, Option, Some, None, true, filter}
 use Rattle.rotor_base.specs.declared.place.Place.{Place}
 use Rattle.ml_syntax.specs.declared.place.Mark.{Mark}
 use Rattle.ml_syntax.specs.Places.{Site, mark}
-use Rattle.ml_syntax.specs.Tree.{UnitTree}
+use Rattle.ml_trees.specs.Tree.{UnitTree}
 use Rattle.shape_core.specs.Respell.{over}
 use Rattle.binding_model.specs.Renaming.{IsBinder}
 use Rattle.binding_model.specs.Renaming.{places, at_place}

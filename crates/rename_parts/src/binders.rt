@@ -1,14 +1,15 @@
 //! The binders of a project.
 
 ghost use Rattle.std.specs.Prelude.{◌≡◌, ◌<◌, ◌==◌, ◌++◌, IfOk, IfSome, OnOk, Some, length, map};
-ghost use Rattle.ml_syntax.specs.View.{view_project, view_part_of, view_file};
+ghost use Rattle.ml_trees.specs.View.{view_project, view_part_of, view_file};
 ghost use Rattle.ml_syntax.specs.Sound.{IsSound};
 ghost use Rattle.binding_model.specs.Renaming.{places, file_places};
 ghost use Rattle.capture_check.specs.Tables.{number_of};
 ghost use Rattle.rename_model.specs.Target.{first_at};
 ghost use Rattle.rename_parts.specs.Binders.{binding, mark_at, IsMarkAt};
 
-use ml_syntax::{FileTree, Mark, Project, binders};
+use ml_syntax::{Mark, binders};
+use ml_trees::{FileTree, Project};
 use rotor_base::{Memory, Place};
 use std::alloc::Global;
 

@@ -5,7 +5,7 @@ ghost use Rattle.binding_model.specs.Facts.{earlier};
 ghost use Rattle.std.specs.BTreeSet.{contains};
 ghost use Rattle.std.specs.List.{list_any};
 ghost use Rattle.rotor_base.specs.Place.{place_cmp};
-ghost use Rattle.ml_syntax.specs.View.{view_project, view_part_of, view_file};
+ghost use Rattle.ml_trees.specs.View.{view_project, view_part_of, view_file};
 ghost use Rattle.binding_model.specs.Renaming.{file_places};
 ghost use Rattle.binding_model.specs.Scopes.{here};
 ghost use Rattle.rename_parts.specs.Hits.{all_hits, hits_in};
@@ -14,7 +14,8 @@ ghost use Rattle.rename_parts.specs.declared.checks.Hit.{Hit};
 
 use crate::binders::number_of_file;
 use crate::leasts::earlier;
-use ml_syntax::{FileTree, Mark, Project, binders, value_refs};
+use ml_syntax::{Mark, binders, value_refs};
+use ml_trees::{FileTree, Project};
 use rotor_base::{Memory, Place};
 use std::alloc::Global;
 use std::collections::BTreeSet;

@@ -1,14 +1,14 @@
 //! The first name that occurs twice in a group of a project.
 
 ghost use Rattle.std.specs.Prelude.{◌≡◌, IfOk};
-ghost use Rattle.ml_syntax.specs.View.{view_project};
+ghost use Rattle.ml_trees.specs.View.{view_project};
 ghost use Rattle.ml_syntax.specs.Sound.{IsSound};
 ghost use Rattle.binding_model.specs.Facts.{facts};
 ghost use Rattle.binding_model.specs.Renaming.{name_of};
 ghost use Rattle.capture_check.specs.Firsts.{IsFirstRepeat};
 
 use capture_check::{Repeat, first_repeat, names_of};
-use ml_syntax::Project;
+use ml_trees::Project;
 use rotor_base::{Memory, Place, Row};
 use std::alloc::Global;
 

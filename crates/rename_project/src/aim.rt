@@ -4,7 +4,7 @@ ghost use Rattle.std.specs.Prelude.{◌≡◌, IfErr, IfNone, IfOk, IfSome, Some
 ghost use Rattle.rotor_base.specs.declared.place.Place.{Place};
 ghost use Rattle.ml_lexer.specs.Lexed.{view_tokens};
 ghost use Rattle.ml_syntax.specs.Sound.{IsSound};
-ghost use Rattle.ml_syntax.specs.View.{view_project};
+ghost use Rattle.ml_trees.specs.View.{view_project};
 ghost use Rattle.shape_core.specs.Node.{entries_of};
 ghost use Rattle.shape_core.specs.Shape.{none};
 ghost use Rattle.shape_core.specs.Respell.{over};

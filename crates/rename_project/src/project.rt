@@ -2,7 +2,7 @@
 
 ghost use Rattle.std.specs.Prelude.{◌≡◌, None, Some, IfErr, IfOk, OnOk};
 ghost use Rattle.ml_syntax.specs.Sound.{IsSound};
-ghost use Rattle.ml_syntax.specs.View.{view_project};
+ghost use Rattle.ml_trees.specs.View.{view_project};
 ghost use Rattle.shape_core.specs.Node.{entries_of};
 ghost use Rattle.shape_core.specs.Shape.{none};
 ghost use Rattle.binding_model.specs.Facts.{facts, least, unmatched_items};
@@ -13,7 +13,7 @@ ghost use Rattle.binding_model.specs.Sums.{heavy};
 ghost use Rattle.rename_model.specs.Project.{IsDuplicate, IsHeavy, refusals_of_project};
 ghost use Rattle.rename_project.specs.Steps.{IsRefusedFor, IsFreeOf};
 
-use ml_syntax::Project;
+use ml_trees::Project;
 use mod_shape::{Resolved, facts, groups};
 use rename_parts::{first_duplicate, least_unmatched};
 use rotor_base::{Link, Refusal};

@@ -17,7 +17,7 @@ use Rattle.ml_syntax.specs.Each.{Each}
 use Rattle.ml_syntax.specs.Places.{label_name}
 use Rattle.ml_syntax.specs.Respelled.{Spelling}
 use Rattle.ml_syntax.specs.Sound.{IsSound}
-use Rattle.ml_syntax.specs.Tree.{UnitTree}
+use Rattle.ml_trees.specs.Tree.{UnitTree}
 use Rattle.shape_core.specs.Respell.{Words}
 use Rattle.shape_core.specs.Shape.{Name, or_value}
 use Rattle.binding_model.specs.Renaming.{IsBinder}

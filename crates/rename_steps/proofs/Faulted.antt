@@ -4,7 +4,7 @@ use Rattle.rotor_base.specs.declared.place.Goal.TheVariants.{Decl, Outside, Miss
 use Rattle.rotor_base.specs.declared.looks.Watch.{Watch}
 use Rattle.rotor_base.specs.declared.refusal.Refusal.{Refusal}
 use Rattle.rotor_base.specs.declared.refusal.Refusal.TheVariants as refusal
-use Rattle.ml_syntax.specs.Tree.{UnitTree}
+use Rattle.ml_trees.specs.Tree.{UnitTree}
 use Rattle.binding_model.specs.Facts.{facts}
 use Rattle.binding_model.specs.Renaming.{name_of}
 use Rattle.capture_check.specs.declared.fault.Fault.{Fault}

@@ -13,7 +13,7 @@ use Rattle.rotor_base.specs.declared.place.Facts.{Facts}
 use Rattle.rotor_base.specs.declared.refusal.Refusal.TheVariants as refusal
 use Rattle.ml_syntax.specs.Places.{Site}
 use Rattle.ml_syntax.specs.Sound.{IsSound}
-use Rattle.ml_syntax.specs.Tree.{UnitTree}
+use Rattle.ml_trees.specs.Tree.{UnitTree}
 use Rattle.shape_core.specs.Shape.{or_else, some_if}
 use Rattle.binding_model.specs.Facts.{facts}
 use Rattle.binding_model.specs.Renaming.{places, file_places, at_place, HasBehind, IsBlur}

@@ -4,7 +4,7 @@ ghost use Rattle.std.specs.Prelude.{◌≡◌, ◌⊎◌, Contains, IfErr, IfOk,
 ghost use Rattle.std.specs.List.{list_any};
 ghost use Rattle.rotor_base.specs.Name.{is_value_name};
 ghost use Rattle.ml_syntax.specs.Sound.{IsSound};
-ghost use Rattle.ml_syntax.specs.View.{view_project};
+ghost use Rattle.ml_trees.specs.View.{view_project};
 ghost use Rattle.rotor_base.specs.declared.place.Place.{Place};
 ghost use Rattle.binding_model.specs.Facts.{facts as facts_of};
 ghost use Rattle.binding_model.specs.Renaming.{name_of};
@@ -16,7 +16,7 @@ ghost use Rattle.watched.specs.Members.{HasPlaces};
 ghost use Rattle.rename_parts.specs.Members.{IsSetOf};
 ghost use Rattle.rename_steps.specs.Findings.{IsFree, IsRefused, refusal_of};
 
-use ml_syntax::Project;
+use ml_trees::Project;
 use rename_parts::{Hit, has_operator, hit_marks, hit_places, least_blurred, least_pun};
 use rotor_base::{Facts, Place, Refusal, Watch, is_name};
 use std::alloc::Global;

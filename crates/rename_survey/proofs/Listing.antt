@@ -3,7 +3,7 @@ use Rattle.std.proofs.Common.{◌≡◌, ℕ, List, [], ◌∷◌, ◌++◌, Som
 use Rattle.rotor_base.specs.declared.place.Place.{Place}
 use Rattle.ml_syntax.specs.declared.place.Mark.{Mark}
 use Rattle.ml_syntax.specs.Places.{Site, mark, binder_sites}
-use Rattle.ml_syntax.specs.Tree.{FileTree, UnitTree}
+use Rattle.ml_trees.specs.Tree.{FileTree, UnitTree}
 use Rattle.binding_model.specs.Renaming.{places, placed_sites, file_places}
 use Rattle.binding_model.specs.Scopes.{here}
 use Rattle.capture_check.specs.Tables.{number_of}

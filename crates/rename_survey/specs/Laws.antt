@@ -2,7 +2,7 @@
 use Rattle.std.specs.Prelude.{List}
 use Rattle.rotor_base.specs.Files.{FileSet}
 use Rattle.ml_syntax.specs.Each.{Each}
-use Rattle.ml_syntax.specs.Tree.{UnitTree}
+use Rattle.ml_trees.specs.Tree.{UnitTree}
 use Rattle.binding_model.specs.Renaming.{IsBinder}
 use Rattle.project_reading.specs.Reads.{Reads}
 use Rattle.rename_survey.specs.declared.answer.Survey.{Survey}

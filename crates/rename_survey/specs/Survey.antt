@@ -5,8 +5,8 @@ use Rattle.rotor_base.specs.declared.refusal.Refusal.{Refusal}
 use Rattle.rotor_base.specs.Files.{FileSet}
 use Rattle.ml_syntax.specs.Places.{Site}
 use Rattle.ml_syntax.specs.Sound.{IsSound}
-use Rattle.ml_syntax.specs.Tree.{UnitTree}
-use Rattle.ml_syntax.specs.View.{view_project}
+use Rattle.ml_trees.specs.Tree.{UnitTree}
+use Rattle.ml_trees.specs.View.{view_project}
 use Rattle.binding_model.specs.Facts.{facts, in_order}
 use Rattle.binding_model.specs.Renaming.{places}
 use Rattle.capture_check.specs.Fault.{IsMet, before}

@@ -1,6 +1,6 @@
 //! What a survey has.
 
-use ml_syntax::Project;
+use ml_trees::Project;
 use rotor_base::{Facts, Name, Place, Refusal};
 
 /// What a project is and has: its trees, its binders in the order of their places, its facts, and the first of

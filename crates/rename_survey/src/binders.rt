@@ -1,13 +1,14 @@
 //! The binders of a project.
 
 ghost use Rattle.std.specs.Prelude.{◌≡◌, ◌++◌, IfOk, OnOk, Some, map};
-ghost use Rattle.ml_syntax.specs.View.{view_project, view_part_of, view_file};
+ghost use Rattle.ml_trees.specs.View.{view_project, view_part_of, view_file};
 ghost use Rattle.binding_model.specs.Renaming.{file_places};
 ghost use Rattle.rename_parts.specs.Binders.{binding};
 ghost use Rattle.rename_survey.specs.Survey.{binder_of, binders_of};
 
 use crate::answer::Binder;
-use ml_syntax::{FileTree, Project, binders};
+use ml_syntax::binders;
+use ml_trees::{FileTree, Project};
 use rename_parts::number_of_file;
 use rotor_base::{Memory, Place};
 use std::alloc::Global;

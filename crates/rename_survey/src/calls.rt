@@ -2,14 +2,14 @@
 
 ghost use Rattle.std.specs.Prelude.{◌≡◌, IfErr, IfOk, Err, Ok};
 ghost use Rattle.ml_syntax.specs.Sound.{IsSound};
-ghost use Rattle.ml_syntax.specs.View.{view_project};
+ghost use Rattle.ml_trees.specs.View.{view_project};
 ghost use Rattle.binding_model.specs.Facts.{facts as facts_of};
 ghost use Rattle.rename_project.specs.Steps.{IsRefusedFor};
 ghost use Rattle.rename_survey.specs.Survey.{IsFirstBad, Surveys};
 
 use crate::answer::Survey;
 use crate::binders::list_binders;
-use ml_syntax::Project;
+use ml_trees::Project;
 use project_reading::read_project;
 use rename_parts::{first_duplicate, least_unmatched};
 use rename_project::resolve_facts;

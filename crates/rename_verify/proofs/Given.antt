@@ -19,7 +19,7 @@ use Rattle.ml_lexer.proofs.Order.{EachWhole, each_whole}
 use Rattle.ml_syntax.specs.Each.{Each}
 use Rattle.ml_syntax.specs.Places.{Site}
 use Rattle.ml_syntax.specs.Sound.{IsSound}
-use Rattle.ml_syntax.specs.Tree.{UnitTree}
+use Rattle.ml_trees.specs.Tree.{UnitTree}
 use Rattle.shape_core.specs.Shape.{Name, or_else, some_if, or_value}
 use Rattle.binding_model.specs.Facts.{facts}
 use Rattle.binding_model.specs.Laws.{KeepsFixed}

@@ -8,7 +8,7 @@ use Rattle.rotor_base.specs.declared.place.Place.{Place}
 use Rattle.ml_lexer.specs.Lexed.{Lexeme}
 use Rattle.ml_syntax.specs.Places.{Site}
 use Rattle.ml_syntax.specs.Sound.{IsSound}
-use Rattle.ml_syntax.specs.Tree.{UnitTree}
+use Rattle.ml_trees.specs.Tree.{UnitTree}
 use Rattle.shape_core.specs.Shape.{Name, or_else, some_if}
 use Rattle.binding_model.specs.Renaming.{Renaming, places, at_place, name_of, site_name, Changes, IsFixedSite, IsFree}
 use Rattle.binding_model.proofs.LastEntries.{same_is}

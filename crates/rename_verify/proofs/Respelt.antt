@@ -15,9 +15,9 @@ use Rattle.ml_syntax.specs.Respelled.{Spelling, spelled}
 use Rattle.ml_syntax.specs.RespelledFile.{lexeme_toks, new_words}
 use Rattle.ml_syntax.specs.RespelledSource.{Spellings}
 use Rattle.ml_syntax.specs.Sound.{AreNumbered}
-use Rattle.ml_syntax.specs.Tok.{Name, Tok, word, fixed_of, tok}
-use Rattle.ml_syntax.specs.Tree.{FileTree, UnitTree}
-use Rattle.ml_syntax.specs.Words.{words}
+use Rattle.ml_trees.specs.Tok.{Name, Tok, word, fixed_of, tok}
+use Rattle.ml_trees.specs.Tree.{FileTree, UnitTree}
+use Rattle.ml_trees.specs.Words.{words}
 use Rattle.ml_syntax.proofs.RespelledNames.{lexemes_are_numbered}
 use Rattle.ml_syntax.proofs.SiteWords.{sites_are_words}
 use Rattle.binding_model.specs.Renaming.{Renaming, places, at_place, in_file}
@@ -26,7 +26,7 @@ use Rattle.parse_module.specs.declared.files.FileKind.{FileKind}
 use Rattle.parse_module.specs.declared.files.FileKind.TheVariants as kind
 use Rattle.parse_module.specs.Whole.{IsOfFile}
 use Rattle.capture_check.specs.Tables as table
-use Rattle.ml_syntax.specs.Tree.{Body, Face}
+use Rattle.ml_trees.specs.Tree.{Body, Face}
 use Rattle.project_reading.specs.Reads.{Reads}
 use Rattle.project_reading.specs.Respelled.{respelled_lists}
 use Rattle.project_reading.specs.Sources.{AreCut, ReadAll}

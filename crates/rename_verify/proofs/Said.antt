@@ -1,6 +1,6 @@
 -- Each answer to a valid respelling is yes.
 use Rattle.std.proofs.Common.{List, Ok, Err, subst}
-use Rattle.ml_syntax.specs.Tree.{UnitTree}
+use Rattle.ml_trees.specs.Tree.{UnitTree}
 use Rattle.project_reading.proofs.OneReading.{one_project}
 use Rattle.rename_verify.specs.declared.verdict.Verdict.TheVariants.{Yes, No}
 use Rattle.rename_verify.specs.Laws.{ValidSaysYes}

@@ -11,8 +11,8 @@ use Rattle.ml_syntax.specs.Each.{Each}
 use Rattle.ml_syntax.specs.Places.{Site, sites}
 use Rattle.ml_syntax.specs.RespelledFile.{lexeme_toks, ChangesNames}
 use Rattle.ml_syntax.specs.RespelledSource.{IsRespelled, AreRespelled}
-use Rattle.ml_syntax.specs.Tree.{FileTree, Body, Face, UnitTree}
-use Rattle.ml_syntax.specs.Words.{words}
+use Rattle.ml_trees.specs.Tree.{FileTree, Body, Face, UnitTree}
+use Rattle.ml_trees.specs.Words.{words}
 use Rattle.parse_module.specs.declared.files.FileKind.{FileKind}
 use Rattle.parse_module.specs.declared.files.FileKind.TheVariants as kind
 use Rattle.parse_module.specs.Whole.{IsOfFile}

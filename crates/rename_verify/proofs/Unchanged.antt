@@ -8,7 +8,7 @@ use Rattle.rotor_base.specs.declared.place.Place.{Place}
 use Rattle.rotor_base.specs.declared.place.Ref.{Ref}
 use Rattle.ml_syntax.specs.Each.{Each}
 use Rattle.ml_syntax.specs.Sound.{IsSound}
-use Rattle.ml_syntax.specs.Tree.{UnitTree}
+use Rattle.ml_trees.specs.Tree.{UnitTree}
 use Rattle.binding_model.specs.Facts.{facts}
 use Rattle.binding_model.specs.Laws.{StaysPut}
 use Rattle.binding_model.specs.Renaming.{name_of}

@@ -5,7 +5,7 @@ use Rattle.rotor_base.specs.declared.place.Place.{Place}
 use Rattle.rotor_base.specs.declared.refusal.Refusal.{Refusal}
 use Rattle.rotor_base.specs.Files.{FileSet}
 use Rattle.ml_lexer.specs.Lexed.{Lexeme}
-use Rattle.ml_syntax.specs.Tree.{UnitTree}
+use Rattle.ml_trees.specs.Tree.{UnitTree}
 use Rattle.shape_core.specs.Shape.{Name}
 use Rattle.binding_model.specs.Facts.{facts}
 use Rattle.binding_model.specs.Renaming.{Renaming, Changes, IsFree, name_of}

@@ -6,8 +6,8 @@ ghost use Rattle.rotor_base.specs.declared.refusal.Refusal.TheVariants as refusa
 ghost use Rattle.ml_lexer.specs.Lexed.{view_tokens};
 ghost use Rattle.ml_syntax.specs.Each.{Each};
 ghost use Rattle.ml_syntax.specs.Sound.{IsSound};
-ghost use Rattle.ml_syntax.specs.Tree.{UnitTree};
-ghost use Rattle.ml_syntax.specs.View.{view_project};
+ghost use Rattle.ml_trees.specs.Tree.{UnitTree};
+ghost use Rattle.ml_trees.specs.View.{view_project};
 ghost use Rattle.binding_model.specs.Facts.{facts as facts_of};
 ghost use Rattle.binding_model.specs.Renaming.{IsBinder};
 ghost use Rattle.binding_model.specs.Sums.{heavy};

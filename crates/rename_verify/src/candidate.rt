@@ -4,13 +4,13 @@ ghost use Rattle.std.specs.Prelude.{◌≡◌, ◌≤◌, All, IfOk, OnOk, lengt
 ghost use Rattle.std.specs.Option.{option_copied};
 ghost use Rattle.rotor_base.specs.Limits.{max_file_bytes};
 ghost use Rattle.ml_lexer.specs.Lexed.{view_tokens};
-ghost use Rattle.ml_syntax.specs.View.{view_project};
+ghost use Rattle.ml_trees.specs.View.{view_project};
 ghost use Rattle.rename_verify.specs.Candidate.{AreLexemes, AreLexemesOf, candidate, changes, given_name, if_lower, word_at};
 ghost use Rattle.rename_verify.specs.Steps.{IsSuggested};
 
 use crate::verdict::Change;
 use ml_lexer::{LexError, lex};
-use ml_syntax::Project;
+use ml_trees::Project;
 use rename_survey::{Binder, list_binders};
 use rotor_base::{Class, Files, Memory, Name, Place, SourceFile, Token};
 use std::alloc::Global;

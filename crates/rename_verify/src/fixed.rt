@@ -4,7 +4,7 @@ ghost use Rattle.std.specs.Prelude.{◌≡◌, ◌++◌, ◌||◌, true, Contain
 ghost use Rattle.std.specs.BTreeSet.{contains};
 ghost use Rattle.rotor_base.specs.Place.{place_cmp};
 ghost use Rattle.ml_syntax.specs.Sound.{IsSound};
-ghost use Rattle.ml_syntax.specs.View.{view_project};
+ghost use Rattle.ml_trees.specs.View.{view_project};
 ghost use Rattle.binding_model.specs.Facts.{earlier, facts as facts_of};
 ghost use Rattle.binding_model.specs.Renaming.{places, at_place, IsFixedSite};
 ghost use Rattle.rename_parts.specs.Leasts.{IsLeastOrNone};
@@ -14,7 +14,7 @@ ghost use Rattle.rename_verify.specs.Fixed.{behind, fixed_by, fixed_by_link, fix
 
 use crate::verdict::Change;
 use capture_check::is_before;
-use ml_syntax::Project;
+use ml_trees::Project;
 use rename_parts::{Hit, hit_marks};
 use rotor_base::{Facts, Goal, Link, Memory, Place, Ref};
 use std::alloc::Global;

@@ -8,7 +8,7 @@ use Rattle.rotor_base.specs.Name.{is_value_name}
 use Rattle.ml_lexer.specs.Lexed.{Lexeme}
 use Rattle.ml_syntax.specs.Places.{Site}
 use Rattle.ml_syntax.specs.RespelledSource.{AreRespelled}
-use Rattle.ml_syntax.specs.Tree.{UnitTree}
+use Rattle.ml_trees.specs.Tree.{UnitTree}
 use Rattle.shape_core.specs.Respell.{Words}
 use Rattle.binding_model.specs.Facts.{facts}
 use Rattle.binding_model.specs.Renaming.{at_place, in_file, places}

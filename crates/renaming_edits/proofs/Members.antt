@@ -7,7 +7,7 @@ use Rattle.rotor_base.specs.declared.place.Goal.TheVariants.{Decl}
 use Rattle.dependency_kernel.specs.Foot.{Joined, Path, here, along}
 use Rattle.ml_syntax.specs.Each.{Each}
 use Rattle.ml_syntax.specs.Sound.{IsSound}
-use Rattle.ml_syntax.specs.Tree.{UnitTree}
+use Rattle.ml_trees.specs.Tree.{UnitTree}
 use Rattle.shape_core.specs.Shape.{Name}
 use Rattle.binding_model.specs.Walk.{steps}
 use Rattle.binding_model.specs.Facts.{facts}

@@ -11,7 +11,7 @@ use Rattle.text_places.specs.declared.counting.Counting.{Counting}
 use Rattle.ml_lexer.specs.Lexed.{Lexeme, Lexed}
 use Rattle.ml_lexer.specs.Respelled.{respelled}
 use Rattle.ml_syntax.specs.Sound.{IsSound}
-use Rattle.ml_syntax.specs.Tree.{UnitTree}
+use Rattle.ml_trees.specs.Tree.{UnitTree}
 use Rattle.binding_model.specs.Facts.{facts as facts_of}
 use Rattle.binding_model.specs.Renaming.{IsBinder}
 use Rattle.rename_model.specs.Foot.{IsTheFoot}

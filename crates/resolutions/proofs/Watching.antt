@@ -4,7 +4,7 @@ use Rattle.rotor_base.specs.declared.place.Place.{Place}
 use Rattle.rotor_base.specs.declared.looks.Watch.{Watch}
 use Rattle.dependency_kernel.specs.Foot.{IsFoot}
 use Rattle.ml_syntax.specs.Sound.{IsSound}
-use Rattle.ml_syntax.specs.Tree.{UnitTree}
+use Rattle.ml_trees.specs.Tree.{UnitTree}
 use Rattle.binding_model.specs.Facts.{facts}
 use Rattle.binding_model.specs.Renaming.{IsBinder}
 use Rattle.binding_model.specs.Local.{IsWatched}

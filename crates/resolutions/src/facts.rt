@@ -3,7 +3,7 @@
 use crate::pieces::{Object, goal, line, list, place};
 use binding_model::Sums;
 use found_facts::from_nothing;
-use ml_syntax::Project;
+use ml_trees::Project;
 use mod_shape::units;
 use rename_survey::{Survey, survey};
 use rotor_base::{Facts, Files, Link, Outcome, Place, Ref, Refusal, Row, SourceFile};

@@ -2,7 +2,7 @@
 
 ghost use Rattle.std.specs.Prelude.{◌≡◌, None, IfOk};
 ghost use Rattle.ml_syntax.specs.Sound.{IsSound};
-ghost use Rattle.ml_syntax.specs.View.{view_project};
+ghost use Rattle.ml_trees.specs.View.{view_project};
 ghost use Rattle.dependency_kernel.specs.Foot.{IsFoot};
 ghost use Rattle.binding_model.specs.Facts.{facts as facts_of};
 ghost use Rattle.binding_model.specs.Renaming.{IsBinder};
@@ -10,7 +10,7 @@ ghost use Rattle.binding_model.specs.Renaming.{name_of};
 ghost use Rattle.binding_model.specs.Sums.{heavy};
 
 use dependency_kernel::footprint;
-use ml_syntax::Project;
+use ml_trees::Project;
 use project_reading::read_project;
 use rename_project::{find_aim, resolve};
 use rotor_base::{Facts, Files, Name, Place, Refusal, Target, Watch};

@@ -2,7 +2,7 @@
 
 ghost use Rattle.std.specs.Prelude.{◌≡◌, OnOk, IfOk};
 ghost use Rattle.rotor_base.specs.declared.place.Goal.TheVariants.{Decl};
-ghost use Rattle.ml_syntax.specs.View.{view_pat, view_pat_field, pats, pat_fields};
+ghost use Rattle.ml_trees.specs.View.{view_pat, view_pat_field, pats, pat_fields};
 ghost use Rattle.shape_core.specs.Shape.{a_val, none};
 ghost use Rattle.shape_core.specs.Node.{entries_of};
 ghost use Rattle.binding_model.specs.Scopes.{here, bound};
@@ -12,7 +12,7 @@ ghost use Rattle.binding_model.specs.Variables.{variables as vars};
 ghost use Rattle.binding_model.specs.Walk.{pat_steps, pats_steps, field_pat_steps, fields_pat_steps, ties};
 
 use binding_model::Found;
-use ml_syntax::{Pat, PatField};
+use ml_trees::{Pat, PatField};
 use resolve_base::{bind, group, tied, variables};
 use rotor_base::Memory;
 use shape_core::{SharedEntry, make_struct};
@@ -21,7 +21,7 @@ use std::alloc::Global;
 /// A pattern: each or-pattern in it gives its groups and links at its end. `Memory` is the only error. It takes stack
 /// at each level of the pattern.
 #[cycle(patterns)]
-#[tactic(auto, using(ml_syntax::proofs::Variants::pat_views))]
+#[tactic(auto, using(ml_trees::proofs::Variants::pat_views))]
 pub fn pattern(alloc: Global, found: &mut Found, file: u32, pat: &Pat) -> Result<(), Memory>
     ensures { OnOk result (taken (Going found.old) (pat_steps file (view_pat pat.now)) ≡ Going found.new) }
 {
@@ -79,7 +79,7 @@ fn patterns(alloc: Global, found: &mut Found, file: u32, list: &[Pat]) -> Result
 }
 
 #[cycle(patterns)]
-#[tactic(auto, using(ml_syntax::proofs::Variants::pat_field_views))]
+#[tactic(auto, using(ml_trees::proofs::Variants::pat_field_views))]
 fn field(alloc: Global, found: &mut Found, file: u32, part: &PatField) -> Result<(), Memory>
     ensures { OnOk result (taken (Going found.old) (field_pat_steps file (view_pat_field part.now)) ≡ Going found.new) }
 {

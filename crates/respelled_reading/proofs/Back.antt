@@ -16,9 +16,9 @@ use Rattle.ml_lexer.proofs.OneCutting.{one_lexed}
 use Rattle.ml_syntax.specs.Places.{sites}
 use Rattle.ml_syntax.specs.Respelled.{Spelling, spelled, spell_tok, spell_file}
 use Rattle.ml_syntax.specs.RespelledFile.{lexeme_toks, new_words, ChangesNames}
-use Rattle.ml_syntax.specs.Tok.{Tok, word, tok}
-use Rattle.ml_syntax.specs.Tree.{FileTree, Body, Face, UnitTree}
-use Rattle.ml_syntax.specs.Words.{words}
+use Rattle.ml_trees.specs.Tok.{Tok, word, tok}
+use Rattle.ml_trees.specs.Tree.{FileTree, Body, Face, UnitTree}
+use Rattle.ml_trees.specs.Words.{words}
 use Rattle.ml_syntax.proofs.Spelling.{respelling_keeps_the_tree}
 use Rattle.parse_module.specs.declared.files.FileKind.{FileKind}
 use Rattle.parse_module.specs.declared.files.FileKind.TheVariants as kind

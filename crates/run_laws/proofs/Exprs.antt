@@ -1,16 +1,16 @@
 -- What expressions give, with more fuel.
 use Rattle.std.proofs.Common.{ℕ, zero, suc, ℤ, Bool, true, false, List, [], ◌∷◌, Option, Some, None}
 use Rattle.rotor_base.specs.declared.place.Place.{Place}
-use Rattle.ml_syntax.specs.declared.word.Bracket.TheVariants as bracket
-use Rattle.ml_syntax.specs.Tok.{Name as Word}
+use Rattle.ml_trees.specs.declared.word.Bracket.TheVariants as bracket
+use Rattle.ml_trees.specs.Tok.{Name as Word}
 use Rattle.ml_syntax.specs.Places.{Site, name_sites, operator_sites}
-use Rattle.ml_syntax.specs.Tree.{ValueName, Expr, Seq, Let, LetOpen, LetModule, Fun, Function, Match, Try, If, Chain, Minus, Apply, ConstrApply}
-use Rattle.ml_syntax.specs.Tree.{TagApply, Assert, Lazy, Postfix, Prefixed, Literal, BoolExpr, Value, Constr, Tag, UnitExpr, Paren, Typed, Coerced}
-use Rattle.ml_syntax.specs.Tree.{EmptyBegin, Begin, EmptyList, ListExpr, Record, Opened, While, For, Links, no_link, more_link, MaybeExpr, no_expr}
-use Rattle.ml_syntax.specs.Tree.{some_expr, Tail, no_else, or_else, or_if, Binding, PlainBinding, AppliedBinding, Bindings, no_binding, more_binding}
-use Rattle.ml_syntax.specs.Tree.{Case, CaseOf, Cases, no_case, more_case, Argument, Positional, LabelPun, Labelled, Arguments, no_argument}
-use Rattle.ml_syntax.specs.Tree.{more_argument, PatternParam, TypesParam, Params, no_param, more_param, Part, LabelPart, IndexPart, CharPart, Parts}
-use Rattle.ml_syntax.specs.Tree.{no_part, more_part, Field, FieldPun, AssignedField, Fields, no_field, more_field, ModExpr}
+use Rattle.ml_trees.specs.Tree.{ValueName, Expr, Seq, Let, LetOpen, LetModule, Fun, Function, Match, Try, If, Chain, Minus, Apply, ConstrApply}
+use Rattle.ml_trees.specs.Tree.{TagApply, Assert, Lazy, Postfix, Prefixed, Literal, BoolExpr, Value, Constr, Tag, UnitExpr, Paren, Typed, Coerced}
+use Rattle.ml_trees.specs.Tree.{EmptyBegin, Begin, EmptyList, ListExpr, Record, Opened, While, For, Links, no_link, more_link, MaybeExpr, no_expr}
+use Rattle.ml_trees.specs.Tree.{some_expr, Tail, no_else, or_else, or_if, Binding, PlainBinding, AppliedBinding, Bindings, no_binding, more_binding}
+use Rattle.ml_trees.specs.Tree.{Case, CaseOf, Cases, no_case, more_case, Argument, Positional, LabelPun, Labelled, Arguments, no_argument}
+use Rattle.ml_trees.specs.Tree.{more_argument, PatternParam, TypesParam, Params, no_param, more_param, Part, LabelPart, IndexPart, CharPart, Parts}
+use Rattle.ml_trees.specs.Tree.{no_part, more_part, Field, FieldPun, AssignedField, Fields, no_field, more_field, ModExpr}
 use Rattle.shape_core.specs.Shape.{Name}
 use Rattle.binding_model.specs.Scopes.{texts}
 use Rattle.module_meaning.specs.Values.{Val, FunVal, CasesVal, UnaryVal, BinaryVal}

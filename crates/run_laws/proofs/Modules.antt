@@ -1,10 +1,10 @@
 -- What module expressions and items give, with more fuel, and the evaluators of all levels.
 use Rattle.std.proofs.Common.{◌≤◌, ℕ, zero, suc, arith}
 use Rattle.rotor_base.specs.declared.place.Place.{Place}
-use Rattle.ml_syntax.specs.Tree.{ModExpr, ModPath, Struct, Functor, ModApply, ModParen, Sealed, ModArgument, ModuleArgument, SealedArgument}
-use Rattle.ml_syntax.specs.Tree.{NoArgument, ModArguments, no_mod_argument, more_mod_argument, NamedParam, NoParam, FunctorParams, no_functor_param}
-use Rattle.ml_syntax.specs.Tree.{more_functor_param, MaybeType, no_type, some_type, Item, ExprItem, SeparatorItem, ValueItem, ExternalItem, TypeItem}
-use Rattle.ml_syntax.specs.Tree.{ExceptionItem, ModuleItem, ModuleTypeItem, OpenItem, IncludeItem, Items, no_item, more_item}
+use Rattle.ml_trees.specs.Tree.{ModExpr, ModPath, Struct, Functor, ModApply, ModParen, Sealed, ModArgument, ModuleArgument, SealedArgument}
+use Rattle.ml_trees.specs.Tree.{NoArgument, ModArguments, no_mod_argument, more_mod_argument, NamedParam, NoParam, FunctorParams, no_functor_param}
+use Rattle.ml_trees.specs.Tree.{more_functor_param, MaybeType, no_type, some_type, Item, ExprItem, SeparatorItem, ValueItem, ExternalItem, TypeItem}
+use Rattle.ml_trees.specs.Tree.{ExceptionItem, ModuleItem, ModuleTypeItem, OpenItem, IncludeItem, Items, no_item, more_item}
 use Rattle.module_meaning.specs.Values.{ModVal, StructVal, FunctorVal, UnitaryVal, CoercedFunctor, CoercedUnitary, ForeignMod, Env}
 use Rattle.module_meaning.specs.Acts.{Act, Fuel}
 use Rattle.module_meaning.specs.Eval.{Evals}

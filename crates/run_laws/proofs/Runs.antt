@@ -1,7 +1,7 @@
 -- The law of fuel.
 use Rattle.std.proofs.Common.{◌≡◌, ◌≤◌, ℕ, List, [], ◌∷◌, Option, Some, None, refl}
 use Rattle.std.specs.Prelude.{◌≢◌}
-use Rattle.ml_syntax.specs.Tree.{FileTree, Body, Face, UnitTree}
+use Rattle.ml_trees.specs.Tree.{FileTree, Body, Face, UnitTree}
 use Rattle.module_meaning.specs.Values.{ModVal, Env, nothing}
 use Rattle.module_meaning.specs.Acts.{Outcome, Done, Halt}
 use Rattle.module_meaning.specs.Eval.{Evals}

@@ -1,6 +1,6 @@
 -- Fuel: what more of it changes of a bounded run (this project's own).
 use Rattle.std.specs.Prelude.{◌≡◌, ◌≢◌, ◌≤◌, ◌++◌, ℕ, List}
-use Rattle.ml_syntax.specs.Tree.{UnitTree}
+use Rattle.ml_trees.specs.Tree.{UnitTree}
 use Rattle.module_meaning.specs.Run.{End, Finished, Stopped, OutOfFuel, run}
 
 -- the first list is a beginning of the second

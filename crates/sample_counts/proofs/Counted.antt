@@ -7,7 +7,7 @@ use Rattle.rotor_base.specs.declared.place.Place.{Place}
 use Rattle.rotor_base.specs.declared.place.Foot.{Foot}
 use Rattle.rotor_base.specs.declared.place.Ref.{Ref}
 use Rattle.rotor_base.specs.declared.place.Goal.TheVariants.{Decl}
-use Rattle.ml_syntax.specs.Tree.{UnitTree}
+use Rattle.ml_trees.specs.Tree.{UnitTree}
 use Rattle.shape_core.specs.Shape.{Shape, Opaque, Entries, none, or_else, or_value, find_mty, entries_in}
 use Rattle.binding_model.specs.Facts.{facts, is_before, put, in_order}
 use Rattle.binding_model.specs.Scopes.{unit_shape, after_unit, after_units}

@@ -9,7 +9,7 @@ use Rattle.rotor_base.specs.declared.place.Link.{Link}
 use Rattle.rotor_base.specs.declared.place.Goal.{Goal}
 use Rattle.rotor_base.specs.declared.place.Goal.TheVariants.{Decl}
 use Rattle.dependency_kernel.specs.Foot.{Joined, Path, IsFoot, link_of}
-use Rattle.ml_syntax.specs.Tree.{UnitTree}
+use Rattle.ml_trees.specs.Tree.{UnitTree}
 use Rattle.shape_core.specs.Shape.{Shape, Opaque, Entries, none, a_mod, ◌⊕◌, mods, last_of, or_value, inside}
 use Rattle.shape_core.specs.Links.{◌&◌, matched, link}
 use Rattle.shape_core.proofs.Lists.{append_none}

@@ -14,7 +14,7 @@ use Rattle.std.proofs.lemmas.Cmp.{nat_list_cmp_total}
 use Rattle.std.proofs.lemmas.List.{length-map}
 use Rattle.rotor_base.specs.Stem.{is_body_name}
 use Rattle.rotor_base.specs.declared.source.SourceFile.{SourceFile}
-use Rattle.ml_syntax.specs.Tree.{FileTree, Body, UnitTree}
+use Rattle.ml_trees.specs.Tree.{FileTree, Body, UnitTree}
 use Rattle.unit_order.specs.Order.{takes_all, derived_order}
 use Rattle.project_reading.specs.Reads.{Reads}
 use Rattle.project_reading.specs.Sources.{ReadAll}

@@ -6,7 +6,7 @@ use Rattle.rotor_base.specs.declared.place.Place.{Place}
 use Rattle.rotor_base.specs.declared.place.Foot.{Foot}
 use Rattle.rotor_base.specs.declared.report.Renamed.{Renamed}
 use Rattle.rotor_base.specs.Place.{same_place}
-use Rattle.ml_syntax.specs.Tree.{UnitTree}
+use Rattle.ml_trees.specs.Tree.{UnitTree}
 use Rattle.dependency_kernel.specs.Foot.{Path}
 use Rattle.shape_core.specs.Shape.{none}
 use Rattle.binding_model.specs.Facts.{facts}

@@ -12,15 +12,15 @@ use Rattle.ml_lexer.specs.Trivia.{plain_part, comment_part, level_end, comment_l
 use Rattle.ml_lexer.specs.Pieces.{piece_at, lexeme_at, word_at, word_class, marked_word_at, label_at, operator_of, operator_at, mark_length}
 use Rattle.ml_lexer.specs.Pieces.{begins_label, begins_operator, sign_at}
 use Rattle.ml_lexer.proofs.OneCutting.{one_lexed}
-use Rattle.ml_syntax.specs.Tok.{Name, Tok, fixed_of, word}
-use Rattle.ml_syntax.specs.Tree.{PlainName, ValuePat, Chain, Literal, Value, no_link, more_link, PlainBinding}
-use Rattle.ml_syntax.specs.Tree.{no_binding, UpperName, ModPath, Struct}
-use Rattle.ml_syntax.specs.Tree.{ModApply, ModuleArgument, no_mod_argument, more_mod_argument, NamedParam, no_functor_param, more_functor_param}
-use Rattle.ml_syntax.specs.Tree.{TypePath, Sig, no_type, ValueItem, ModuleItem, ModuleTypeItem, IncludeItem, Items, no_item, more_item, ValSig}
-use Rattle.ml_syntax.specs.Tree.{no_sig_item, more_sig_item, FileTree, Body}
+use Rattle.ml_trees.specs.Tok.{Name, Tok, fixed_of, word}
+use Rattle.ml_trees.specs.Tree.{PlainName, ValuePat, Chain, Literal, Value, no_link, more_link, PlainBinding}
+use Rattle.ml_trees.specs.Tree.{no_binding, UpperName, ModPath, Struct}
+use Rattle.ml_trees.specs.Tree.{ModApply, ModuleArgument, no_mod_argument, more_mod_argument, NamedParam, no_functor_param, more_functor_param}
+use Rattle.ml_trees.specs.Tree.{TypePath, Sig, no_type, ValueItem, ModuleItem, ModuleTypeItem, IncludeItem, Items, no_item, more_item, ValSig}
+use Rattle.ml_trees.specs.Tree.{no_sig_item, more_sig_item, FileTree, Body}
 use Rattle.ml_syntax.specs.RespelledFile.{lexeme_toks}
-use Rattle.ml_syntax.specs.WellFormed.{WfFile, infix_level}
-use Rattle.ml_syntax.specs.Words.{words}
+use Rattle.ml_trees.specs.WellFormed.{WfFile, infix_level}
+use Rattle.ml_trees.specs.Words.{words}
 use Rattle.parse_module.specs.declared.files.FileKind.TheVariants as kind
 use Rattle.parse_module.specs.Whole.{IsTreeOf}
 use Rattle.project_reading.specs.Source.{ReadsAs}

@@ -5,7 +5,7 @@ use Rattle.rotor_base.specs.declared.place.Place.{Place}
 use Rattle.rotor_base.specs.declared.place.Goal.{Goal}
 use Rattle.rotor_base.specs.declared.place.Goal.TheVariants.{Decl, Outside}
 use Rattle.rotor_base.specs.declared.place.Ref.{Ref}
-use Rattle.ml_syntax.specs.Tree.{Body, UnitTree, Item, Items, no_item, more_item, SeparatorItem, ModuleItem, ModExpr, Struct as ModStruct, TypePath}
+use Rattle.ml_trees.specs.Tree.{Body, UnitTree, Item, Items, no_item, more_item, SeparatorItem, ModuleItem, ModExpr, Struct as ModStruct, TypePath}
 use Rattle.std.specs.Str.{bytes_eq}
 use Rattle.shape_core.specs.Shape.{Name, Shape, Struct, Functor, Opaque, Entries, none, a_val, a_mod, a_mty, ◌⊕◌, vals}
 use Rattle.shape_core.specs.Shape.{mods, last_of, last_place, or_value}

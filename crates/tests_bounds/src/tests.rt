@@ -1,6 +1,6 @@
 // Expressions at the bound on levels, and past it.
 use ml_lexer::lex;
-use ml_syntax::Expr;
+use ml_trees::Expr;
 use parse_base::ParseError;
 use parse_expr::parse_seq;
 use std::alloc::{AllocError, Global};

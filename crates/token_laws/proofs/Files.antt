@@ -12,7 +12,7 @@ use Rattle.rotor_base.specs.declared.place.Place.{Place}
 use Rattle.rotor_base.specs.declared.refusal.Refusal.{Refusal}
 use Rattle.rotor_base.specs.declared.source.SourceFile.{SourceFile}
 use Rattle.rotor_base.specs.declared.target.Target.{Target}
-use Rattle.ml_syntax.specs.Tree.{FileTree, UnitTree}
+use Rattle.ml_trees.specs.Tree.{FileTree, UnitTree}
 use Rattle.shape_core.specs.Shape.{Name}
 use Rattle.unit_order.specs.Order.{order_of, takes_all}
 use Rattle.project_reading.specs.Reads.{Reads, Unread, AreStuck}

@@ -4,7 +4,7 @@ use Rattle.rotor_base.specs.Limits.{max_nesting}
 use Rattle.rotor_base.specs.declared.token.Class.{Class}
 use Rattle.rotor_base.specs.declared.token.Token.{Token}
 use Rattle.ml_lexer.specs.Lexed.{Lexeme}
-use Rattle.ml_syntax.specs.Tok.{Tok, toks_from}
+use Rattle.ml_trees.specs.Tok.{Tok, toks_from}
 use Rattle.parse_base.specs.declared.depth.Role.{Role}
 use Rattle.parse_base.specs.declared.depth.Mark.{Mark}
 use Rattle.parse_base.specs.Tokens.{from, lexeme}

@@ -11,7 +11,7 @@ use Rattle.rotor_base.specs.declared.report.Counts.{Counts}
 use Rattle.rotor_base.specs.declared.report.Renamed.{Renamed}
 use Rattle.rotor_base.specs.declared.source.SourceFile.{SourceFile}
 use Rattle.rotor_base.specs.declared.target.Target.{Target}
-use Rattle.ml_syntax.specs.Tree.{UnitTree}
+use Rattle.ml_trees.specs.Tree.{UnitTree}
 use Rattle.shape_core.specs.Shape.{Name}
 use Rattle.dependency_kernel.proofs.Only.{is_the_only}
 use Rattle.binding_model.specs.Facts.{facts}

@@ -9,7 +9,7 @@ use Rattle.ml_lexer.proofs.OneCutting.{one_lexed}
 use Rattle.ml_syntax.specs.Respelled.{Spelling, spelled}
 use Rattle.ml_syntax.specs.RespelledFile.{new_words}
 use Rattle.ml_syntax.specs.RespelledSource.{Spellings, AreRespelled}
-use Rattle.ml_syntax.specs.Tree.{FileTree, UnitTree}
+use Rattle.ml_trees.specs.Tree.{FileTree, UnitTree}
 use Rattle.binding_model.specs.Renaming.{Renaming, in_file}
 use Rattle.project_reading.specs.Reads.{Reads}
 use Rattle.project_reading.specs.Respelled.{respelled_lists}

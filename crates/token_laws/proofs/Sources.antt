@@ -6,8 +6,8 @@ use Rattle.rotor_base.specs.declared.token.FormKind.{FormKind}
 use Rattle.ml_lexer.specs.Lexed.{Lexeme, Lexed}
 use Rattle.ml_lexer.proofs.OneCutting.{one_lexed, not_both}
 use Rattle.ml_syntax.specs.RespelledFile.{lexeme_toks}
-use Rattle.ml_syntax.specs.Tok.{Tok, toks_from}
-use Rattle.ml_syntax.specs.Tree.{FileTree}
+use Rattle.ml_trees.specs.Tok.{Tok, toks_from}
+use Rattle.ml_trees.specs.Tree.{FileTree}
 use Rattle.parse_module.specs.Whole.{IsTreeOf, HasNoTree}
 use Rattle.project_reading.specs.Source.{form_among, IsDeepAt, IsPlain, ReadsAs, IsUnread, bad, long_name, form, deep, syntax, kind_of_source}
 use Rattle.project_reading.specs.Sources.{ReadAll, FirstUnread}

@@ -7,7 +7,7 @@ use Rattle.rotor_base.specs.declared.report.Counts.{Counts}
 use Rattle.rotor_base.specs.declared.report.FootReport.{FootReport}
 use Rattle.rotor_base.specs.declared.report.Renamed.{Renamed}
 use Rattle.rotor_base.specs.declared.target.Target.{Target}
-use Rattle.ml_syntax.specs.Tree.{UnitTree}
+use Rattle.ml_trees.specs.Tree.{UnitTree}
 use Rattle.project_reading.specs.Reads.{Reads}
 use Rattle.rename_files.specs.Answer.{Checks, Shows, Renames}
 use Rattle.shape_core.specs.Shape.{Name}

@@ -1,10 +1,10 @@
 -- The views of the arguments of the module of a `let module`.
 use Rattle.std.proofs.Common.{◌≡◌, ℕ, refl, ap}
-use Rattle.ml_syntax.specs.declared.expression.LocalModule.{LocalModule}
-use Rattle.ml_syntax.specs.declared.expression.LocalArgument.TheVariants as v
-use Rattle.ml_syntax.specs.Tree as pure
-use Rattle.ml_syntax.specs.View.{view_path, view_local, view_local_then, view_locals}
-use Rattle.ml_syntax.proofs.Views.{locals_of}
+use Rattle.ml_trees.specs.declared.expression.LocalModule.{LocalModule}
+use Rattle.ml_trees.specs.declared.expression.LocalArgument.TheVariants as v
+use Rattle.ml_trees.specs.Tree as pure
+use Rattle.ml_trees.specs.View.{view_path, view_local, view_local_then, view_locals}
+use Rattle.ml_trees.proofs.Views.{locals_of}
 
 pub at_local_module : (at : ℕ) (m : LocalModule) (k : pure.LocalArguments) → view_local_then (v.Module at m) k ≡ pure.more_local at (view_local m) k
 unfolding view_locals

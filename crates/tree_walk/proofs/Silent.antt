@@ -1,8 +1,8 @@
 -- Phrases of words alone leave a state as it is.
 use Rattle.std.proofs.Common.{◌≡◌, ◌∙◌, ℕ, List, [], ◌∷◌, Bool, true, false, Option, Some, None, refl}
-use Rattle.ml_syntax.specs.declared.fixed.Fixed.{Fixed}
-use Rattle.ml_syntax.specs.Tok.{Name, Tok}
-use Rattle.ml_syntax.specs.Tree.{ModuleName, UpperName, AnyName, Constraint, ConstraintOf, WithClause, WithOf}
+use Rattle.ml_trees.specs.declared.fixed.Fixed.{Fixed}
+use Rattle.ml_trees.specs.Tok.{Name, Tok}
+use Rattle.ml_trees.specs.Tree.{ModuleName, UpperName, AnyName, Constraint, ConstraintOf, WithClause, WithOf}
 use Rattle.tree_walk.specs.Events.{Event, type_out, optional_out, bang_out, open_out, lowers_out, module_name_out, constraint_out, constraints_out}
 use Rattle.tree_walk.specs.Events.{withs_out, texts_out}
 use Rattle.tree_walk.specs.Behind.{behind}

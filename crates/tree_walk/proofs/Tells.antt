@@ -1,36 +1,36 @@
 -- What each form makes of a state: what its parts make of it, one behind another. Printed by scripts/print_walk.py.
 use Rattle.std.proofs.Common.{◌≡◌, ◌∙◌, ◌∷◌, ℕ, List, [], Bool, true, false, Option, refl, ap, sym}
 use Rattle.rotor_base.specs.declared.token.Class.TheVariants as class
-use Rattle.ml_syntax.specs.declared.fixed.Fixed.{Fixed}
-use Rattle.ml_syntax.specs.declared.fixed.Fixed.TheVariants as key
-use Rattle.ml_syntax.specs.Tok.{Name, Tok, word}
-use Rattle.ml_syntax.specs.Tree.{ValueName, PlainName, Pat, AsPat, OrPat, TuplePat, ConsPat, ConstrApplyPat, TagApplyPat, LazyPat}
-use Rattle.ml_syntax.specs.Tree.{ExceptionPat, AnyPat, ValuePat, LiteralPat, NegativePat, RangePat, ConstrPat, TagPat, BoolPat, UnitPat}
-use Rattle.ml_syntax.specs.Tree.{ParenPat}
-use Rattle.ml_syntax.specs.Tree.{TypedPat, EmptyPat, ListPat, RecordPat, OpenedPat, Pats, no_pat, more_pat, PatField, PunnedField, MatchedField}
-use Rattle.ml_syntax.specs.Tree.{PatFields, no_pat_field, more_pat_field, Variable, PlainVariable, AnyVariable, LocalModule, LocalPath}
-use Rattle.ml_syntax.specs.Tree.{LocalArguments, no_local, more_local, no_module, Expr, Seq, Let, LetOpen, LetModule, Fun, Function, Match, Try}
-use Rattle.ml_syntax.specs.Tree.{If}
-use Rattle.ml_syntax.specs.Tree.{Chain, Minus, Apply, ConstrApply, TagApply, Assert, Lazy, Postfix, Prefixed, Literal, BoolExpr, Value, Constr}
-use Rattle.ml_syntax.specs.Tree.{Tag}
-use Rattle.ml_syntax.specs.Tree.{UnitExpr, Paren, Typed, Coerced, EmptyBegin, Begin, EmptyList, ListExpr, Record, Opened, While, For}
-use Rattle.ml_syntax.specs.Tree.{Links, no_link}
-use Rattle.ml_syntax.specs.Tree.{more_link, MaybeExpr, no_expr, some_expr, Tail, no_else, or_else, or_if, Binding, PlainBinding, AppliedBinding}
-use Rattle.ml_syntax.specs.Tree.{Bindings, no_binding, more_binding, Case, CaseOf, Cases, no_case, more_case, Argument, Positional, LabelPun}
-use Rattle.ml_syntax.specs.Tree.{Labelled, Arguments, no_argument, more_argument, Param, PatternParam, LabelParam, LabelPattern, DefaultParam}
-use Rattle.ml_syntax.specs.Tree.{WrappedParam, WrappedDefault, TypesParam, Params, no_param, more_param, Part, LabelPart, IndexPart}
-use Rattle.ml_syntax.specs.Tree.{CharPart, Parts}
-use Rattle.ml_syntax.specs.Tree.{no_part, more_part, Field, FieldPun, AssignedField, Fields, no_field, more_field, ModuleName, UpperName}
-use Rattle.ml_syntax.specs.Tree.{AnyName}
-use Rattle.ml_syntax.specs.Tree.{WithClause, ModExpr, ModPath, Struct, Functor, ModApply, ModParen, Sealed}
-use Rattle.ml_syntax.specs.Tree.{ModArgument, ModuleArgument, SealedArgument, NoArgument, ModArguments, no_mod_argument, more_mod_argument}
-use Rattle.ml_syntax.specs.Tree.{FunctorParam, NamedParam, NoParam, FunctorParams, no_functor_param, more_functor_param, ModType, TypePath, Sig}
-use Rattle.ml_syntax.specs.Tree.{TypeOf, TypeParen, With, FunctorType, ParamArrow, Arrow, MaybeType, no_type, some_type, Item, ExprItem}
-use Rattle.ml_syntax.specs.Tree.{SeparatorItem, ValueItem, ExternalItem, TypeItem, ExceptionItem, ModuleItem, ModuleTypeItem, OpenItem}
-use Rattle.ml_syntax.specs.Tree.{IncludeItem}
-use Rattle.ml_syntax.specs.Tree.{Items, no_item, more_item, SigItem, SeparatorSig, ValSig, ExternalSig, TypeSig, ExceptionSig, ModuleSig}
-use Rattle.ml_syntax.specs.Tree.{AliasSig}
-use Rattle.ml_syntax.specs.Tree.{ModuleTypeSig, OpenSig, IncludeSig, SigItems, no_sig_item, more_sig_item, FileTree, Body, Face}
+use Rattle.ml_trees.specs.declared.fixed.Fixed.{Fixed}
+use Rattle.ml_trees.specs.declared.fixed.Fixed.TheVariants as key
+use Rattle.ml_trees.specs.Tok.{Name, Tok, word}
+use Rattle.ml_trees.specs.Tree.{ValueName, PlainName, Pat, AsPat, OrPat, TuplePat, ConsPat, ConstrApplyPat, TagApplyPat, LazyPat}
+use Rattle.ml_trees.specs.Tree.{ExceptionPat, AnyPat, ValuePat, LiteralPat, NegativePat, RangePat, ConstrPat, TagPat, BoolPat, UnitPat}
+use Rattle.ml_trees.specs.Tree.{ParenPat}
+use Rattle.ml_trees.specs.Tree.{TypedPat, EmptyPat, ListPat, RecordPat, OpenedPat, Pats, no_pat, more_pat, PatField, PunnedField, MatchedField}
+use Rattle.ml_trees.specs.Tree.{PatFields, no_pat_field, more_pat_field, Variable, PlainVariable, AnyVariable, LocalModule, LocalPath}
+use Rattle.ml_trees.specs.Tree.{LocalArguments, no_local, more_local, no_module, Expr, Seq, Let, LetOpen, LetModule, Fun, Function, Match, Try}
+use Rattle.ml_trees.specs.Tree.{If}
+use Rattle.ml_trees.specs.Tree.{Chain, Minus, Apply, ConstrApply, TagApply, Assert, Lazy, Postfix, Prefixed, Literal, BoolExpr, Value, Constr}
+use Rattle.ml_trees.specs.Tree.{Tag}
+use Rattle.ml_trees.specs.Tree.{UnitExpr, Paren, Typed, Coerced, EmptyBegin, Begin, EmptyList, ListExpr, Record, Opened, While, For}
+use Rattle.ml_trees.specs.Tree.{Links, no_link}
+use Rattle.ml_trees.specs.Tree.{more_link, MaybeExpr, no_expr, some_expr, Tail, no_else, or_else, or_if, Binding, PlainBinding, AppliedBinding}
+use Rattle.ml_trees.specs.Tree.{Bindings, no_binding, more_binding, Case, CaseOf, Cases, no_case, more_case, Argument, Positional, LabelPun}
+use Rattle.ml_trees.specs.Tree.{Labelled, Arguments, no_argument, more_argument, Param, PatternParam, LabelParam, LabelPattern, DefaultParam}
+use Rattle.ml_trees.specs.Tree.{WrappedParam, WrappedDefault, TypesParam, Params, no_param, more_param, Part, LabelPart, IndexPart}
+use Rattle.ml_trees.specs.Tree.{CharPart, Parts}
+use Rattle.ml_trees.specs.Tree.{no_part, more_part, Field, FieldPun, AssignedField, Fields, no_field, more_field, ModuleName, UpperName}
+use Rattle.ml_trees.specs.Tree.{AnyName}
+use Rattle.ml_trees.specs.Tree.{WithClause, ModExpr, ModPath, Struct, Functor, ModApply, ModParen, Sealed}
+use Rattle.ml_trees.specs.Tree.{ModArgument, ModuleArgument, SealedArgument, NoArgument, ModArguments, no_mod_argument, more_mod_argument}
+use Rattle.ml_trees.specs.Tree.{FunctorParam, NamedParam, NoParam, FunctorParams, no_functor_param, more_functor_param, ModType, TypePath, Sig}
+use Rattle.ml_trees.specs.Tree.{TypeOf, TypeParen, With, FunctorType, ParamArrow, Arrow, MaybeType, no_type, some_type, Item, ExprItem}
+use Rattle.ml_trees.specs.Tree.{SeparatorItem, ValueItem, ExternalItem, TypeItem, ExceptionItem, ModuleItem, ModuleTypeItem, OpenItem}
+use Rattle.ml_trees.specs.Tree.{IncludeItem}
+use Rattle.ml_trees.specs.Tree.{Items, no_item, more_item, SigItem, SeparatorSig, ValSig, ExternalSig, TypeSig, ExceptionSig, ModuleSig}
+use Rattle.ml_trees.specs.Tree.{AliasSig}
+use Rattle.ml_trees.specs.Tree.{ModuleTypeSig, OpenSig, IncludeSig, SigItems, no_sig_item, more_sig_item, FileTree, Body, Face}
 use Rattle.tree_walk.specs.Events.{Event, value, field, label, operator, minus, module_path, last_path, qualifier, group_begins, group_ends}
 use Rattle.tree_walk.specs.Events.{bindings_begin, part_begins, part_ends, alternatives_end, scope_begins, scope_ends, brings}
 use Rattle.tree_walk.specs.Events.{names_out, brings_out, pat_out, pats_out, pat_field_out, pat_fields_out, variable_out, local_out, locals_out}
@@ -44,7 +44,7 @@ use Rattle.tree_walk.specs.Told.{cases_told, argument_told, arguments_told, para
 use Rattle.tree_walk.specs.Told.{fields_told, mod_told, mod_argument_told, mod_arguments_told, functor_param_told, functor_params_told}
 use Rattle.tree_walk.specs.Told.{mod_type_told, signature_told, item_told, items_told, sig_item_told, sig_items_told, file_told}
 use Rattle.rotor_base.specs.declared.token.Class.{Class}
-use Rattle.ml_syntax.specs.declared.word.Bracket.{Bracket}
+use Rattle.ml_trees.specs.declared.word.Bracket.{Bracket}
 use Rattle.tree_walk.specs.Behind.{behind}
 use Rattle.tree_walk.proofs.Silent.{type_silent, optional_silent, bang_silent, open_silent, lowers_silent, module_name_silent, withs_silent}
 use Rattle.tree_walk.proofs.Silent.{texts_silent}
@@ -63,6 +63,7 @@ brings_goes_on step (AnyName at) k z = refl
 
 mutual
   unfolding pat_told pats_told pat_field_told pat_fields_told
+
   pat_goes_on : {S : Type 0} (step : S → Event → S) (x0 : Pat) (k : S → S) (z : S) → pat_out (behind step) x0 k z ≡ k (pat_told step z x0)
   pat_goes_on step (AsPat p xs) k z = pat_goes_on step p _ _ ∙ names_goes_on step xs _ _ ∙ ap k (sym (pat_goes_on step p _ _ ∙ names_goes_on
       step xs _ _))
@@ -122,6 +123,7 @@ variable_goes_on step (AnyVariable at) k z = refl
 
 mutual
   unfolding local_told locals_told
+
   local_goes_on : {S : Type 0} (step : S → Event → S) (x0 : LocalModule) (k : S → S) (z : S) → local_out (behind step) x0 k z ≡ k (local_told
       step z x0)
   local_goes_on step (LocalPath path ms) k z = locals_goes_on step ms _ _ ∙ ap k (sym (locals_goes_on step ms _ _))
@@ -136,6 +138,7 @@ mutual
 mutual
   unfolding expr_told links_told base_told guard_told tail_told binding_told bindings_told case_told cases_told argument_told arguments_told
       param_told params_told part_told parts_told field_told fields_told
+
   expr_goes_on : {S : Type 0} (step : S → Event → S) (x0 : Expr) (k : S → S) (z : S) → expr_out (behind step) x0 k z ≡ k (expr_told step z x0)
   expr_goes_on step (Seq e es last) k z = expr_goes_on step e _ _ ∙ links_goes_on step es _ _ ∙ optional_silent step key.Semicolon last _ _ ∙ ap
       k (sym (expr_goes_on step e _ _ ∙ links_goes_on step es _ _ ∙ optional_silent step key.Semicolon last _ _))
@@ -296,6 +299,7 @@ mutual
 mutual
   unfolding mod_told mod_argument_told mod_arguments_told functor_param_told functor_params_told mod_type_told signature_told item_told
       items_told sig_item_told sig_items_told
+
   mod_goes_on : {S : Type 0} (step : S → Event → S) (x0 : ModExpr) (k : S → S) (z : S) → mod_out (behind step) x0 k z ≡ k (mod_told step z x0)
   mod_goes_on step (ModPath path) k z = refl
   mod_goes_on step (Struct at is) k z = items_goes_on step is _ _ ∙ ap k (sym (items_goes_on step is _ _))

@@ -1,8 +1,8 @@
 -- The events of the program as events of the definitions (own).
 use Rattle.rotor_base.specs.declared.token.Class.TheVariants as class
-use Rattle.ml_syntax.specs.Tok.{fixed, word}
-use Rattle.ml_syntax.specs.Tree.{PlainName, OperatorName}
-use Rattle.ml_syntax.specs.View.{view_word, view_tok, view_words}
+use Rattle.ml_trees.specs.Tok.{fixed, word}
+use Rattle.ml_trees.specs.Tree.{PlainName, OperatorName}
+use Rattle.ml_trees.specs.View.{view_word, view_tok, view_words}
 use Rattle.tree_walk.specs.declared.event.Event.{Event}
 use Rattle.tree_walk.specs.declared.event.Event.TheVariants as e
 use Rattle.tree_walk.specs.Events as pure

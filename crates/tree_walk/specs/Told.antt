@@ -1,23 +1,23 @@
 -- What the events of each kind of tree make of a state (own).
 use Rattle.std.specs.Prelude.{List}
-use Rattle.ml_syntax.specs.declared.fixed.Fixed.{Fixed}
-use Rattle.ml_syntax.specs.Tree.{ValueName, Pat}
-use Rattle.ml_syntax.specs.Tree.{Pats, PatField}
-use Rattle.ml_syntax.specs.Tree.{PatFields, Variable, LocalModule}
-use Rattle.ml_syntax.specs.Tree.{LocalArguments, Expr}
-use Rattle.ml_syntax.specs.Tree.{Links}
-use Rattle.ml_syntax.specs.Tree.{MaybeExpr, Tail, Binding}
-use Rattle.ml_syntax.specs.Tree.{Bindings, Case, Cases, Argument}
-use Rattle.ml_syntax.specs.Tree.{Arguments, Param}
-use Rattle.ml_syntax.specs.Tree.{Params, Part}
-use Rattle.ml_syntax.specs.Tree.{Parts}
-use Rattle.ml_syntax.specs.Tree.{Field, Fields, ModuleName}
-use Rattle.ml_syntax.specs.Tree.{ModExpr}
-use Rattle.ml_syntax.specs.Tree.{ModArgument, ModArguments}
-use Rattle.ml_syntax.specs.Tree.{FunctorParam, FunctorParams, ModType}
-use Rattle.ml_syntax.specs.Tree.{MaybeType, Item}
-use Rattle.ml_syntax.specs.Tree.{Items, SigItem}
-use Rattle.ml_syntax.specs.Tree.{SigItems, FileTree}
+use Rattle.ml_trees.specs.declared.fixed.Fixed.{Fixed}
+use Rattle.ml_trees.specs.Tree.{ValueName, Pat}
+use Rattle.ml_trees.specs.Tree.{Pats, PatField}
+use Rattle.ml_trees.specs.Tree.{PatFields, Variable, LocalModule}
+use Rattle.ml_trees.specs.Tree.{LocalArguments, Expr}
+use Rattle.ml_trees.specs.Tree.{Links}
+use Rattle.ml_trees.specs.Tree.{MaybeExpr, Tail, Binding}
+use Rattle.ml_trees.specs.Tree.{Bindings, Case, Cases, Argument}
+use Rattle.ml_trees.specs.Tree.{Arguments, Param}
+use Rattle.ml_trees.specs.Tree.{Params, Part}
+use Rattle.ml_trees.specs.Tree.{Parts}
+use Rattle.ml_trees.specs.Tree.{Field, Fields, ModuleName}
+use Rattle.ml_trees.specs.Tree.{ModExpr}
+use Rattle.ml_trees.specs.Tree.{ModArgument, ModArguments}
+use Rattle.ml_trees.specs.Tree.{FunctorParam, FunctorParams, ModType}
+use Rattle.ml_trees.specs.Tree.{MaybeType, Item}
+use Rattle.ml_trees.specs.Tree.{Items, SigItem}
+use Rattle.ml_trees.specs.Tree.{SigItems, FileTree}
 use Rattle.tree_walk.specs.Events.{Event}
 use Rattle.tree_walk.specs.Events.{names_out, brings_out, pat_out, pats_out, pat_field_out, pat_fields_out, variable_out, local_out, locals_out}
 use Rattle.tree_walk.specs.Events.{expr_out, links_out, base_out, guard_out, tail_out, binding_out, bindings_out, case_out, cases_out}

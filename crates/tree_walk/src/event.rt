@@ -4,7 +4,7 @@ ghost use Rattle.std.specs.Prelude.{◌≡◌, OnOk};
 ghost use Rattle.tree_walk.specs.Events as pure;
 ghost use Rattle.tree_walk.specs.Heard.{view_event};
 
-use ml_syntax::{Fixed, Word};
+use ml_trees::{Fixed, Word};
 use rotor_base::Memory;
 
 /// A phrase of a tree, or where a group, a part or a scope begins or ends.

@@ -4,12 +4,12 @@
 //! than the bound on levels.
 
 ghost use Rattle.std.specs.Prelude.{◌≡◌, OnOk};
-ghost use Rattle.ml_syntax.specs.Tree.{LocalArguments};
-ghost use Rattle.ml_syntax.specs.View.{view_local, view_local_then, locals};
+ghost use Rattle.ml_trees.specs.Tree.{LocalArguments};
+ghost use Rattle.ml_trees.specs.View.{view_local, view_local_then, locals};
 ghost use Rattle.tree_walk.specs.Told.{local_told, locals_told};
 
 use crate::event::{Event, Visitor};
-use ml_syntax::{LocalArgument, LocalModule};
+use ml_trees::{LocalArgument, LocalModule};
 use rotor_base::Memory;
 
 /// Reports the paths of a module and of its arguments.

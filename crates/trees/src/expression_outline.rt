@@ -2,7 +2,7 @@
 
 use crate::outline::Outline;
 use crate::pattern_outline::pattern;
-use ml_syntax::{
+use ml_trees::{
     Argument, Binding, Case, Expr, Field, LocalArgument, LocalModule, Param, Part, Variable, Word,
 };
 

@@ -1,6 +1,6 @@
 //! The names and parts of expressions.
 
-use ml_syntax::Expr;
+use ml_trees::Expr;
 use std::alloc::{AllocError, Global};
 
 /// The production of an expression, how many further parts it has, and the place after it.

@@ -1,6 +1,6 @@
 //! The names and parts of files.
 
-use ml_syntax::{FileTree, Item, ModExpr, ModType, Open, SigItem, WithClause};
+use ml_trees::{FileTree, Item, ModExpr, ModType, Open, SigItem, WithClause};
 use std::alloc::{AllocError, Global};
 
 /// How many items a file has, the production of the last one, and how many parts that has.

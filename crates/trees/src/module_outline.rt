@@ -2,7 +2,7 @@
 
 use crate::expression_outline::{binding, bindings, expression};
 use crate::outline::Outline;
-use ml_syntax::{
+use ml_trees::{
     Constraint, External, FileTree, FunctorParam, Item, ModArgument, ModExpr, ModType, ModuleName,
     Open, SigItem,
 };

@@ -1,6 +1,6 @@
 //! A tree as a text: each production with its tokens, in parentheses, its parts inside.
 
-use ml_syntax::{Bracket, Path, Run, ValueName, Word};
+use ml_trees::{Bracket, Path, Run, ValueName, Word};
 use std::alloc::{AllocError, Global};
 use std::fmt::Write;
 

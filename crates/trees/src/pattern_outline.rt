@@ -1,7 +1,7 @@
 //! Patterns as outlines.
 
 use crate::outline::Outline;
-use ml_syntax::{Pat, PatField};
+use ml_trees::{Pat, PatField};
 
 /// Adds a pattern.
 #[cycle(pattern_outline)]

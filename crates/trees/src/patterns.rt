@@ -1,6 +1,6 @@
 //! The names of patterns.
 
-use ml_syntax::Pat;
+use ml_trees::Pat;
 
 /// The production of a pattern.
 pub fn production(pat: &Pat) -> &'static str {

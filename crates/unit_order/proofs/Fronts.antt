@@ -1,9 +1,9 @@
 -- What was bound before stays in front of what is bound behind it.
 use Rattle.std.proofs.Common.{◌≡◌, ℕ, ◌≤◌, List, [], ◌∷◌, ◌++◌, length, take, refl, sym, ap, ◌∙◌, take-take, length-take, arith}
-use Rattle.ml_syntax.specs.Tree.{ModuleName, UpperName, AnyName, FunctorParam, NamedParam, NoParam, FunctorParams, no_functor_param}
-use Rattle.ml_syntax.specs.Tree.{more_functor_param, Item, ExprItem, SeparatorItem, ValueItem, ExternalItem, TypeItem, ExceptionItem, ModuleItem}
-use Rattle.ml_syntax.specs.Tree.{ModuleTypeItem, OpenItem, IncludeItem, SigItem, SeparatorSig, ValSig, ExternalSig, TypeSig, ExceptionSig, ModuleSig}
-use Rattle.ml_syntax.specs.Tree.{AliasSig, ModuleTypeSig, OpenSig, IncludeSig}
+use Rattle.ml_trees.specs.Tree.{ModuleName, UpperName, AnyName, FunctorParam, NamedParam, NoParam, FunctorParams, no_functor_param}
+use Rattle.ml_trees.specs.Tree.{more_functor_param, Item, ExprItem, SeparatorItem, ValueItem, ExternalItem, TypeItem, ExceptionItem, ModuleItem}
+use Rattle.ml_trees.specs.Tree.{ModuleTypeItem, OpenItem, IncludeItem, SigItem, SeparatorSig, ValSig, ExternalSig, TypeSig, ExceptionSig, ModuleSig}
+use Rattle.ml_trees.specs.Tree.{AliasSig, ModuleTypeSig, OpenSig, IncludeSig}
 use Rattle.unit_order.specs.Heads.{bound_by_name, bound_by_param, bound_by_params, bound_by_item, bound_by_sig_item}
 
 pub all : (bound : List (List ℕ)) → take (length bound) bound ≡ bound

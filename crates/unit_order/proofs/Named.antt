@@ -11,9 +11,9 @@ use Rattle.std.proofs.lemmas.List.Quantifiers.{position-Some}
 use Rattle.rotor_base.specs.Files.{bad_line, bad_manifest}
 use Rattle.rotor_base.specs.declared.unit.SourceUnit.{SourceUnit}
 use Rattle.rotor_base.specs.declared.refusal.LoadError.TheVariants.{BadManifest}
-use Rattle.ml_syntax.specs.Tree.{UnitTree}
-use Rattle.ml_syntax.specs.declared.module.UnitTree as trees
-use Rattle.ml_syntax.specs.View.{view_unit}
+use Rattle.ml_trees.specs.Tree.{UnitTree}
+use Rattle.ml_trees.specs.declared.module.UnitTree as trees
+use Rattle.ml_trees.specs.View.{view_unit}
 use Rattle.unit_order.specs.Positions.{views, unit_at, names_at}
 use Rattle.unit_order.specs.Order.{IsListed, is_filled}
 use Rattle.unit_order.proofs.Stuck.{first_within}

@@ -1,34 +1,34 @@
 -- What a unit needs is what its events say. Printed by scripts/print_walk.py.
 use Rattle.std.proofs.Common.{◌≡◌, ◌∙◌, ◌∷◌, ◌++◌, ℕ, List, [], Some, ap, length, take}
-use Rattle.ml_syntax.specs.declared.fixed.Fixed.{Fixed}
-use Rattle.ml_syntax.specs.declared.fixed.Fixed.TheVariants as key
-use Rattle.ml_syntax.specs.Tree.{ValueName, Pat, AsPat, OrPat, TuplePat, ConsPat, ConstrApplyPat, TagApplyPat, LazyPat}
-use Rattle.ml_syntax.specs.Tree.{ExceptionPat, AnyPat, ValuePat, LiteralPat, NegativePat, RangePat, ConstrPat, TagPat, BoolPat, UnitPat}
-use Rattle.ml_syntax.specs.Tree.{ParenPat}
-use Rattle.ml_syntax.specs.Tree.{TypedPat, EmptyPat, ListPat, RecordPat, OpenedPat, Pats, no_pat, more_pat, PatField, PunnedField, MatchedField}
-use Rattle.ml_syntax.specs.Tree.{PatFields, no_pat_field, more_pat_field, Variable, PlainVariable, AnyVariable, LocalModule, LocalPath}
-use Rattle.ml_syntax.specs.Tree.{LocalArguments, no_local, more_local, no_module, Expr, Seq, Let, LetOpen, LetModule, Fun, Function, Match, Try}
-use Rattle.ml_syntax.specs.Tree.{If}
-use Rattle.ml_syntax.specs.Tree.{Chain, Minus, Apply, ConstrApply, TagApply, Assert, Lazy, Postfix, Prefixed, Literal, BoolExpr, Value, Constr}
-use Rattle.ml_syntax.specs.Tree.{Tag}
-use Rattle.ml_syntax.specs.Tree.{UnitExpr, Paren, Typed, Coerced, EmptyBegin, Begin, EmptyList, ListExpr, Record, Opened, While, For}
-use Rattle.ml_syntax.specs.Tree.{Links, no_link}
-use Rattle.ml_syntax.specs.Tree.{more_link, MaybeExpr, no_expr, some_expr, Tail, no_else, or_else, or_if, Binding, PlainBinding, AppliedBinding}
-use Rattle.ml_syntax.specs.Tree.{Bindings, no_binding, more_binding, Case, CaseOf, Cases, no_case, more_case, Argument, Positional, LabelPun}
-use Rattle.ml_syntax.specs.Tree.{Labelled, Arguments, no_argument, more_argument, Param, PatternParam, LabelParam, LabelPattern, DefaultParam}
-use Rattle.ml_syntax.specs.Tree.{WrappedParam, WrappedDefault, TypesParam, Params, no_param, more_param, Part, LabelPart, IndexPart}
-use Rattle.ml_syntax.specs.Tree.{CharPart, Parts}
-use Rattle.ml_syntax.specs.Tree.{no_part, more_part, Field, FieldPun, AssignedField, Fields, no_field, more_field, ModuleName, UpperName}
-use Rattle.ml_syntax.specs.Tree.{AnyName}
-use Rattle.ml_syntax.specs.Tree.{ModExpr, ModPath, Struct, Functor, ModApply, ModParen, Sealed}
-use Rattle.ml_syntax.specs.Tree.{ModArgument, ModuleArgument, SealedArgument, NoArgument, ModArguments, no_mod_argument, more_mod_argument}
-use Rattle.ml_syntax.specs.Tree.{FunctorParam, NamedParam, NoParam, FunctorParams, no_functor_param, more_functor_param, ModType, TypePath, Sig}
-use Rattle.ml_syntax.specs.Tree.{TypeOf, TypeParen, With, FunctorType, ParamArrow, Arrow, MaybeType, no_type, some_type, Item, ExprItem}
-use Rattle.ml_syntax.specs.Tree.{SeparatorItem, ValueItem, ExternalItem, TypeItem, ExceptionItem, ModuleItem, ModuleTypeItem, OpenItem}
-use Rattle.ml_syntax.specs.Tree.{IncludeItem}
-use Rattle.ml_syntax.specs.Tree.{Items, no_item, more_item, SigItem, SeparatorSig, ValSig, ExternalSig, TypeSig, ExceptionSig, ModuleSig}
-use Rattle.ml_syntax.specs.Tree.{AliasSig}
-use Rattle.ml_syntax.specs.Tree.{ModuleTypeSig, OpenSig, IncludeSig, SigItems, no_sig_item, more_sig_item, FileTree, Body, Face}
+use Rattle.ml_trees.specs.declared.fixed.Fixed.{Fixed}
+use Rattle.ml_trees.specs.declared.fixed.Fixed.TheVariants as key
+use Rattle.ml_trees.specs.Tree.{ValueName, Pat, AsPat, OrPat, TuplePat, ConsPat, ConstrApplyPat, TagApplyPat, LazyPat}
+use Rattle.ml_trees.specs.Tree.{ExceptionPat, AnyPat, ValuePat, LiteralPat, NegativePat, RangePat, ConstrPat, TagPat, BoolPat, UnitPat}
+use Rattle.ml_trees.specs.Tree.{ParenPat}
+use Rattle.ml_trees.specs.Tree.{TypedPat, EmptyPat, ListPat, RecordPat, OpenedPat, Pats, no_pat, more_pat, PatField, PunnedField, MatchedField}
+use Rattle.ml_trees.specs.Tree.{PatFields, no_pat_field, more_pat_field, Variable, PlainVariable, AnyVariable, LocalModule, LocalPath}
+use Rattle.ml_trees.specs.Tree.{LocalArguments, no_local, more_local, no_module, Expr, Seq, Let, LetOpen, LetModule, Fun, Function, Match, Try}
+use Rattle.ml_trees.specs.Tree.{If}
+use Rattle.ml_trees.specs.Tree.{Chain, Minus, Apply, ConstrApply, TagApply, Assert, Lazy, Postfix, Prefixed, Literal, BoolExpr, Value, Constr}
+use Rattle.ml_trees.specs.Tree.{Tag}
+use Rattle.ml_trees.specs.Tree.{UnitExpr, Paren, Typed, Coerced, EmptyBegin, Begin, EmptyList, ListExpr, Record, Opened, While, For}
+use Rattle.ml_trees.specs.Tree.{Links, no_link}
+use Rattle.ml_trees.specs.Tree.{more_link, MaybeExpr, no_expr, some_expr, Tail, no_else, or_else, or_if, Binding, PlainBinding, AppliedBinding}
+use Rattle.ml_trees.specs.Tree.{Bindings, no_binding, more_binding, Case, CaseOf, Cases, no_case, more_case, Argument, Positional, LabelPun}
+use Rattle.ml_trees.specs.Tree.{Labelled, Arguments, no_argument, more_argument, Param, PatternParam, LabelParam, LabelPattern, DefaultParam}
+use Rattle.ml_trees.specs.Tree.{WrappedParam, WrappedDefault, TypesParam, Params, no_param, more_param, Part, LabelPart, IndexPart}
+use Rattle.ml_trees.specs.Tree.{CharPart, Parts}
+use Rattle.ml_trees.specs.Tree.{no_part, more_part, Field, FieldPun, AssignedField, Fields, no_field, more_field, ModuleName, UpperName}
+use Rattle.ml_trees.specs.Tree.{AnyName}
+use Rattle.ml_trees.specs.Tree.{ModExpr, ModPath, Struct, Functor, ModApply, ModParen, Sealed}
+use Rattle.ml_trees.specs.Tree.{ModArgument, ModuleArgument, SealedArgument, NoArgument, ModArguments, no_mod_argument, more_mod_argument}
+use Rattle.ml_trees.specs.Tree.{FunctorParam, NamedParam, NoParam, FunctorParams, no_functor_param, more_functor_param, ModType, TypePath, Sig}
+use Rattle.ml_trees.specs.Tree.{TypeOf, TypeParen, With, FunctorType, ParamArrow, Arrow, MaybeType, no_type, some_type, Item, ExprItem}
+use Rattle.ml_trees.specs.Tree.{SeparatorItem, ValueItem, ExternalItem, TypeItem, ExceptionItem, ModuleItem, ModuleTypeItem, OpenItem}
+use Rattle.ml_trees.specs.Tree.{IncludeItem}
+use Rattle.ml_trees.specs.Tree.{Items, no_item, more_item, SigItem, SeparatorSig, ValSig, ExternalSig, TypeSig, ExceptionSig, ModuleSig}
+use Rattle.ml_trees.specs.Tree.{AliasSig}
+use Rattle.ml_trees.specs.Tree.{ModuleTypeSig, OpenSig, IncludeSig, SigItems, no_sig_item, more_sig_item, FileTree, Body, Face}
 use Rattle.tree_walk.specs.Events.{group_ends, part_ends, alternatives_end, scope_begins, scope_ends, brings}
 use Rattle.tree_walk.specs.Told.{names_told, brings_told, pat_told, pats_told, pat_field_told, pat_fields_told, variable_told, local_told}
 use Rattle.tree_walk.specs.Told.{locals_told, expr_told, links_told, base_told, guard_told, tail_told, binding_told, bindings_told, case_told}
@@ -83,7 +83,7 @@ behind_items : (bound : List (List ℕ)) (is : Items) → take (length bound) (b
 behind_items bound no_item = all bound
 behind_items bound (more_item i is) =
     in_front bound (bound_by_item bound i) (bound_by_items (bound_by_item bound i) is) (behind_item bound i) (behind_items (bound_by_item bound
-        i) is)
+    i) is)
 
 behind_sig_items : (bound : List (List ℕ)) (is : SigItems) → take (length bound) (bound_by_sig_items bound is) ≡ bound
 behind_sig_items bound no_sig_item = all bound
@@ -494,15 +494,15 @@ mutual
   item_needs (ExceptionItem at run) bound outer found = told_ExceptionItem hears (needed bound outer found) at run
   item_needs (ModuleItem at x ps s eq m) bound outer found = told_ModuleItem hears (needed bound outer found) at x ps s eq m
       ∙ ap (λ w. brings_told hears (hears (mod_told hears (signature_told hears w s) m) scope_ends) x) (functor_params_needs ps bound (length
-          bound ∷ outer) found)
+      bound ∷ outer) found)
       ∙ ap (λ w. brings_told hears (hears (mod_told hears w m) scope_ends) x) (signature_needs s (bound_by_params bound ps) (length bound ∷
-          outer) (functor_params_heads bound found ps))
+      outer) (functor_params_heads bound found ps))
       ∙ ap (λ w. brings_told hears (hears w scope_ends) x) (mod_needs m (bound_by_params bound ps) (length bound ∷ outer) (signature_heads
-          (bound_by_params bound ps) (functor_params_heads bound found ps) s))
+      (bound_by_params bound ps) (functor_params_heads bound found ps) s))
       ∙ ap (λ w. brings_told hears (needed w outer (mod_heads (bound_by_params bound ps) (signature_heads (bound_by_params bound ps)
-          (functor_params_heads bound found ps) s) m)) x) (behind_params bound ps)
+      (functor_params_heads bound found ps) s) m)) x) (behind_params bound ps)
       ∙ brings_needs x bound outer (mod_heads (bound_by_params bound ps) (signature_heads (bound_by_params bound ps) (functor_params_heads bound
-          found ps) s) m)
+      found ps) s) m)
   item_needs (ModuleTypeItem at x eq s) bound outer found = told_ModuleTypeItem hears (needed bound outer found) at x eq s
       ∙ mod_type_needs s bound outer found
   item_needs (OpenItem at bang path) bound outer found = told_OpenItem hears (needed bound outer found) at bang path
@@ -526,9 +526,9 @@ mutual
   sig_item_needs (ModuleSig at x ps s) bound outer found = told_ModuleSig hears (needed bound outer found) at x ps s
       ∙ ap (λ w. brings_told hears (hears (mod_type_told hears w s) scope_ends) x) (functor_params_needs ps bound (length bound ∷ outer) found)
       ∙ ap (λ w. brings_told hears (hears w scope_ends) x) (mod_type_needs s (bound_by_params bound ps) (length bound ∷ outer)
-          (functor_params_heads bound found ps))
+      (functor_params_heads bound found ps))
       ∙ ap (λ w. brings_told hears (needed w outer (mod_type_heads (bound_by_params bound ps) (functor_params_heads bound found ps) s)) x)
-          (behind_params bound ps)
+      (behind_params bound ps)
       ∙ brings_needs x bound outer (mod_type_heads (bound_by_params bound ps) (functor_params_heads bound found ps) s)
   sig_item_needs (AliasSig at x eq path) bound outer found = told_AliasSig hears (needed bound outer found) at x eq path
   sig_item_needs (ModuleTypeSig at x eq s) bound outer found = told_ModuleTypeSig hears (needed bound outer found) at x eq s

@@ -1,7 +1,7 @@
 -- Small units: the heads of their paths, and their order.
 use Rattle.std.proofs.Common.{◌≡◌, List, [], ◌∷◌, Some, None, codes, refl, rules, ℕ}
-use Rattle.ml_syntax.specs.Tok.{Name}
-use Rattle.ml_syntax.specs.Tree as pure
+use Rattle.ml_trees.specs.Tok.{Name}
+use Rattle.ml_trees.specs.Tree as pure
 use Rattle.unit_order.specs.Heads.{unit_heads}
 use Rattle.unit_order.specs.Order.{taking, derived_order, order_of, IsStuck}
 

@@ -8,7 +8,7 @@ use Rattle.std.proofs.lemmas.List.Elements.{All-push, All-nil, All-cons, All-wea
 use Rattle.std.proofs.lemmas.List.Sums.{sum_by-set}
 use Rattle.std.proofs.lemmas.List.Folds.{Any-from_list_any, list_any-append, list_any_at, sum_by-replicate}
 use Rattle.std.specs.List.{list_any}
-use Rattle.ml_syntax.specs.Tree.{UnitTree}
+use Rattle.ml_trees.specs.Tree.{UnitTree}
 use Rattle.unit_order.specs.Order.{needs_unit, leads_to}
 use Rattle.unit_order.specs.Positions.{unit_at}
 use Rattle.unit_order.specs.Needs.{AreNeeds}

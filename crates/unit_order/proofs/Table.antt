@@ -6,9 +6,9 @@ use Rattle.std.proofs.lemmas.Bool.{eq-eqb, ne_eqb, or_left}
 use Rattle.std.proofs.lemmas.List.{get_or-map, get_or_default, length-map, drop_more}
 use Rattle.std.proofs.lemmas.List.Sums.{sum_by-cons, count_by-le-length}
 use Rattle.std.proofs.lemmas.List.Elements.{All-nil, All-cons, All-weaker}
-use Rattle.ml_syntax.specs.Tree.{UnitTree}
-use Rattle.ml_syntax.specs.declared.module.UnitTree as trees
-use Rattle.ml_syntax.specs.View.{view_unit}
+use Rattle.ml_trees.specs.Tree.{UnitTree}
+use Rattle.ml_trees.specs.declared.module.UnitTree as trees
+use Rattle.ml_trees.specs.View.{view_unit}
 use Rattle.unit_order.specs.Order.{needs_unit}
 use Rattle.unit_order.specs.Positions.{blank, views, unit_at}
 use Rattle.unit_order.specs.Needs.{need_table, positions_from, AreNeeds, times}

@@ -16,7 +16,7 @@ use Rattle.std.proofs.lemmas.List.{take-append-drop}
 use Rattle.std.proofs.lemmas.List.Sums.{sum_by-cons, sum_by-append}
 use Rattle.std.proofs.lemmas.List.Elements.{All-head, All-tail}
 use Rattle.std.specs.Str.{bytes_eq}
-use Rattle.ml_syntax.specs.Tree.{UnitTree}
+use Rattle.ml_trees.specs.Tree.{UnitTree}
 use Rattle.unit_order.specs.declared.taking.Waiting.{Waiting}
 use Rattle.unit_order.specs.Heads.{is_among}
 use Rattle.unit_order.specs.Order.{needs_unit, is_ready, first_ready}

@@ -8,7 +8,7 @@ use Rattle.std.proofs.lemmas.List.{map-append, length-map, get_or-map, same_list
 use Rattle.std.proofs.lemmas.List.Sums.{sum_by-cons}
 use Rattle.std.proofs.lemmas.List.Elements.{All-push, All-nil}
 use Rattle.std.proofs.lemmas.List.Quantifiers.{position-Some}
-use Rattle.ml_syntax.specs.Tree.{UnitTree}
+use Rattle.ml_trees.specs.Tree.{UnitTree}
 use Rattle.unit_order.specs.declared.taking.Waiting.{Waiting}
 use Rattle.unit_order.specs.Heads.{is_among}
 use Rattle.unit_order.specs.Order.{needs_unit, first_ready, taking, derived_order, go_on}

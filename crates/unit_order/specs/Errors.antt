@@ -1,6 +1,6 @@
 -- Why units have no order (the OCaml manual, "Dependency generator").
 use Rattle.std.specs.Prelude.{◌≡◌, ℕ, List, Option, None, false, ⊤}
-use Rattle.ml_syntax.specs.Tree.{UnitTree}
+use Rattle.ml_trees.specs.Tree.{UnitTree}
 use Rattle.unit_order.specs.Order.{takes_all, IsStuck}
 use Rattle.unit_order.specs.declared.link_order.OrderError.{OrderError}
 use Rattle.unit_order.specs.declared.link_order.OrderError.TheVariants.{Cycle, Memory}

@@ -4,25 +4,25 @@
 use Rattle.std.specs.Prelude.{ℕ, List, [], ◌∷◌, ◌++◌, Bool, if◌then◌else◌, Option, Some, None}
 use Rattle.std.specs.List.{list_any}
 use Rattle.std.specs.Str.{bytes_eq}
-use Rattle.ml_syntax.specs.Tok.{Name}
-use Rattle.ml_syntax.specs.Tree.{Pat, AsPat, OrPat, TuplePat, ConsPat, ConstrApplyPat, TagApplyPat, LazyPat, ExceptionPat, AnyPat, ValuePat}
-use Rattle.ml_syntax.specs.Tree.{LiteralPat, NegativePat, RangePat, ConstrPat, TagPat, BoolPat, UnitPat, ParenPat, TypedPat, EmptyPat, ListPat}
-use Rattle.ml_syntax.specs.Tree.{RecordPat, OpenedPat, Pats, no_pat, more_pat, PatField, PunnedField, MatchedField, PatFields, no_pat_field}
-use Rattle.ml_syntax.specs.Tree.{more_pat_field, Expr, Seq, Let, LetOpen, LetModule, Fun, Function, Match, Try, If, Chain, Minus, Apply, ConstrApply}
-use Rattle.ml_syntax.specs.Tree.{TagApply, Assert, Lazy, Postfix, Prefixed, Literal, BoolExpr, Value, Constr, Tag, UnitExpr, Paren, Typed, Coerced}
-use Rattle.ml_syntax.specs.Tree.{EmptyBegin, Begin, EmptyList, ListExpr, Record, Opened, While, For, Links, no_link, more_link, MaybeExpr, no_expr}
-use Rattle.ml_syntax.specs.Tree.{some_expr, Tail, no_else, or_else, or_if, Binding, PlainBinding, AppliedBinding, Bindings, no_binding, more_binding}
-use Rattle.ml_syntax.specs.Tree.{Case, CaseOf, Cases, no_case, more_case, Argument, Positional, LabelPun, Labelled, Arguments, no_argument}
-use Rattle.ml_syntax.specs.Tree.{more_argument, Param, PatternParam, LabelParam, LabelPattern, DefaultParam, WrappedParam, WrappedDefault, TypesParam}
-use Rattle.ml_syntax.specs.Tree.{Params, no_param, more_param, Part, LabelPart, IndexPart, CharPart, Parts, no_part, more_part, Field, FieldPun}
-use Rattle.ml_syntax.specs.Tree.{AssignedField, Fields, no_field, more_field, ModExpr, ModPath, Struct, Functor, ModApply, ModParen, Sealed}
-use Rattle.ml_syntax.specs.Tree.{ModArgument, ModuleArgument, SealedArgument, NoArgument, ModArguments, no_mod_argument, more_mod_argument}
-use Rattle.ml_syntax.specs.Tree.{FunctorParam, NamedParam, NoParam, FunctorParams, no_functor_param, more_functor_param, ModType, TypePath, Sig}
-use Rattle.ml_syntax.specs.Tree.{TypeOf, TypeParen, With, FunctorType, ParamArrow, Arrow, MaybeType, no_type, some_type, Item, ExprItem}
-use Rattle.ml_syntax.specs.Tree.{SeparatorItem, ValueItem, ExternalItem, TypeItem, ExceptionItem, ModuleItem, ModuleTypeItem, OpenItem, IncludeItem}
-use Rattle.ml_syntax.specs.Tree.{Items, no_item, more_item, SigItem, SeparatorSig, ValSig, ExternalSig, TypeSig, ExceptionSig, ModuleSig, AliasSig}
-use Rattle.ml_syntax.specs.Tree.{ModuleTypeSig, OpenSig, IncludeSig, SigItems, no_sig_item, more_sig_item, FileTree, Body, Face, LocalModule}
-use Rattle.ml_syntax.specs.Tree.{LocalPath, LocalArguments, no_local, more_local, no_module, ModuleName, UpperName, AnyName, UnitTree}
+use Rattle.ml_trees.specs.Tok.{Name}
+use Rattle.ml_trees.specs.Tree.{Pat, AsPat, OrPat, TuplePat, ConsPat, ConstrApplyPat, TagApplyPat, LazyPat, ExceptionPat, AnyPat, ValuePat}
+use Rattle.ml_trees.specs.Tree.{LiteralPat, NegativePat, RangePat, ConstrPat, TagPat, BoolPat, UnitPat, ParenPat, TypedPat, EmptyPat, ListPat}
+use Rattle.ml_trees.specs.Tree.{RecordPat, OpenedPat, Pats, no_pat, more_pat, PatField, PunnedField, MatchedField, PatFields, no_pat_field}
+use Rattle.ml_trees.specs.Tree.{more_pat_field, Expr, Seq, Let, LetOpen, LetModule, Fun, Function, Match, Try, If, Chain, Minus, Apply, ConstrApply}
+use Rattle.ml_trees.specs.Tree.{TagApply, Assert, Lazy, Postfix, Prefixed, Literal, BoolExpr, Value, Constr, Tag, UnitExpr, Paren, Typed, Coerced}
+use Rattle.ml_trees.specs.Tree.{EmptyBegin, Begin, EmptyList, ListExpr, Record, Opened, While, For, Links, no_link, more_link, MaybeExpr, no_expr}
+use Rattle.ml_trees.specs.Tree.{some_expr, Tail, no_else, or_else, or_if, Binding, PlainBinding, AppliedBinding, Bindings, no_binding, more_binding}
+use Rattle.ml_trees.specs.Tree.{Case, CaseOf, Cases, no_case, more_case, Argument, Positional, LabelPun, Labelled, Arguments, no_argument}
+use Rattle.ml_trees.specs.Tree.{more_argument, Param, PatternParam, LabelParam, LabelPattern, DefaultParam, WrappedParam, WrappedDefault, TypesParam}
+use Rattle.ml_trees.specs.Tree.{Params, no_param, more_param, Part, LabelPart, IndexPart, CharPart, Parts, no_part, more_part, Field, FieldPun}
+use Rattle.ml_trees.specs.Tree.{AssignedField, Fields, no_field, more_field, ModExpr, ModPath, Struct, Functor, ModApply, ModParen, Sealed}
+use Rattle.ml_trees.specs.Tree.{ModArgument, ModuleArgument, SealedArgument, NoArgument, ModArguments, no_mod_argument, more_mod_argument}
+use Rattle.ml_trees.specs.Tree.{FunctorParam, NamedParam, NoParam, FunctorParams, no_functor_param, more_functor_param, ModType, TypePath, Sig}
+use Rattle.ml_trees.specs.Tree.{TypeOf, TypeParen, With, FunctorType, ParamArrow, Arrow, MaybeType, no_type, some_type, Item, ExprItem}
+use Rattle.ml_trees.specs.Tree.{SeparatorItem, ValueItem, ExternalItem, TypeItem, ExceptionItem, ModuleItem, ModuleTypeItem, OpenItem, IncludeItem}
+use Rattle.ml_trees.specs.Tree.{Items, no_item, more_item, SigItem, SeparatorSig, ValSig, ExternalSig, TypeSig, ExceptionSig, ModuleSig, AliasSig}
+use Rattle.ml_trees.specs.Tree.{ModuleTypeSig, OpenSig, IncludeSig, SigItems, no_sig_item, more_sig_item, FileTree, Body, Face, LocalModule}
+use Rattle.ml_trees.specs.Tree.{LocalPath, LocalArguments, no_local, more_local, no_module, ModuleName, UpperName, AnyName, UnitTree}
 
 -- ---- paths
 

@@ -4,7 +4,7 @@ use Rattle.std.specs.List.{list_any}
 use Rattle.std.specs.Str.{bytes_eq}
 use Rattle.name_tables.specs.declared.names.Names.{Names}
 use Rattle.name_tables.specs.Names.{at}
-use Rattle.ml_syntax.specs.Tree.{UnitTree}
+use Rattle.ml_trees.specs.Tree.{UnitTree}
 use Rattle.unit_order.specs.Order.{needs_unit}
 use Rattle.unit_order.specs.Positions.{unit_at}
 

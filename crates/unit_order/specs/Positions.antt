@@ -1,8 +1,8 @@
 -- The units of a list by their positions, counted from 0 (own).
 use Rattle.std.specs.Prelude.{ℕ, List, [], None, get_or, map}
-use Rattle.ml_syntax.specs.Tree.{UnitTree}
-use Rattle.ml_syntax.specs.declared.module.UnitTree as trees
-use Rattle.ml_syntax.specs.View.{view_unit}
+use Rattle.ml_trees.specs.Tree.{UnitTree}
+use Rattle.ml_trees.specs.declared.module.UnitTree as trees
+use Rattle.ml_trees.specs.View.{view_unit}
 
 -- a unit of no list
 abbrev pub blank : UnitTree

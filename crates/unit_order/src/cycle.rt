@@ -5,7 +5,7 @@ ghost use Rattle.unit_order.specs.Positions.{views, unit_at};
 ghost use Rattle.unit_order.specs.Needs.{AreNeeds};
 ghost use Rattle.unit_order.specs.Order.{LiesOnCycle};
 
-use ml_syntax::UnitTree;
+use ml_trees::UnitTree;
 use rotor_base::Memory;
 use std::alloc::Global;
 

@@ -1,12 +1,12 @@
 //! The heads of the module paths of a tree, by its events.
 
 ghost use Rattle.std.specs.Prelude.{◌≡◌, IfOk, Some, OnOk};
-ghost use Rattle.ml_syntax.specs.View.{view_file};
+ghost use Rattle.ml_trees.specs.View.{view_file};
 ghost use Rattle.unit_order.specs.Heads.{file_heads};
 
 use crate::bound::Bound;
 use crate::path::{add_head, add_prefix};
-use ml_syntax::FileTree;
+use ml_trees::FileTree;
 use rotor_base::{Memory, Name};
 use std::alloc::Global;
 use tree_walk::{Event, Visitor, walk};

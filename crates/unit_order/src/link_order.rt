@@ -13,7 +13,7 @@ use crate::cycle::first_on_cycle;
 use crate::listed::listed;
 use crate::need_lists::need_lists;
 use crate::taking::take_ready;
-use ml_syntax::UnitTree;
+use ml_trees::UnitTree;
 use rotor_base::{Memory, Name};
 use std::alloc::Global;
 use thiserror::Error;

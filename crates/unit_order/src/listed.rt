@@ -6,7 +6,7 @@ ghost use Rattle.std.specs.Str.{bytes_eq};
 ghost use Rattle.unit_order.specs.Order.{IsListed, is_filled, manifest_order};
 ghost use Rattle.unit_order.specs.Positions.{views, names_at};
 
-use ml_syntax::UnitTree;
+use ml_trees::UnitTree;
 use rotor_base::{Memory, next_line};
 use std::alloc::Global;
 

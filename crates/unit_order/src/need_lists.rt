@@ -1,7 +1,7 @@
 //! Which units need which.
 
 ghost use Rattle.std.specs.Prelude.{◌≡◌, ◌||◌, ◌+◌, ◌<◌, ℕ, List, [], IfOk, OnOk, All, cond, count_by, false, get_or, length, map, nat_eq};
-ghost use Rattle.ml_syntax.specs.View.{view_unit};
+ghost use Rattle.ml_trees.specs.View.{view_unit};
 ghost use Rattle.std.specs.List.Sorted.{IsStrictlySortedBy};
 ghost use Rattle.std.specs.Ordering.{nat_cmp};
 ghost use Rattle.std.specs.Cmp.Lexicographic.{slice_cmp};
@@ -10,7 +10,7 @@ ghost use Rattle.unit_order.specs.Positions.{views};
 ghost use Rattle.unit_order.specs.Needs.{ArePositions, is_other_head, need_table, positions_from, times};
 
 use crate::unit_needs::needs;
-use ml_syntax::UnitTree;
+use ml_trees::UnitTree;
 use name_tables::Names;
 use rotor_base::Memory;
 use std::alloc::Global;

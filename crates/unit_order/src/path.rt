@@ -1,11 +1,11 @@
 //! The heads of paths.
 
 ghost use Rattle.std.specs.Prelude.{◌≡◌, ◌++◌, ◌∷◌, [], OnOk, if◌then◌else◌};
-ghost use Rattle.ml_syntax.specs.View.{view_words};
+ghost use Rattle.ml_trees.specs.View.{view_words};
 ghost use Rattle.unit_order.specs.Heads.{is_among, module_head, prefix_head};
 
 use crate::bound::Bound;
-use ml_syntax::Word;
+use ml_trees::Word;
 use rotor_base::{Memory, Name};
 use std::alloc::Global;
 

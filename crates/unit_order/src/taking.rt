@@ -13,7 +13,7 @@ ghost use Rattle.unit_order.specs.Turns.{waits_after, is_free, NoneFreeBefore};
 ghost use Rattle.unit_order.specs.declared.taking.Waiting.{Waiting};
 
 use crate::need_lists::user_lists;
-use ml_syntax::UnitTree;
+use ml_trees::UnitTree;
 use rotor_base::Memory;
 use std::alloc::Global;
 

@@ -1,11 +1,11 @@
 //! What a unit needs.
 
 ghost use Rattle.std.specs.Prelude.{◌≡◌, IfOk};
-ghost use Rattle.ml_syntax.specs.View.{view_part_of, view_unit};
+ghost use Rattle.ml_trees.specs.View.{view_part_of, view_unit};
 ghost use Rattle.unit_order.specs.Heads.{file_heads, unit_heads};
 
 use crate::heads::with_heads;
-use ml_syntax::{FileTree, UnitTree};
+use ml_trees::{FileTree, UnitTree};
 use rotor_base::{Memory, Name};
 use std::alloc::Global;
 

@@ -17,7 +17,7 @@ use Rattle.rotor_base.proofs.Rising.{some_is}
 use Rattle.ml_syntax.specs.Each.{Each}
 use Rattle.ml_syntax.specs.Places.{Site}
 use Rattle.ml_syntax.specs.Sound.{IsSound}
-use Rattle.ml_syntax.specs.Tree.{UnitTree}
+use Rattle.ml_trees.specs.Tree.{UnitTree}
 use Rattle.shape_core.specs.Links.{link}
 use Rattle.shape_core.specs.Looks.{is_member}
 use Rattle.shape_core.specs.Respell.{Words}

@@ -7,7 +7,7 @@ use Rattle.rotor_base.specs.declared.place.Place.{Place}
 use Rattle.dependency_kernel.specs.Foot.{IsFoot}
 use Rattle.ml_syntax.specs.Places.{Site}
 use Rattle.ml_syntax.specs.Sound.{IsSound}
-use Rattle.ml_syntax.specs.Tree.{UnitTree}
+use Rattle.ml_trees.specs.Tree.{UnitTree}
 use Rattle.shape_core.specs.Shape.{Name}
 use Rattle.binding_model.specs.Facts.{facts, IsGood}
 use Rattle.binding_model.specs.Local.{IsWatched}

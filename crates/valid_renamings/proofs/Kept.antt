@@ -8,7 +8,7 @@ use Rattle.rotor_base.specs.declared.place.Ref.{Ref}
 use Rattle.ml_syntax.specs.Each.{Each}
 use Rattle.ml_syntax.specs.Places.{Site}
 use Rattle.ml_syntax.specs.Sound.{IsSound}
-use Rattle.ml_syntax.specs.Tree.{UnitTree}
+use Rattle.ml_trees.specs.Tree.{UnitTree}
 use Rattle.shape_core.specs.Respell.{Words, over}
 use Rattle.shape_core.specs.Shape.{vals}
 use Rattle.binding_model.specs.Facts.{facts, facts_of, AreNamedApart, IsGood}

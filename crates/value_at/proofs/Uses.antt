@@ -7,7 +7,7 @@ use Rattle.rotor_base.specs.declared.place.Ref.{Ref}
 use Rattle.rotor_base.specs.Place.{same_place}
 use Rattle.ml_syntax.specs.Each.{Each}
 use Rattle.ml_syntax.specs.Sound.{IsSound}
-use Rattle.ml_syntax.specs.Tree.{UnitTree}
+use Rattle.ml_trees.specs.Tree.{UnitTree}
 use Rattle.shape_core.specs.Shape.{or_else, some_if}
 use Rattle.binding_model.specs.Steps.{a_ref, refs_of}
 use Rattle.binding_model.specs.Walk.{steps}

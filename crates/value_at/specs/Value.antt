@@ -3,7 +3,7 @@ use Rattle.std.specs.Prelude.{◌≡◌, List, Contains, Option, Some, None}
 use Rattle.rotor_base.specs.declared.place.Place.{Place}
 use Rattle.rotor_base.specs.declared.place.Goal.{Goal}
 use Rattle.rotor_base.specs.declared.place.Goal.TheVariants.{Decl, Outside, Missing, Hidden, Blur}
-use Rattle.ml_syntax.specs.Tree.{UnitTree}
+use Rattle.ml_trees.specs.Tree.{UnitTree}
 use Rattle.binding_model.specs.Facts.{facts}
 use Rattle.binding_model.specs.Renaming.{IsBinder}
 use Rattle.binding_model.specs.Steps.{a_ref}

@@ -2,12 +2,12 @@
 
 ghost use Rattle.std.specs.Prelude.{◌≡◌, IfOk};
 ghost use Rattle.ml_syntax.specs.Sound.{IsSound};
-ghost use Rattle.ml_syntax.specs.View.{view_project};
+ghost use Rattle.ml_trees.specs.View.{view_project};
 ghost use Rattle.binding_model.specs.Facts.{facts as facts_of};
 ghost use Rattle.binding_model.specs.Renaming.{goal_at};
 ghost use Rattle.value_at.specs.Value.{IsValueAt, used_value};
 
-use ml_syntax::Project;
+use ml_trees::Project;
 use rename_parts::binder_at;
 use rotor_base::{Facts, Goal, Memory, Place, Ref};
 use std::alloc::Global;

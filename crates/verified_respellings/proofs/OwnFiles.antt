@@ -11,7 +11,7 @@ use Rattle.ml_lexer.proofs.OneCutting.{one_lexed}
 use Rattle.ml_syntax.specs.Places.{Site, sites}
 use Rattle.ml_syntax.specs.RespelledFile.{lexeme_toks}
 use Rattle.ml_syntax.specs.RespelledSource.{IsRespelled, AreRespelled}
-use Rattle.ml_syntax.specs.Tree.{FileTree, UnitTree}
+use Rattle.ml_trees.specs.Tree.{FileTree, UnitTree}
 use Rattle.shape_core.specs.Respell.{Words}
 use Rattle.shape_core.specs.Shape.{Name}
 use Rattle.binding_model.specs.Renaming.{places, at_place, in_file}

@@ -9,10 +9,10 @@ use Rattle.ml_syntax.specs.Respelled.{Spelling, spelled}
 use Rattle.ml_syntax.specs.RespelledFile.{lexeme_toks, new_words}
 use Rattle.ml_syntax.specs.Sound.{AreNumbered}
 use Rattle.ml_syntax.specs.Standing.{AreNumberedBy, IsWordOf, a_name, a_sign}
-use Rattle.ml_syntax.specs.Tok.{Name, Tok, tok, word}
-use Rattle.ml_syntax.specs.Tree.{FileTree}
-use Rattle.ml_syntax.specs.WellFormed.{WfFile}
-use Rattle.ml_syntax.specs.Words.{words}
+use Rattle.ml_trees.specs.Tok.{Name, Tok, tok, word}
+use Rattle.ml_trees.specs.Tree.{FileTree}
+use Rattle.ml_trees.specs.WellFormed.{WfFile}
+use Rattle.ml_trees.specs.Words.{words}
 use Rattle.ml_syntax.proofs.Numbers.{sites_are_numbered}
 use Rattle.ml_syntax.proofs.RespelledNames.{lexemes_are_numbered}
 use Rattle.rename_verify.proofs.Texts.{stands_at}

@@ -12,7 +12,7 @@ use Rattle.ml_syntax.specs.Places.{sites}
 use Rattle.ml_syntax.specs.Respelled.{Spelling, spelled}
 use Rattle.ml_syntax.specs.RespelledFile.{lexeme_toks, new_words, ChangesNames}
 use Rattle.ml_syntax.specs.RespelledSource.{IsRespelled, AreRespelled}
-use Rattle.ml_syntax.specs.Tree.{FileTree, UnitTree}
+use Rattle.ml_trees.specs.Tree.{FileTree, UnitTree}
 use Rattle.shape_core.specs.Respell.{Words}
 use Rattle.binding_model.specs.Renaming.{in_file}
 use Rattle.project_reading.specs.Reads.{Reads}

@@ -14,7 +14,7 @@ use Rattle.rotor_base.specs.declared.refusal.Refusal.{Refusal}
 use Rattle.rotor_base.specs.declared.refusal.Refusal.TheVariants as refusal
 use Rattle.ml_syntax.specs.Places.{Site}
 use Rattle.ml_syntax.specs.Sound.{IsSound}
-use Rattle.ml_syntax.specs.Tree.{UnitTree}
+use Rattle.ml_trees.specs.Tree.{UnitTree}
 use Rattle.shape_core.specs.Respell.{Words, over}
 use Rattle.shape_core.specs.Shape.{Name, or_else, or_value, some_if}
 use Rattle.binding_model.specs.Facts.{facts, unmatched, unmatched_items, least, IsGood}

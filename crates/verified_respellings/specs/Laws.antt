@@ -3,7 +3,7 @@ use Rattle.std.specs.Prelude.{◌≢◌, List, [], Result, Ok}
 use Rattle.std.specs.Global.{Vec}
 use Rattle.rotor_base.specs.declared.refusal.Refusal.{Refusal}
 use Rattle.rotor_base.specs.Files.{FileSet, IsProject}
-use Rattle.ml_syntax.specs.Tree.{UnitTree}
+use Rattle.ml_trees.specs.Tree.{UnitTree}
 use Rattle.accepted_renamings.specs.Laws.{AreValidlyRenamed}
 use Rattle.rename_batch.specs.declared.step.Batched.{Batched}
 use Rattle.rename_batch.specs.declared.step.Step.{Step}

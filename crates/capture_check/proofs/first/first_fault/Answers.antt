@@ -3,7 +3,7 @@ use Rattle.rotor_base.specs.declared.place.Place.{Place}
 use Rattle.rotor_base.specs.declared.place.Ref.{Ref}
 use Rattle.rotor_base.specs.declared.place.Link.{Link}
 use Rattle.rotor_base.specs.declared.place.Facts.{Facts}
-use Rattle.ml_syntax.specs.View.{view_project}
+use Rattle.ml_trees.specs.View.{view_project}
 use Rattle.binding_model.specs.Renaming.{name_of}
 use Rattle.capture_check.specs.Fault.{of_ref, of_link, IsFirstFault}
 use Rattle.capture_check.specs.Firsts.{IsFirstRepeat, IsFirstChange}

@@ -8,7 +8,7 @@ use Rattle.rotor_base.specs.declared.place.Ref.{Ref}
 use Rattle.rotor_base.specs.declared.looks.RefLook.{RefLook}
 use Rattle.rotor_base.specs.declared.looks.LinkLook.{LinkLook}
 use Rattle.rotor_base.specs.Place.{same_place, place_cmp}
-use Rattle.ml_syntax.specs.View.{view_project}
+use Rattle.ml_trees.specs.View.{view_project}
 use Rattle.capture_check.specs.Fault.{of_ref, of_link}
 use Rattle.capture_check.specs.Firsts.{IsFirstChange, IsFirstRepeat}
 use Rattle.capture_check.specs.Tables.{named}

@@ -5,7 +5,7 @@ use Rattle.binding_model.specs.Scopes.{here}
 use Rattle.rotor_base.specs.declared.place.Place.{Place}
 use Rattle.rotor_base.specs.Place.{place_cmp}
 use Rattle.ml_syntax.specs.declared.place.Mark.{Mark}
-use Rattle.ml_syntax.specs.View.{view_file}
+use Rattle.ml_trees.specs.View.{view_file}
 use Rattle.capture_check.proofs.Filing.{marks_more, file_filed}
 use Rattle.capture_check.proofs.table.add_file.Goals as goal
 

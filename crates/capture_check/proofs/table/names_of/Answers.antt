@@ -2,8 +2,8 @@ use Rattle.std.proofs.Common.{◌+◌, sym, ap, ◌∙◌, List, ◌∷◌, drop
 use Rattle.std.proofs.lemmas.List.{drop_more, drop_all}
 use Rattle.std.specs.BTreeMap.{get}
 use Rattle.rotor_base.specs.Place.{place_cmp}
-use Rattle.ml_syntax.specs.declared.module.UnitTree.{UnitTree}
-use Rattle.ml_syntax.specs.View.{view_unit}
+use Rattle.ml_trees.specs.declared.module.UnitTree.{UnitTree}
+use Rattle.ml_trees.specs.View.{view_unit}
 use Rattle.binding_model.specs.Renaming.{places}
 use Rattle.capture_check.specs.Tables.{filed}
 use Rattle.capture_check.proofs.Filing.{unit_filed}

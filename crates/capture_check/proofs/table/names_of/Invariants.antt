@@ -2,7 +2,7 @@ use Rattle.std.proofs.Common.{◌≡◌, drop, map, None}
 use Rattle.std.specs.BTreeMap.{get}
 use Rattle.rotor_base.specs.declared.place.Place.{Place}
 use Rattle.rotor_base.specs.Place.{place_cmp}
-use Rattle.ml_syntax.specs.View.{view_unit, view_project}
+use Rattle.ml_trees.specs.View.{view_unit, view_project}
 use Rattle.binding_model.specs.Renaming.{places}
 use Rattle.capture_check.specs.Tables.{filed}
 use Rattle.capture_check.proofs.table.names_of.Given as goal

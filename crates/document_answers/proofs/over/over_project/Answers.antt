@@ -1,7 +1,7 @@
 use Rattle.std.proofs.Common.{◌≡◌, ◌≤◌, List, All, ap, arith, length, map, subst, sym, ◌∙◌}
 use Rattle.rotor_base.specs.declared.source.SourceFile.{SourceFile}
-use Rattle.ml_syntax.specs.View.{view_project}
-use Rattle.ml_syntax.specs.declared.module.Project.{Project}
+use Rattle.ml_trees.specs.View.{view_project}
+use Rattle.ml_trees.specs.declared.module.Project.{Project}
 use Rattle.kept_projects.specs.Kept.{IsKept}
 use Rattle.refusal_words.specs.Cut.{AreCuts, view_cut}
 use Rattle.refusal_words.specs.declared.cut.CutSource.{CutSource}

@@ -1,6 +1,6 @@
 use Rattle.std.proofs.Common.{map, string_bytes, subst}
 use Rattle.std.proofs.lemmas.Result.{IfOk-weaker}
-use Rattle.ml_syntax.specs.View.{view_project}
+use Rattle.ml_trees.specs.View.{view_project}
 use Rattle.open_documents.specs.Documents.{documents}
 use Rattle.refusal_words.specs.Cut.{view_cut}
 use Rattle.requests.specs.Asked.{query_words}

@@ -1,6 +1,6 @@
 use Rattle.std.proofs.Common.{subst}
 use Rattle.std.proofs.lemmas.Result.{IfOk-weaker}
-use Rattle.ml_syntax.specs.View.{view_project}
+use Rattle.ml_trees.specs.View.{view_project}
 use Rattle.value_at.specs.Value.{IsValueAt}
 use Rattle.value_at.specs.declared.value.ValueAt.{ValueAt}
 use Rattle.document_answers.specs.Value.{has, lacks}

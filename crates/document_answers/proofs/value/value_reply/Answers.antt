@@ -1,7 +1,7 @@
 use Rattle.std.proofs.Common.{◌≡◌, ◌∙◌, ℕ, List, None, Ok, Option, Some, ap, subst, sym}
 use Rattle.std.specs.Borrow.{Bor}
 use Rattle.rotor_base.specs.declared.place.Facts.{Facts}
-use Rattle.ml_syntax.specs.View.{view_project}
+use Rattle.ml_trees.specs.View.{view_project}
 use Rattle.value_at.specs.declared.footprint_places.ValuePlace.{ValuePlace}
 use Rattle.lsp_answers.specs.declared.answer.Answer.TheVariants as answer
 use Rattle.requests.specs.Asked.{query_words}

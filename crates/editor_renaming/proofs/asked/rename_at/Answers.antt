@@ -1,5 +1,5 @@
 use Rattle.std.proofs.Common.{refl, subst}
-use Rattle.ml_syntax.specs.View.{view_project}
+use Rattle.ml_trees.specs.View.{view_project}
 use Rattle.value_at.specs.Value.{IsValueAt}
 use Rattle.editor_renaming.specs.Asked.{IsAnswer, IsRenamedTo, renamed, no_value}
 use Rattle.editor_renaming.proofs.Accepting.{if_ok_as}

@@ -1,7 +1,7 @@
 use Rattle.std.proofs.Common.{◌≡◌, ◌∙◌, List, Err, ap, subst}
 use Rattle.rotor_base.specs.declared.source.SourceFile.{SourceFile}
 use Rattle.rotor_base.specs.declared.target.Target.{Target}
-use Rattle.ml_syntax.specs.View.{view_project}
+use Rattle.ml_trees.specs.View.{view_project}
 use Rattle.rename_files.specs.Answer.{Renames}
 use Rattle.rename_project.specs.Steps.{IsRefusedFor}
 use Rattle.editor_renaming.specs.Asked.{target_of}

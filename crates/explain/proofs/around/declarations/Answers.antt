@@ -1,5 +1,5 @@
 use Rattle.std.proofs.Common.{refl}
-use Rattle.ml_syntax.specs.View.{view_project}
+use Rattle.ml_trees.specs.View.{view_project}
 use Rattle.explain.proofs.Answered.{if_ok_both}
 use Rattle.explain.proofs.Known.{named_declarations, nameless_declarations}
 use Rattle.explain.proofs.around.declarations.Goals as goal

@@ -1,4 +1,4 @@
-use Rattle.ml_syntax.specs.View.{view_project}
+use Rattle.ml_trees.specs.View.{view_project}
 use Rattle.explain.proofs.Answered.{if_ok_both, if_ok_more}
 use Rattle.explain.proofs.Known.{heavy_around, known_around}
 use Rattle.explain.proofs.around.look_in.Goals as goal

@@ -1,4 +1,4 @@
-use Rattle.ml_syntax.specs.View.{view_project}
+use Rattle.ml_trees.specs.View.{view_project}
 use Rattle.rename_files.specs.Answer.{Rejects}
 use Rattle.rename_project.specs.Steps.{IsRefusedFor}
 use Rattle.rename_project.proofs.Refusals.{stopped}

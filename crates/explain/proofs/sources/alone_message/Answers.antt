@@ -1,5 +1,5 @@
 use Rattle.std.proofs.Common.{refl, None}
-use Rattle.ml_syntax.specs.View.{view_project}
+use Rattle.ml_trees.specs.View.{view_project}
 use Rattle.explain.proofs.Saying.{source_read}
 use Rattle.explain.proofs.sources.alone_message.Goals as goal
 

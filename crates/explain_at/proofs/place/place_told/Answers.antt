@@ -1,5 +1,5 @@
 use Rattle.std.proofs.Common.{map}
-use Rattle.ml_syntax.specs.View.{view_project}
+use Rattle.ml_trees.specs.View.{view_project}
 use Rattle.refusal_words.specs.Cut.{view_cut}
 use Rattle.explain_at.proofs.Placing.{said_declared, said_nothing}
 use Rattle.explain_at.proofs.place.place_told.Goals as goal

@@ -1,5 +1,5 @@
 use Rattle.std.proofs.Common.{map, sym, ◌∙◌}
-use Rattle.ml_syntax.specs.View.{view_project}
+use Rattle.ml_trees.specs.View.{view_project}
 use Rattle.refusal_words.specs.Cut.{view_cut}
 use Rattle.explain_at.proofs.Cutting.{cut_there, token_there}
 use Rattle.explain_at.proofs.Placing.{said_between, said_past, said_token}

@@ -1,5 +1,5 @@
 use Rattle.std.proofs.Common.{map, sym, ◌∙◌}
-use Rattle.ml_syntax.specs.View.{view_project}
+use Rattle.ml_trees.specs.View.{view_project}
 use Rattle.refusal_words.specs.Cut.{view_cut}
 use Rattle.explain_at.proofs.Placing.{said_has}
 use Rattle.explain_at.proofs.spot.spot_told.Goals as goal

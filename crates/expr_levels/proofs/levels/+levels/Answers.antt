@@ -1,8 +1,8 @@
 use Rattle.std.proofs.Common.{◌&&◌, nat_le, ap, sym, ◌∙◌}
-use Rattle.ml_syntax.specs.View.{view, view_binding, view_case, view_field, bindings, cases, fields, otherwise, tail_before}
+use Rattle.ml_trees.specs.View.{view, view_binding, view_case, view_field, bindings, cases, fields, otherwise, tail_before}
 use Rattle.expr_levels.specs.Height.{height, inside, binding_height, bindings_height, case_height, cases_height, field_height, fields_height}
 use Rattle.expr_levels.specs.Height.{tail_height}
-use Rattle.ml_syntax.proofs.Variants.{at_expr_let, at_expr_match, at_expr_try, at_expr_record, at_expr_if}
+use Rattle.ml_trees.proofs.Variants.{at_expr_let, at_expr_match, at_expr_try, at_expr_record, at_expr_if}
 use Rattle.expr_levels.proofs.Heights.{second_fails, third_decides, otherwise_height}
 use Rattle.expr_levels.proofs.levels.+levels.Goals as goal
 

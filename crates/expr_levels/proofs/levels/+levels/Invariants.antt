@@ -1,6 +1,6 @@
 use Rattle.std.proofs.Common.{◌≡◌, nat_le, drop}
-use Rattle.ml_syntax.specs.Tree as pure
-use Rattle.ml_syntax.specs.View.{links, commas, ops, tail_before, bindings, cases, arguments, params, parts, fields}
+use Rattle.ml_trees.specs.Tree as pure
+use Rattle.ml_trees.specs.View.{links, commas, ops, tail_before, bindings, cases, arguments, params, parts, fields}
 use Rattle.expr_levels.specs.Height.{links_height, tail_height, bindings_height, cases_height, arguments_height, params_height, parts_height}
 use Rattle.expr_levels.specs.Height.{fields_height}
 use Rattle.expr_levels.proofs.levels.+levels.Given as goal

@@ -1,5 +1,5 @@
 use Rattle.std.proofs.Common.{◌≡◌, nat_le, drop}
-use Rattle.ml_syntax.specs.View.{locals}
+use Rattle.ml_trees.specs.View.{locals}
 use Rattle.expr_levels.specs.Height.{locals_height}
 use Rattle.expr_levels.proofs.levels.+local_levels.Given as goal
 

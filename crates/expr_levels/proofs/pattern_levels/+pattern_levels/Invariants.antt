@@ -1,5 +1,5 @@
 use Rattle.std.proofs.Common.{◌≡◌, nat_le, drop}
-use Rattle.ml_syntax.specs.View.{pats, pat_fields}
+use Rattle.ml_trees.specs.View.{pats, pat_fields}
 use Rattle.expr_levels.specs.Height.{pats_height, pat_fields_height}
 use Rattle.expr_levels.proofs.pattern_levels.+pattern_levels.Given as goal
 

@@ -1,9 +1,9 @@
 use Rattle.std.proofs.Common.{sym, ap, ◌∙◌}
-use Rattle.ml_syntax.specs.Tree as pure
-use Rattle.ml_syntax.specs.WellFormed.{on_edge, is_open_if}
-use Rattle.ml_syntax.specs.View.{view, links, tail}
-use Rattle.ml_syntax.proofs.Variants.{at_expr_seq, at_expr_function, at_expr_match, at_expr_try, at_expr_if, at_expr_assign, at_expr_tuple}
-use Rattle.ml_syntax.proofs.Variants.{at_expr_chain}
+use Rattle.ml_trees.specs.Tree as pure
+use Rattle.ml_trees.specs.WellFormed.{on_edge, is_open_if}
+use Rattle.ml_trees.specs.View.{view, links, tail}
+use Rattle.ml_trees.proofs.Variants.{at_expr_seq, at_expr_function, at_expr_match, at_expr_try, at_expr_if, at_expr_assign, at_expr_tuple}
+use Rattle.ml_trees.proofs.Variants.{at_expr_chain}
 use Rattle.expr_parts.specs.Edges.{test_of}
 use Rattle.expr_parts.proofs.Edges.{shown, links_end, links_none, commas_end, commas_none, ops_end, ops_none, cases_end, cases_none, tail_end}
 use Rattle.expr_parts.proofs.Edges.{tail_none, edge_seq, edge_chain, edge_function, edge_match, edge_try, if_other, if_none, if_open}

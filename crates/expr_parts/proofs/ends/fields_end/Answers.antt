@@ -1,5 +1,5 @@
 use Rattle.std.proofs.Common.{sym, ap, ◌∙◌}
-use Rattle.ml_syntax.specs.View.{view_field}
+use Rattle.ml_trees.specs.View.{view_field}
 use Rattle.expr_reading.specs.ExprReading.{ends_field}
 use Rattle.expr_parts.proofs.Edges.{last_fields, no_fields}
 use Rattle.expr_parts.proofs.ends.fields_end.Goals as goal

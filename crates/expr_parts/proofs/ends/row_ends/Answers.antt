@@ -1,5 +1,5 @@
 use Rattle.std.proofs.Common.{not, sym, ap, ◌∙◌}
-use Rattle.ml_syntax.specs.View.{view}
+use Rattle.ml_trees.specs.View.{view}
 use Rattle.expr_reading.specs.ExprReading.{no_form}
 use Rattle.expr_parts.proofs.Edges.{last_row, last_none}
 use Rattle.expr_parts.proofs.ends.row_ends.Goals as goal

@@ -1,23 +1,23 @@
 use Rattle.std.proofs.Common.{◌≡◌, refl, ◌+◌, ◌∷◌, drop, take, sym, ap, ◌∙◌, length, arith}
 use Rattle.std.proofs.lemmas.List.{drop_more, drop_all}
-use Rattle.ml_syntax.specs.declared.word.Word.{Word}
-use Rattle.ml_syntax.specs.declared.expression.Expr.{Expr}
-use Rattle.ml_syntax.specs.declared.expression.Argument.{Argument}
-use Rattle.ml_syntax.specs.declared.expression.Part.{Part}
-use Rattle.ml_syntax.specs.declared.expression.Field.{Field}
-use Rattle.ml_syntax.specs.declared.expression.Branch.{Branch}
-use Rattle.ml_syntax.specs.declared.expression.Case.{Case}
-use Rattle.ml_syntax.specs.declared.expression.Param.{Param}
-use Rattle.ml_syntax.specs.declared.expression.Binding.{Binding}
-use Rattle.ml_syntax.specs.View.{view, view_binding, view_case, view_field, view_param, params, maybe, links, ops, arguments, parts, fields, cases}
-use Rattle.ml_syntax.specs.View.{bindings}
+use Rattle.ml_trees.specs.declared.word.Word.{Word}
+use Rattle.ml_trees.specs.declared.expression.Expr.{Expr}
+use Rattle.ml_trees.specs.declared.expression.Argument.{Argument}
+use Rattle.ml_trees.specs.declared.expression.Part.{Part}
+use Rattle.ml_trees.specs.declared.expression.Field.{Field}
+use Rattle.ml_trees.specs.declared.expression.Branch.{Branch}
+use Rattle.ml_trees.specs.declared.expression.Case.{Case}
+use Rattle.ml_trees.specs.declared.expression.Param.{Param}
+use Rattle.ml_trees.specs.declared.expression.Binding.{Binding}
+use Rattle.ml_trees.specs.View.{view, view_binding, view_case, view_field, view_param, params, maybe, links, ops, arguments, parts, fields, cases}
+use Rattle.ml_trees.specs.View.{bindings}
 use Rattle.shape_core.specs.Node.{entries_of}
 use Rattle.binding_model.specs.Walk.{expr_steps, binding_steps, maybe_steps, case_steps, field_steps, params_steps, links_steps, arguments_steps}
 use Rattle.binding_model.specs.Walk.{parts_steps, fields_steps, cases_steps, bindings_steps}
 use Rattle.binding_model.specs.Taken.{taken, Going}
 use Rattle.binding_model.specs.Steps.{◌⨾◌, GroupOf}
 use Rattle.binding_model.proofs.Takings.{heavy_stays}
-use Rattle.ml_syntax.proofs.Variants.{at_expr_let, at_expr_if, at_expr_match, at_expr_try, at_expr_record}
+use Rattle.ml_trees.proofs.Variants.{at_expr_let, at_expr_if, at_expr_match, at_expr_try, at_expr_record}
 use Rattle.shape_core.specs.Shape.{◌⊕◌}
 use Rattle.binding_model.specs.Scopes.{bound, params_bound, let_bound, parts_scope}
 use Rattle.binding_model.specs.Variables.{param_variables}

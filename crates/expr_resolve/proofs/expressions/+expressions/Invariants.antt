@@ -1,5 +1,5 @@
 use Rattle.std.proofs.Common.{◌≡◌, ◌≤◌, drop, take, length}
-use Rattle.ml_syntax.specs.View.{links, ops, bindings, cases, arguments, params, parts, fields}
+use Rattle.ml_trees.specs.View.{links, ops, bindings, cases, arguments, params, parts, fields}
 use Rattle.shape_core.specs.Shape.{◌⊕◌}
 use Rattle.shape_core.specs.Node.{entries_of}
 use Rattle.binding_model.specs.Scopes.{params_bound}

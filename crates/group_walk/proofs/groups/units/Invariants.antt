@@ -1,5 +1,5 @@
 use Rattle.std.proofs.Common.{◌≡◌, ◌++◌, drop, map}
-use Rattle.ml_syntax.specs.View.{view_unit}
+use Rattle.ml_trees.specs.View.{view_unit}
 use Rattle.binding_model.specs.Facts.{decls}
 use Rattle.group_walk.specs.Groups.{units_groups}
 use Rattle.group_walk.proofs.groups.units.Given as goal

@@ -1,4 +1,4 @@
-use Rattle.ml_syntax.specs.View.{view_project}
+use Rattle.ml_trees.specs.View.{view_project}
 use Rattle.rename_files.proofs.Refusals.{rejects, unread}
 use Rattle.kept_projects.proofs.resolved.resolved_project.Goals as goal
 

@@ -1,8 +1,8 @@
 use Rattle.std.proofs.Common.{◌≡◌, OnOk, ap, sym, subst, ◌∙◌, arith}
-use Rattle.ml_syntax.specs.View.{view, view_case, view_binding, view_field, bindings, cases, fields, otherwise, tail}
+use Rattle.ml_trees.specs.View.{view, view_case, view_binding, view_field, bindings, cases, fields, otherwise, tail}
 use Rattle.ml_syntax.specs.Places.{expr_sites, field_sites, fields_sites, tail_sites, bindings_sites, cases_sites, case_sites, binding_sites}
 use Rattle.ml_syntax.specs.Sites.{view_sites}
-use Rattle.ml_syntax.proofs.Variants.{at_expr_let, at_expr_match, at_expr_try, at_expr_record, at_expr_if}
+use Rattle.ml_trees.proofs.Variants.{at_expr_let, at_expr_match, at_expr_try, at_expr_record, at_expr_if}
 use Rattle.ml_syntax.proofs.Branches.{branches_done}
 use Rattle.ml_syntax.proofs.expression_places.+expression_places.Goals as goal
 

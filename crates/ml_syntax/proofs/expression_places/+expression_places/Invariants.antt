@@ -1,5 +1,5 @@
 use Rattle.std.proofs.Common.{◌≡◌, drop}
-use Rattle.ml_syntax.specs.View.{links, commas, ops, tail, bindings, cases, arguments, params, parts, fields}
+use Rattle.ml_trees.specs.View.{links, commas, ops, tail, bindings, cases, arguments, params, parts, fields}
 use Rattle.ml_syntax.specs.Places.{links_sites, tail_sites, bindings_sites, cases_sites, arguments_sites, params_sites, parts_sites, fields_sites}
 use Rattle.ml_syntax.specs.Sites.{view_sites}
 use Rattle.ml_syntax.proofs.expression_places.+expression_places.Given as goal

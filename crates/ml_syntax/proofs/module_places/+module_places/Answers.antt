@@ -1,8 +1,8 @@
 use Rattle.std.proofs.Common.{◌≡◌, OnOk, ap, sym, subst, ◌∙◌}
-use Rattle.ml_syntax.specs.View.{view_item, view_mod, functor_params, signature}
+use Rattle.ml_trees.specs.View.{view_item, view_mod, functor_params, signature}
 use Rattle.ml_syntax.specs.Places.{item_sites, functor_params_sites, signature_sites, mod_sites}
 use Rattle.ml_syntax.specs.Sites.{view_sites}
-use Rattle.ml_syntax.proofs.Variants.{at_item_module}
+use Rattle.ml_trees.proofs.Variants.{at_item_module}
 use Rattle.ml_syntax.proofs.module_places.+module_places.Goals as goal
 
 pub item-returns-in_ok-optional-in-Module : goal.item-returns-in_ok-optional-in-Module

@@ -1,5 +1,5 @@
 use Rattle.std.proofs.Common.{◌≡◌, drop}
-use Rattle.ml_syntax.specs.View.{mod_arguments, functor_params, items, sig_items}
+use Rattle.ml_trees.specs.View.{mod_arguments, functor_params, items, sig_items}
 use Rattle.ml_syntax.specs.Places.{mod_arguments_sites, functor_params_sites, items_sites, sig_items_sites}
 use Rattle.ml_syntax.specs.Sites.{view_sites}
 use Rattle.ml_syntax.proofs.module_places.+module_places.Given as goal

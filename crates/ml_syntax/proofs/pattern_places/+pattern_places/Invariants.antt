@@ -1,5 +1,5 @@
 use Rattle.std.proofs.Common.{◌≡◌, drop}
-use Rattle.ml_syntax.specs.View.{pats, pat_fields}
+use Rattle.ml_trees.specs.View.{pats, pat_fields}
 use Rattle.ml_syntax.specs.Places.{pats_sites, pat_fields_sites}
 use Rattle.ml_syntax.specs.Sites.{view_sites}
 use Rattle.ml_syntax.proofs.pattern_places.+pattern_places.Given as goal

@@ -1,5 +1,5 @@
 use Rattle.std.proofs.Common.{◌≡◌, drop}
-use Rattle.ml_syntax.specs.View.{view_names}
+use Rattle.ml_trees.specs.View.{view_names}
 use Rattle.ml_syntax.specs.Places.{names_sites}
 use Rattle.ml_syntax.specs.Sites.{view_sites}
 use Rattle.ml_syntax.proofs.pattern_places.names.Given as goal

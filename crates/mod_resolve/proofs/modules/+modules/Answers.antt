@@ -1,12 +1,12 @@
 use Rattle.std.proofs.Common.{◌≡◌, ◌≤◌, refl, ◌+◌, [], ◌∷◌, ◌++◌, append_assoc, drop, take, sym, ap, ◌∙◌, length, arith}
 use Rattle.std.proofs.lemmas.List.{drop_more, drop_all}
-use Rattle.ml_syntax.specs.declared.module.Item.{Item}
-use Rattle.ml_syntax.specs.declared.module.SigItem.{SigItem}
-use Rattle.ml_syntax.specs.declared.module.ModArgument.{ModArgument}
-use Rattle.ml_syntax.specs.declared.module.FunctorParam.{FunctorParam}
-use Rattle.ml_syntax.specs.View.{view_mod, view_module_name, view_functor_param, view_item, view_sig_item, mod_arguments, functor_params, signature}
-use Rattle.ml_syntax.specs.View.{items, sig_items}
-use Rattle.ml_syntax.proofs.Variants.{at_item_module}
+use Rattle.ml_trees.specs.declared.module.Item.{Item}
+use Rattle.ml_trees.specs.declared.module.SigItem.{SigItem}
+use Rattle.ml_trees.specs.declared.module.ModArgument.{ModArgument}
+use Rattle.ml_trees.specs.declared.module.FunctorParam.{FunctorParam}
+use Rattle.ml_trees.specs.View.{view_mod, view_module_name, view_functor_param, view_item, view_sig_item, mod_arguments, functor_params, signature}
+use Rattle.ml_trees.specs.View.{items, sig_items}
+use Rattle.ml_trees.proofs.Variants.{at_item_module}
 use Rattle.shape_core.specs.Shape.{◌⊕◌}
 use Rattle.shape_core.specs.Node.{entries_of}
 use Rattle.binding_model.specs.Scopes.{here, named, applied, mod_shape, params_in, param_in, adds, opens, entries, sig_adds, sig_opens, sig_entries}

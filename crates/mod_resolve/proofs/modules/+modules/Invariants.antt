@@ -1,5 +1,5 @@
 use Rattle.std.proofs.Common.{◌≡◌, ◌≤◌, ◌++◌, drop, take, length}
-use Rattle.ml_syntax.specs.View.{mod_arguments, functor_params, items, sig_items}
+use Rattle.ml_trees.specs.View.{mod_arguments, functor_params, items, sig_items}
 use Rattle.shape_core.specs.Shape.{◌⊕◌}
 use Rattle.shape_core.specs.Node.{entries_of}
 use Rattle.binding_model.specs.Scopes.{applied_all, params_in, entries, sig_entries}

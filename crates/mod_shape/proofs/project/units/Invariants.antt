@@ -1,5 +1,5 @@
 use Rattle.std.proofs.Common.{◌≡◌, drop, map}
-use Rattle.ml_syntax.specs.View.{view_unit}
+use Rattle.ml_trees.specs.View.{view_unit}
 use Rattle.shape_core.specs.Node.{entries_of}
 use Rattle.binding_model.specs.Scopes.{after_units}
 use Rattle.binding_model.specs.Taken.{taken, Going}

@@ -1,5 +1,5 @@
 use Rattle.std.proofs.Common.{◌≡◌, None, map}
-use Rattle.ml_syntax.specs.View.{view_project, view_unit}
+use Rattle.ml_trees.specs.View.{view_project, view_unit}
 use Rattle.shape_core.specs.Node.{entries_of}
 use Rattle.binding_model.specs.Walk.{units_steps}
 use Rattle.expr_resolve.proofs.Forms.{passed}

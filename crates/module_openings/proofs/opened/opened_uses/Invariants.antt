@@ -1,6 +1,6 @@
 use Rattle.std.proofs.Common.{◌≡◌, ◌++◌, length, map}
 use Rattle.ml_lexer.specs.Lexed.{view_tokens}
-use Rattle.ml_syntax.specs.View.{view_unit}
+use Rattle.ml_trees.specs.View.{view_unit}
 use Rattle.module_openings.specs.Named.{view_linked}
 use Rattle.module_openings.specs.Opened.{opened_modules, opened_units}
 use Rattle.module_openings.proofs.opened.opened_uses.Given as goal

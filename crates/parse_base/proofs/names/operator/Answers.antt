@@ -1,5 +1,5 @@
 use Rattle.std.proofs.Common.{◌≡◌, ◌+◌, ◌∙◌, sym, ap, arith}
-use Rattle.ml_syntax.specs.declared.fixed.Fixed.TheVariants as key
+use Rattle.ml_trees.specs.declared.fixed.Fixed.TheVariants as key
 use Rattle.parse_base.specs.Gives.{starts}
 use Rattle.parse_base.specs.Tokens.{from}
 use Rattle.parse_base.proofs.Operators.{operator_unclosed}

@@ -1,5 +1,5 @@
 use Rattle.std.proofs.Common.{◌≡◌, ℕ, ◌+◌, ◌-◌, ◌<◌, ◌≤◌, List, [], ◌∷◌, reverse, Some, None, refl, sym, ap, ◌∙◌, arith}
-use Rattle.ml_syntax.specs.declared.fixed.Fixed.{Fixed}
+use Rattle.ml_trees.specs.declared.fixed.Fixed.{Fixed}
 use Rattle.parse_base.specs.Pieces.{longest}
 use Rattle.parse_base.specs.RunRows.{is_inside, is_beside, is_first, first_after, run_length, counted, or_later, count_after}
 use Rattle.parse_base.specs.Gives.{Gives}

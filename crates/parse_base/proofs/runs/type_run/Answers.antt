@@ -1,7 +1,7 @@
 use Rattle.std.proofs.Common.{ap, ◌∙◌}
 use Rattle.parse_base.specs.Pieces.{cut_at}
 use Rattle.parse_base.specs.Tokens.{from}
-use Rattle.ml_syntax.specs.View.{view_run}
+use Rattle.ml_trees.specs.View.{view_run}
 use Rattle.parse_base.proofs.RunTurns.{type_by_length, cut_there}
 use Rattle.parse_base.proofs.runs.type_run.Goals as goal
 

@@ -1,5 +1,5 @@
 use Rattle.std.proofs.Common.{◌≡◌, ◌-◌, map, take}
-use Rattle.ml_syntax.specs.View.{view_tok}
+use Rattle.ml_trees.specs.View.{view_tok}
 use Rattle.parse_base.specs.Tokens.{from}
 use Rattle.parse_base.proofs.runs.words.Given as goal
 

@@ -1,6 +1,6 @@
 use Rattle.std.proofs.Common.{rules, sym, ◌∙◌}
 use denote.Enum.Bare.{same_true, same_false}
-use Rattle.ml_syntax.specs.contracts.fixed.Fixed.{the_type}
+use Rattle.ml_trees.specs.contracts.fixed.Fixed.{the_type}
 use Rattle.parse_base.proofs.Places.{same_by}
 use Rattle.parse_base.proofs.tokens.is_same.Goals as goal
 

@@ -1,10 +1,10 @@
 use Rattle.std.proofs.Common.{◌≡◌, List, Option, Some, length, sym, ap, ◌∙◌, arith}
 use Rattle.std.specs.Vec.{vec_len}
-use Rattle.ml_syntax.specs.declared.word.ValueName.{ValueName}
-use Rattle.ml_syntax.specs.Tok.{Tok}
-use Rattle.ml_syntax.specs.Tree as pure
-use Rattle.ml_syntax.specs.View.{view, view_path, view_name, view_words}
-use Rattle.ml_syntax.proofs.Variants.{at_expr_value}
+use Rattle.ml_trees.specs.declared.word.ValueName.{ValueName}
+use Rattle.ml_trees.specs.Tok.{Tok}
+use Rattle.ml_trees.specs.Tree as pure
+use Rattle.ml_trees.specs.View.{view, view_path, view_name, view_words}
+use Rattle.ml_trees.proofs.Variants.{at_expr_value}
 use Rattle.parse_base.specs.Tokens.{from}
 use Rattle.parse_base.proofs.Stepping.{some_is}
 use Rattle.expr_reading.specs.ExprReading.{opened_or, qualified}

@@ -1,5 +1,5 @@
 use Rattle.std.proofs.Common.{◌≡◌, ℕ, List, length}
-use Rattle.ml_syntax.specs.Tok.{Tok}
+use Rattle.ml_trees.specs.Tok.{Tok}
 use Rattle.parse_module.specs.Arrows.{read_so, before_arrows}
 use Rattle.parse_module.proofs.arrows.with_arrows.Given as goal
 

@@ -1,6 +1,6 @@
 use Rattle.std.proofs.Common.{◌≡◌, ◌∷◌, [], List, Some, None, map, refl, ap, ◌∙◌}
-use Rattle.ml_syntax.specs.Tree.{Constraint}
-use Rattle.ml_syntax.specs.View.{view_constraint}
+use Rattle.ml_trees.specs.Tree.{Constraint}
+use Rattle.ml_trees.specs.View.{view_constraint}
 use Rattle.parse_module.specs.ModReading.{next_constraint}
 use Rattle.parse_base.specs.Steps.{always}
 use Rattle.parse_base.specs.Tokens.{from}

@@ -1,5 +1,5 @@
 use Rattle.std.proofs.Common.{◌-◌, ◌∷◌, [], map}
-use Rattle.ml_syntax.specs.View.{view_constraint}
+use Rattle.ml_trees.specs.View.{view_constraint}
 use Rattle.parse_module.specs.ModReading.{next_constraint}
 use Rattle.parse_base.specs.Steps.{many, always}
 use Rattle.parse_base.specs.Tokens.{from}

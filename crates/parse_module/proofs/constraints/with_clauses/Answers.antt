@@ -1,6 +1,6 @@
 use Rattle.std.proofs.Common.{◌≡◌, ◌∷◌, [], List, Some, None, map, refl, ap, ◌∙◌}
-use Rattle.ml_syntax.specs.Tree.{WithClause}
-use Rattle.ml_syntax.specs.View.{view_with}
+use Rattle.ml_trees.specs.Tree.{WithClause}
+use Rattle.ml_trees.specs.View.{view_with}
 use Rattle.parse_module.specs.ModReading.{with_clause}
 use Rattle.parse_base.specs.Steps.{always}
 use Rattle.parse_base.specs.Tokens.{from}

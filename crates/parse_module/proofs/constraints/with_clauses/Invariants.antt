@@ -1,5 +1,5 @@
 use Rattle.std.proofs.Common.{◌-◌, ◌∷◌, [], map}
-use Rattle.ml_syntax.specs.View.{view_with}
+use Rattle.ml_trees.specs.View.{view_with}
 use Rattle.parse_module.specs.ModReading.{with_clause}
 use Rattle.parse_base.specs.Steps.{many, always}
 use Rattle.parse_base.specs.Tokens.{from}

@@ -1,5 +1,5 @@
 use Rattle.std.proofs.Common.{◌+◌, length}
-use Rattle.ml_syntax.specs.View.{items}
+use Rattle.ml_trees.specs.View.{items}
 use Rattle.parse_module.proofs.Whole.{body_cut, body_whole}
 use Rattle.parse_module.proofs.files.body.Goals as goal
 

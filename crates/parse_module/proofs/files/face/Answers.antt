@@ -1,5 +1,5 @@
 use Rattle.std.proofs.Common.{◌+◌, length}
-use Rattle.ml_syntax.specs.View.{sig_items}
+use Rattle.ml_trees.specs.View.{sig_items}
 use Rattle.parse_module.proofs.Whole.{face_cut, face_whole}
 use Rattle.parse_module.proofs.files.face.Goals as goal
 

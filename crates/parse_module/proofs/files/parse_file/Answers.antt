@@ -1,4 +1,4 @@
-use Rattle.ml_syntax.specs.View.{view_file}
+use Rattle.ml_trees.specs.View.{view_file}
 use Rattle.parse_module.proofs.Whole.{file_tree, no_file}
 use Rattle.parse_module.proofs.files.parse_file.Goals as goal
 

@@ -1,5 +1,5 @@
 use Rattle.std.proofs.Common.{◌-◌, ◌∷◌, [], map}
-use Rattle.ml_syntax.specs.View.{view_word}
+use Rattle.ml_trees.specs.View.{view_word}
 use Rattle.parse_module.specs.ModReading.{text_word}
 use Rattle.parse_base.specs.Steps.{many, always}
 use Rattle.parse_base.specs.Tokens.{from}

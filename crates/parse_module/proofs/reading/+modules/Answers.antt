@@ -1,5 +1,5 @@
 use Rattle.std.proofs.Common.{◌≡◌, ◌-◌, Some, None, arith}
-use Rattle.ml_syntax.specs.View.{view_mod_type}
+use Rattle.ml_trees.specs.View.{view_mod_type}
 use Rattle.parse_base.specs.Tokens.{from}
 use Rattle.parse_base.proofs.Turns.{deeper}
 use Rattle.parse_module.specs.ModReading.{read_mod, read_type}

@@ -2,8 +2,8 @@ use Rattle.std.proofs.Common.{◌≡◌, ◌<◌, List, All, map, ap, subst, sym
 use Rattle.std.specs.Option.{option_copied}
 use Rattle.std.proofs.lemmas.List.{length-map}
 use Rattle.ml_syntax.specs.Sound.{AreDistinct}
-use Rattle.ml_syntax.specs.Tree.{UnitTree}
-use Rattle.ml_syntax.specs.View.{view_file, view_unit}
+use Rattle.ml_trees.specs.Tree.{UnitTree}
+use Rattle.ml_trees.specs.View.{view_file, view_unit}
 use Rattle.unit_order.specs.Order.{IsListed}
 use Rattle.unit_order.specs.Positions.{unit_at, views}
 use Rattle.project_reading.specs.Sources.{ReadAll}

@@ -1,6 +1,6 @@
 use Rattle.std.proofs.Common.{map, take}
 use Rattle.ml_lexer.specs.Lexed.{view_tokens}
-use Rattle.ml_syntax.specs.View.{view_file}
+use Rattle.ml_trees.specs.View.{view_file}
 use Rattle.project_reading.specs.Sources.{AreCut, ReadAll}
 use Rattle.project_reading.proofs.sources.read_sources.Given as goal
 

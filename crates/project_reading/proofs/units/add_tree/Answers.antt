@@ -1,6 +1,6 @@
 use Rattle.std.proofs.Common.{◌≡◌, ap, sym, ◌∙◌, true, false, Some, None}
 use Rattle.std.specs.Str.{bytes_eq}
-use Rattle.ml_syntax.specs.View.{view_file, view_unit}
+use Rattle.ml_trees.specs.View.{view_file, view_unit}
 use Rattle.unit_order.specs.Positions.{views}
 use Rattle.project_reading.specs.Gathered.{with_part}
 use Rattle.project_reading.proofs.Putting.{put_last, put_between, put_at, placed}

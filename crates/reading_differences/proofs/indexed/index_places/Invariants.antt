@@ -1,6 +1,6 @@
 use Rattle.std.proofs.Common.{◌≡◌, ◌++◌, drop, false, map}
 use Rattle.ml_lexer.specs.Lexed.{view_tokens}
-use Rattle.ml_syntax.specs.View.{view_unit}
+use Rattle.ml_trees.specs.View.{view_unit}
 use Rattle.reading_differences.specs.Indexed.{indexes}
 use Rattle.reading_differences.proofs.indexed.index_places.Given as goal
 

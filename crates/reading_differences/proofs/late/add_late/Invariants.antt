@@ -1,6 +1,6 @@
 use Rattle.std.proofs.Common.{◌≡◌, ◌++◌, drop, map}
 use Rattle.ml_lexer.specs.Lexed.{view_tokens}
-use Rattle.ml_syntax.specs.View.{view_unit}
+use Rattle.ml_trees.specs.View.{view_unit}
 use Rattle.reading_differences.specs.Late.{late_behind}
 use Rattle.reading_differences.proofs.late.add_late.Given as goal
 

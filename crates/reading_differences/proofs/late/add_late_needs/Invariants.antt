@@ -1,6 +1,6 @@
 use Rattle.std.proofs.Common.{◌≡◌, ◌++◌, length, map}
 use Rattle.ml_lexer.specs.Lexed.{view_tokens}
-use Rattle.ml_syntax.specs.View.{view_unit}
+use Rattle.ml_trees.specs.View.{view_unit}
 use Rattle.reading_differences.specs.Late.{late_needs}
 use Rattle.reading_differences.proofs.late.add_late_needs.Given as goal
 

@@ -8,7 +8,7 @@ use Rattle.rotor_base.specs.declared.refusal.Refusal.TheVariants as refusal
 use Rattle.rotor_base.specs.declared.source.SourceFile.{SourceFile}
 use Rattle.rotor_base.specs.Files.{FileSet}
 use Rattle.ml_syntax.specs.RespelledSource.{AreRespelled}
-use Rattle.ml_syntax.specs.View.{view_project}
+use Rattle.ml_trees.specs.View.{view_project}
 use Rattle.dependency_kernel.specs.Foot.{IsFoot}
 use Rattle.binding_model.specs.Facts.{facts}
 use Rattle.binding_model.specs.Renaming.{in_file}

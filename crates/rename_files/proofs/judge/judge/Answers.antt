@@ -1,6 +1,6 @@
 use Rattle.std.proofs.Common.{◌≡◌, ◌∙◌, None, List, ℕ, sym, subst, ap}
 use Rattle.rotor_base.specs.Files.{are_over}
-use Rattle.ml_syntax.specs.View.{view_project}
+use Rattle.ml_trees.specs.View.{view_project}
 use Rattle.rename_model.specs.Bytes.{position_with}
 use Rattle.rename_model.specs.Renaming.{refusals_of_binder}
 use Rattle.rename_project.proofs.Refusals.{stopped}

@@ -1,5 +1,5 @@
 use Rattle.std.proofs.Common.{inl, sym, subst}
-use Rattle.ml_syntax.specs.View.{view_project}
+use Rattle.ml_trees.specs.View.{view_project}
 use Rattle.capture_check.specs.Local.{IsLocalFault}
 use Rattle.rename_steps.proofs.Faulted.{some_fault, no_fault}
 use Rattle.rename_files.specs.Steps.{LastRungs}

@@ -2,7 +2,7 @@ use Rattle.std.proofs.Common.{ap, ◌∙◌, ◌++◌, List, map}
 use Rattle.std.proofs.lemmas.List.{take_all}
 use Rattle.rotor_base.specs.declared.place.Place.{Place}
 use Rattle.ml_syntax.specs.declared.place.Mark.{Mark}
-use Rattle.ml_syntax.specs.View.{view_file}
+use Rattle.ml_trees.specs.View.{view_file}
 use Rattle.binding_model.specs.Scopes.{here}
 use Rattle.rename_parts.proofs.Marks.{file_spots}
 use Rattle.rename_parts.proofs.binders.add_file.Goals as goal

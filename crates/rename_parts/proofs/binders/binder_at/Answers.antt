@@ -1,7 +1,7 @@
 use Rattle.std.proofs.Common.{◌≡◌, ◌+◌, sym, ap, ◌∙◌, List, ◌∷◌, drop, map, Some, None, refl}
 use Rattle.std.proofs.lemmas.List.{drop_more, drop_all}
-use Rattle.ml_syntax.specs.declared.module.UnitTree.{UnitTree}
-use Rattle.ml_syntax.specs.View.{view_unit, view_project}
+use Rattle.ml_trees.specs.declared.module.UnitTree.{UnitTree}
+use Rattle.ml_trees.specs.View.{view_unit, view_project}
 use Rattle.binding_model.specs.Renaming.{places, file_places}
 use Rattle.rename_parts.specs.Binders.{mark_at}
 use Rattle.rename_parts.proofs.Marks.{unit_mark, mark_is}

@@ -1,5 +1,5 @@
 use Rattle.std.proofs.Common.{◌≡◌, ◌++◌, drop, map}
-use Rattle.ml_syntax.specs.View.{view_unit}
+use Rattle.ml_trees.specs.View.{view_unit}
 use Rattle.binding_model.specs.Renaming.{places}
 use Rattle.rename_parts.proofs.Marks.{spots_of}
 use Rattle.rename_parts.proofs.binders.binder_places.Given as goal

@@ -1,5 +1,5 @@
 use Rattle.std.proofs.Common.{◌∙◌}
-use Rattle.ml_syntax.specs.View.{view_file}
+use Rattle.ml_trees.specs.View.{view_file}
 use Rattle.rename_parts.proofs.Hitting.{file_hits}
 use Rattle.rename_parts.proofs.checks.add_file_hits.Goals as goal
 

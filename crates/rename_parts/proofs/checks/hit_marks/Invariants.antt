@@ -1,5 +1,5 @@
 use Rattle.std.proofs.Common.{◌≡◌, ◌++◌, drop, map}
-use Rattle.ml_syntax.specs.View.{view_unit}
+use Rattle.ml_trees.specs.View.{view_unit}
 use Rattle.rename_parts.specs.Hits.{all_hits}
 use Rattle.rename_parts.proofs.checks.hit_marks.Given as goal
 

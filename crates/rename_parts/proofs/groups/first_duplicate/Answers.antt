@@ -1,6 +1,6 @@
 use Rattle.std.proofs.Common.{subst, List, Contains, Ok, Err, Result, IfOk}
 use Rattle.rotor_base.specs.declared.place.Place.{Place}
-use Rattle.ml_syntax.specs.View.{view_project}
+use Rattle.ml_trees.specs.View.{view_project}
 use Rattle.binding_model.specs.Renaming.{name_of}
 use Rattle.capture_check.specs.Fault.{Names}
 use Rattle.capture_check.specs.Firsts.{IsFirstRepeat}

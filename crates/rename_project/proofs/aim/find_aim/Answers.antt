@@ -1,5 +1,5 @@
 use Rattle.std.proofs.Common.{inl, subst}
-use Rattle.ml_syntax.specs.View.{view_project}
+use Rattle.ml_trees.specs.View.{view_project}
 use Rattle.binding_model.specs.Renaming.{IsBinder}
 use Rattle.rename_model.proofs.One.{one_name}
 use Rattle.rename_parts.specs.Binders.{IsMarkAt}

@@ -1,6 +1,6 @@
 use Rattle.std.proofs.Common.{subst, List, Option, None, ◌∙◌}
 use Rattle.rotor_base.specs.declared.place.Place.{Place}
-use Rattle.ml_syntax.specs.View.{view_project}
+use Rattle.ml_trees.specs.View.{view_project}
 use Rattle.binding_model.specs.Facts.{facts}
 use Rattle.binding_model.specs.Renaming.{name_of}
 use Rattle.capture_check.specs.declared.fault.Repeat.{Repeat}

@@ -1,5 +1,5 @@
 use Rattle.std.proofs.Common.{◌≡◌, ◌++◌, Some, map}
-use Rattle.ml_syntax.specs.View.{view_file}
+use Rattle.ml_trees.specs.View.{view_file}
 use Rattle.binding_model.specs.Renaming.{file_places}
 use Rattle.rename_survey.proofs.Listing.{listed, marked}
 use Rattle.rename_survey.proofs.binders.add_file.Given as goal

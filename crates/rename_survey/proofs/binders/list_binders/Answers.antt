@@ -1,8 +1,8 @@
 use Rattle.std.proofs.Common.{◌≡◌, ◌++◌, rules, ap, sym, ◌∙◌, List, map}
 use Rattle.std.proofs.lemmas.List.{drop_all, append-nil}
 use Rattle.std.proofs.lemmas.List.Sorted.{answers_always}
-use Rattle.ml_syntax.specs.declared.module.UnitTree.{UnitTree}
-use Rattle.ml_syntax.specs.View.{view_unit, view_project}
+use Rattle.ml_trees.specs.declared.module.UnitTree.{UnitTree}
+use Rattle.ml_trees.specs.View.{view_unit, view_project}
 use Rattle.binding_model.specs.Facts.{in_order}
 use Rattle.binding_model.specs.Renaming.{places}
 use Rattle.found_facts.proofs.Ordered.{sorted_so}

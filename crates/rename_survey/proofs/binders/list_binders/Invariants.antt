@@ -1,5 +1,5 @@
 use Rattle.std.proofs.Common.{◌≡◌, ◌++◌, drop, map}
-use Rattle.ml_syntax.specs.View.{view_unit}
+use Rattle.ml_trees.specs.View.{view_unit}
 use Rattle.binding_model.specs.Renaming.{places}
 use Rattle.rename_survey.proofs.Listing.{listed}
 use Rattle.rename_survey.proofs.binders.list_binders.Given as goal

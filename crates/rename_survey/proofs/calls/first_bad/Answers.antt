@@ -2,7 +2,7 @@ use Rattle.std.proofs.Common.{◌≡◌, None, Option, List, ap, sym, subst, ◌
 use Rattle.rotor_base.specs.declared.place.Place.{Place}
 use Rattle.rotor_base.specs.declared.place.Link.{Link}
 use Rattle.rotor_base.specs.declared.place.Facts.{Facts}
-use Rattle.ml_syntax.specs.View.{view_project}
+use Rattle.ml_trees.specs.View.{view_project}
 use Rattle.binding_model.specs.Facts.{facts, least, unmatched_items}
 use Rattle.binding_model.specs.Renaming.{name_of}
 use Rattle.capture_check.specs.declared.fault.Repeat.{Repeat}

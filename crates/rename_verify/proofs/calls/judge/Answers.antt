@@ -1,5 +1,5 @@
 use Rattle.std.proofs.Common.{List, None, Some, Contains, subst}
-use Rattle.ml_syntax.specs.View.{view_project}
+use Rattle.ml_trees.specs.View.{view_project}
 use Rattle.project_reading.proofs.Soundness.{read_is_sound}
 use Rattle.rename_verify.specs.Changed.{Changed}
 use Rattle.rename_verify.specs.Fixed.{IsLeastHeld}

@@ -1,7 +1,7 @@
 use Rattle.std.proofs.Common.{List, ℕ, map, length, ap, sym, subst, ◌∙◌}
 use Rattle.std.specs.Global.{Vec}
 use Rattle.rotor_base.specs.declared.source.SourceFile.{SourceFile}
-use Rattle.ml_syntax.specs.View.{view_project}
+use Rattle.ml_trees.specs.View.{view_project}
 use Rattle.binding_model.specs.Renaming.{Renaming}
 use Rattle.rename_respell.specs.Respelled.{AreRespelledBytes, mapped_words}
 use Rattle.rename_verify.specs.Scans.{IsSpot}

@@ -1,5 +1,5 @@
 use Rattle.std.proofs.Common.{inl, subst, Err}
-use Rattle.ml_syntax.specs.View.{view_project}
+use Rattle.ml_trees.specs.View.{view_project}
 use Rattle.rename_files.specs.Answer.{Accepts}
 use Rattle.rename_files.proofs.Refusals.{rejects}
 use Rattle.rename_project.proofs.Refusals.{stopped}

@@ -1,5 +1,5 @@
 use Rattle.std.proofs.Common.{◌≡◌, ◌∙◌, ◌||◌, List, filter, map, subst}
-use Rattle.ml_syntax.specs.View.{view_project}
+use Rattle.ml_trees.specs.View.{view_project}
 use Rattle.rename_parts.specs.declared.checks.Hit.{Hit}
 use Rattle.watched.specs.Members.{HasPlaces}
 use Rattle.rename_verify.specs.Fixed.{HasFixedUses}

@@ -1,6 +1,6 @@
 use Rattle.std.proofs.Common.{◌∙◌, ap, subst}
 use Rattle.rotor_base.specs.declared.place.Facts.{Facts}
-use Rattle.ml_syntax.specs.View.{view_project}
+use Rattle.ml_trees.specs.View.{view_project}
 use Rattle.watched.specs.Members.{HasPlaces}
 use Rattle.rename_verify.specs.Fixed.{HasFixedUses, fixed_by}
 use Rattle.rename_verify.proofs.Fixing.{least_is}

@@ -1,7 +1,7 @@
 use Rattle.std.proofs.Common.{subst}
 use Rattle.rotor_base.specs.declared.place.Facts.{Facts}
 use Rattle.dependency_kernel.specs.Foot.{IsFoot}
-use Rattle.ml_syntax.specs.View.{view_project}
+use Rattle.ml_trees.specs.View.{view_project}
 use Rattle.resolutions.proofs.Watching.{is_watched}
 use Rattle.resolutions.proofs.faults.weigh.Goals as goal
 

@@ -1,7 +1,7 @@
 use Rattle.std.proofs.Common.{◌≡◌, ◌+◌, ◌∷◌, drop, length, sym, ap, ◌∙◌, arith}
 use Rattle.std.proofs.lemmas.List.{drop_more}
-use Rattle.ml_syntax.specs.declared.expression.LocalArgument.{LocalArgument}
-use Rattle.ml_syntax.specs.View.{locals}
+use Rattle.ml_trees.specs.declared.expression.LocalArgument.{LocalArgument}
+use Rattle.ml_trees.specs.View.{locals}
 use Rattle.shape_core.specs.Node.{entries_of}
 use Rattle.binding_model.specs.Scopes.{applied, local_applied}
 use Rattle.binding_model.specs.Taken.{taken, Going}

@@ -1,5 +1,5 @@
 use Rattle.std.proofs.Common.{◌≡◌, drop}
-use Rattle.ml_syntax.specs.View.{locals}
+use Rattle.ml_trees.specs.View.{locals}
 use Rattle.shape_core.specs.Node.{entries_of}
 use Rattle.binding_model.specs.Scopes.{local_applied}
 use Rattle.binding_model.specs.Taken.{taken, Going}

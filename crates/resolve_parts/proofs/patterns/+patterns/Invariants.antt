@@ -1,5 +1,5 @@
 use Rattle.std.proofs.Common.{◌≡◌, drop}
-use Rattle.ml_syntax.specs.View.{pats, pat_fields}
+use Rattle.ml_trees.specs.View.{pats, pat_fields}
 use Rattle.binding_model.specs.Taken.{taken, Going}
 use Rattle.binding_model.specs.Walk.{pats_steps, fields_pat_steps}
 use Rattle.resolve_parts.proofs.patterns.+patterns.Given as goal

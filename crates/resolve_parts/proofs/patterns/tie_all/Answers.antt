@@ -1,6 +1,6 @@
 use Rattle.std.proofs.Common.{◌≡◌, drop, length, sym, ap, ◌∙◌, arith}
 use Rattle.std.proofs.lemmas.List.{drop_all}
-use Rattle.ml_syntax.specs.View.{view_pat, pats}
+use Rattle.ml_trees.specs.View.{view_pat, pats}
 use Rattle.shape_core.specs.Shape.{entries_in}
 use Rattle.binding_model.specs.Taken.{taken, Going}
 use Rattle.binding_model.specs.Variables.{variables}

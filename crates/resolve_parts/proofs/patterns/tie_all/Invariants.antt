@@ -1,5 +1,5 @@
 use Rattle.std.proofs.Common.{◌≡◌, drop}
-use Rattle.ml_syntax.specs.View.{pats}
+use Rattle.ml_trees.specs.View.{pats}
 use Rattle.shape_core.specs.Shape.{entries_in}
 use Rattle.binding_model.specs.Taken.{taken, Going}
 use Rattle.resolve_parts.specs.Tied.{ties_from}

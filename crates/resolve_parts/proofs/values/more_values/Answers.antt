@@ -1,7 +1,7 @@
 use Rattle.std.proofs.Common.{◌≡◌, ◌+◌, ◌∷◌, drop, length, sym, ap, ◌∙◌, arith}
 use Rattle.std.proofs.lemmas.List.{drop_more, drop_all}
-use Rattle.ml_syntax.specs.declared.expression.Binding.{Binding}
-use Rattle.ml_syntax.specs.View.{view_binding, bindings}
+use Rattle.ml_trees.specs.declared.expression.Binding.{Binding}
+use Rattle.ml_trees.specs.View.{view_binding, bindings}
 use Rattle.shape_core.specs.Shape.{◌⊕◌}
 use Rattle.shape_core.specs.Node.{entries_of}
 use Rattle.binding_model.specs.Scopes.{bound}

@@ -1,5 +1,5 @@
 use Rattle.std.proofs.Common.{◌≡◌, drop}
-use Rattle.ml_syntax.specs.View.{bindings}
+use Rattle.ml_trees.specs.View.{bindings}
 use Rattle.shape_core.specs.Shape.{◌⊕◌}
 use Rattle.shape_core.specs.Node.{entries_of}
 use Rattle.binding_model.specs.Scopes.{bound}

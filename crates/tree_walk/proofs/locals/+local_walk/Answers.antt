@@ -1,4 +1,4 @@
-use Rattle.ml_syntax.specs.View.{locals}
+use Rattle.ml_trees.specs.View.{locals}
 use Rattle.tree_walk.specs.Told.{locals_told}
 use Rattle.tree_walk.proofs.Tells.{told_no_local}
 use Rattle.tree_walk.proofs.Loops.{goes_further, is_whole}

@@ -1,5 +1,5 @@
 use Rattle.std.proofs.Common.{◌≡◌, drop}
-use Rattle.ml_syntax.specs.View.{locals}
+use Rattle.ml_trees.specs.View.{locals}
 use Rattle.tree_walk.specs.Told.{locals_told}
 use Rattle.tree_walk.proofs.locals.+local_walk.Given as goal
 

@@ -1,5 +1,5 @@
 use Rattle.std.proofs.Common.{◌≡◌, drop}
-use Rattle.ml_syntax.specs.View.{pats, pat_fields}
+use Rattle.ml_trees.specs.View.{pats, pat_fields}
 use Rattle.tree_walk.specs.Told.{pats_told, pat_fields_told}
 use Rattle.tree_walk.proofs.patterns.+pattern_walk.Given as goal
 

@@ -1,5 +1,5 @@
 use Rattle.std.proofs.Common.{◌≡◌, drop}
-use Rattle.ml_syntax.specs.View.{view_names}
+use Rattle.ml_trees.specs.View.{view_names}
 use Rattle.tree_walk.specs.Told.{names_told}
 use Rattle.tree_walk.proofs.patterns.names.Given as goal
 

@@ -4,7 +4,7 @@ use Rattle.std.proofs.lemmas.List.{take_all, length-map}
 use Rattle.std.proofs.lemmas.List.Elements.{All-more}
 use Rattle.unit_order.specs.Order.{LiesOnCycle}
 use Rattle.unit_order.specs.Positions.{views, blank}
-use Rattle.ml_syntax.specs.View.{view_unit}
+use Rattle.ml_trees.specs.View.{view_unit}
 use Rattle.unit_order.proofs.cycle.first_on_cycle.Goals as goal
 
 pub loop-at-preserved : goal.loop-at-preserved

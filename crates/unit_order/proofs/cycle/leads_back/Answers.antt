@@ -2,7 +2,7 @@ use Rattle.std.proofs.Common.{ℕ, ◌<◌, [], false, ◌≡◌, length, map, g
 use Rattle.std.proofs.lemmas.List.{take_all, length-map, get_or_default}
 use Rattle.std.proofs.lemmas.Grind.{common_steps}
 use Rattle.unit_order.specs.Positions.{views}
-use Rattle.ml_syntax.specs.View.{view_unit}
+use Rattle.ml_trees.specs.View.{view_unit}
 use Rattle.unit_order.proofs.Spread.{AreMarked, list_is, next_inside, spread_step, marks_step, spread_next, spread_end, still_at, no_cycle}
 use Rattle.unit_order.proofs.cycle.leads_back.Goals as goal
 

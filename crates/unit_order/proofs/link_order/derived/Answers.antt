@@ -1,7 +1,7 @@
 use Rattle.std.proofs.Common.{◌≡◌, ◌<◌, ℕ, Vec, Global, length, map, refl, sym, subst, ap, ◌∙◌, arith}
 use Rattle.std.proofs.lemmas.Bool.{ne_eqb}
 use Rattle.std.proofs.lemmas.List.{length-map}
-use Rattle.ml_syntax.specs.View.{view_unit}
+use Rattle.ml_trees.specs.View.{view_unit}
 use Rattle.unit_order.specs.Positions.{views, names_at, unit_at}
 use Rattle.unit_order.specs.Order.{derived_order}
 use Rattle.unit_order.specs.Needs.{AreNeeds}

@@ -1,6 +1,6 @@
 use Rattle.std.proofs.Common.{◌≡◌, ℕ, ◌+◌, ◌<◌, List, [], ◌∷◌, ◌++◌, length, get_or, take, map, ap, refl, sym, ◌∙◌, arith}
 use Rattle.std.proofs.lemmas.List.{map-append, map_more, take_all}
-use Rattle.ml_syntax.specs.View.{view_unit}
+use Rattle.ml_trees.specs.View.{view_unit}
 use Rattle.unit_order.specs.Order.{needs_unit}
 use Rattle.unit_order.specs.Needs.{positions_from}
 use Rattle.unit_order.proofs.Table.{table_of, map_through}

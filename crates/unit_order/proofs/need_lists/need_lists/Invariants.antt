@@ -1,5 +1,5 @@
 use Rattle.std.proofs.Common.{◌≡◌, map, take}
-use Rattle.ml_syntax.specs.View.{view_unit}
+use Rattle.ml_trees.specs.View.{view_unit}
 use Rattle.unit_order.specs.Order.{needs_unit}
 use Rattle.unit_order.specs.Needs.{positions_from}
 use Rattle.unit_order.proofs.need_lists.need_lists.Given as goal

@@ -2,8 +2,8 @@ use Rattle.std.proofs.Common.{◌≡◌, ◌<◌, [], false, ◌||◌, ◌&&◌,
 use Rattle.std.specs.List.{list_any}
 use Rattle.std.proofs.lemmas.List.{ext_get_or, get_or-map, length-map, take_all, with_items_is}
 use Rattle.std.proofs.lemmas.List.Folds.{list_any_more}
-use Rattle.ml_syntax.specs.declared.module.UnitTree.{UnitTree}
-use Rattle.ml_syntax.specs.View.{view_unit}
+use Rattle.ml_trees.specs.declared.module.UnitTree.{UnitTree}
+use Rattle.ml_trees.specs.View.{view_unit}
 use Rattle.unit_order.specs.Heads.{is_among, unit_heads}
 use Rattle.unit_order.specs.Needs.{is_other_head}
 use Rattle.unit_order.specs.Order.{needs_unit}

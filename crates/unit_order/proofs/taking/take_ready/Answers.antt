@@ -6,7 +6,7 @@ use Rattle.std.proofs.lemmas.List.Elements.{All-weaker}
 use Rattle.std.proofs.lemmas.List.Quantifiers.{position-Some}
 use Rattle.unit_order.specs.Positions.{views, names_at}
 use Rattle.unit_order.specs.Needs.{need_table, positions_from}
-use Rattle.ml_syntax.specs.View.{view_unit}
+use Rattle.ml_trees.specs.View.{view_unit}
 use Rattle.unit_order.specs.Turns.{is_free}
 use Rattle.unit_order.specs.declared.taking.Waiting.{Waiting}
 use Rattle.unit_order.proofs.Spread.{list_is}

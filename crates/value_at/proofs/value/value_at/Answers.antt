@@ -1,7 +1,7 @@
 use Rattle.std.proofs.Common.{◌≡◌, ◌∙◌, List, ap, sym, subst}
 use Rattle.rotor_base.specs.declared.place.Facts.{Facts}
 use Rattle.rotor_base.specs.declared.place.Ref.{Ref}
-use Rattle.ml_syntax.specs.View.{view_project}
+use Rattle.ml_trees.specs.View.{view_project}
 use Rattle.binding_model.specs.Facts.{facts}
 use Rattle.binding_model.specs.Renaming.{IsBinder}
 use Rattle.binding_model.specs.Renaming.{goal_at}

@@ -1,6 +1,6 @@
 use Rattle.std.proofs.Common.{◌-◌, map}
-use Rattle.ml_syntax.specs.Tree as pure
-use Rattle.ml_syntax.specs.View.{view_case}
+use Rattle.ml_trees.specs.Tree as pure
+use Rattle.ml_trees.specs.View.{view_case}
 use Rattle.parse_base.specs.Steps.{many}
 use Rattle.parse_base.specs.Tokens.{from}
 use Rattle.expr_reading.specs.ExprReading as r

@@ -1,6 +1,6 @@
 use Rattle.std.proofs.Common.{◌≡◌, ◌∷◌, [], List, Some, None, map, refl, ap, ◌∙◌}
-use Rattle.ml_syntax.specs.Tok.{Name}
-use Rattle.ml_syntax.specs.View.{view_word}
+use Rattle.ml_trees.specs.Tok.{Name}
+use Rattle.ml_trees.specs.View.{view_word}
 use Rattle.parse_base.specs.Steps.{always}
 use Rattle.parse_base.specs.Pieces.{lower_word}
 use Rattle.parse_base.specs.Tokens.{from}

@@ -1,6 +1,6 @@
 use Rattle.std.proofs.Common.{◌<◌, ◌+◌, length, refl, arith}
 use Rattle.parse_base.specs.Tokens.{from}
-use Rattle.ml_syntax.proofs.Variants.{at_param_types}
+use Rattle.ml_trees.proofs.Variants.{at_param_types}
 use Rattle.expr_forms.proofs.Lists.{types_some}
 use Rattle.expr_forms.proofs.grammar.Grammar.types_end.Goals as goal
 

@@ -1,6 +1,6 @@
 use Rattle.std.proofs.Common.{◌≡◌, ◌+◌, None, Some, sym, ap, ◌∙◌}
-use Rattle.ml_syntax.specs.View.{view_name}
-use Rattle.ml_syntax.proofs.Variants.{at_pat_value}
+use Rattle.ml_trees.specs.View.{view_name}
+use Rattle.ml_trees.proofs.Variants.{at_pat_value}
 use Rattle.parse_base.specs.Pieces.{operator_at}
 use Rattle.parse_base.specs.PatReading.{read_pat}
 use Rattle.parse_base.specs.Tokens.{from}

@@ -1,7 +1,7 @@
 use Rattle.std.proofs.Common.{◌≡◌, ◌-◌, Some, None, map, ◌+◌, refl, ap, ◌∙◌, arith}
-use Rattle.ml_syntax.specs.Tree as pure
-use Rattle.ml_syntax.specs.declared.fixed.Fixed.TheVariants as key
-use Rattle.ml_syntax.specs.View.{view}
+use Rattle.ml_trees.specs.Tree as pure
+use Rattle.ml_trees.specs.declared.fixed.Fixed.TheVariants as key
+use Rattle.ml_trees.specs.View.{view}
 use Rattle.parse_base.specs.Steps.{expect}
 use Rattle.parse_base.specs.Tokens.{from}
 use Rattle.expr_reading.specs.ExprReading as r

@@ -1,6 +1,6 @@
 use Rattle.std.proofs.Common.{◌≡◌, Some, None, map, refl, ap, ◌∙◌}
-use Rattle.ml_syntax.specs.Tree as pure
-use Rattle.ml_syntax.specs.View.{view_part}
+use Rattle.ml_trees.specs.Tree as pure
+use Rattle.ml_trees.specs.View.{view_part}
 use Rattle.parse_base.specs.Steps.{always}
 use Rattle.parse_base.specs.Tokens.{from}
 use Rattle.expr_reading.specs.ExprReading as r

@@ -1,7 +1,7 @@
 use Rattle.std.proofs.Common.{◌≡◌, ◌+◌, None, Some, sym, ap, ◌∙◌}
-use Rattle.ml_syntax.specs.Tree as pure
+use Rattle.ml_trees.specs.Tree as pure
 use Rattle.parse_base.proofs.Stepping.{some_is}
-use Rattle.ml_syntax.specs.View.{view_name}
+use Rattle.ml_trees.specs.View.{view_name}
 use Rattle.parse_base.specs.Pieces.{operator_at}
 use Rattle.parse_base.specs.Tokens.{from}
 use Rattle.expr_reading.specs.ExprReading.{read_expr}

@@ -1,6 +1,6 @@
 use Rattle.std.proofs.Common.{◌-◌, map}
-use Rattle.ml_syntax.specs.Tree as pure
-use Rattle.ml_syntax.specs.View.{view_mod_argument}
+use Rattle.ml_trees.specs.Tree as pure
+use Rattle.ml_trees.specs.View.{view_mod_argument}
 use Rattle.parse_module.specs.ModReading.{read_mod, read_type, mod_argument}
 use Rattle.parse_base.specs.Steps.{many, always}
 use Rattle.parse_base.specs.Tokens.{from}

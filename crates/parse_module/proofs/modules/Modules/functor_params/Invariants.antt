@@ -1,6 +1,6 @@
 use Rattle.std.proofs.Common.{◌-◌, map}
-use Rattle.ml_syntax.specs.Tree as pure
-use Rattle.ml_syntax.specs.View.{view_functor_param}
+use Rattle.ml_trees.specs.Tree as pure
+use Rattle.ml_trees.specs.View.{view_functor_param}
 use Rattle.parse_module.specs.ModReading.{read_mod, read_type, functor_param}
 use Rattle.parse_base.specs.Steps.{many, always}
 use Rattle.parse_base.specs.Tokens.{from}

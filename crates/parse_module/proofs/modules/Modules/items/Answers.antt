@@ -1,6 +1,6 @@
 use Rattle.std.proofs.Common.{◌≡◌, Some, None, map, ap, ◌∙◌}
-use Rattle.ml_syntax.specs.Tree as pure
-use Rattle.ml_syntax.specs.View.{view_item}
+use Rattle.ml_trees.specs.Tree as pure
+use Rattle.ml_trees.specs.View.{view_item}
 use Rattle.parse_base.specs.Tokens.{from}
 use Rattle.parse_module.specs.ModReading.{read_mod, read_type, item_of}
 use Rattle.parse_module.proofs.ItemTurns.{item_none, item_pushed, items_end, items_before}

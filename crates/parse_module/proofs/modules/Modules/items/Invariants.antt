@@ -1,5 +1,5 @@
 use Rattle.std.proofs.Common.{◌-◌, true, map}
-use Rattle.ml_syntax.specs.View.{view_item}
+use Rattle.ml_trees.specs.View.{view_item}
 use Rattle.parse_base.specs.Tokens.{from}
 use Rattle.parse_module.specs.ModReading.{read_mod, read_type, items_of}
 use Rattle.parse_module.proofs.ItemTurns.{LeftItems}

@@ -1,0 +1,3 @@
+pub mod FirstByte
+pub mod Views
+pub mod Variants

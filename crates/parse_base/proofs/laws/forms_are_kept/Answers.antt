@@ -1,5 +1,0 @@
-use Rattle.parse_base.proofs.FormsKept.{forms_are_kept}
-use Rattle.parse_base.proofs.laws.forms_are_kept.Goals as goal
-
-pub returns : goal.returns
-returns c = record { forms = forms_are_kept }

@@ -1,5 +1,0 @@
-use Rattle.parse_base.proofs.TokensKept.{respelled_tokens_are_kept}
-use Rattle.parse_base.proofs.laws.respelled_tokens_are_kept.Goals as goal
-
-pub returns : goal.returns
-returns c = record { tokens = respelled_tokens_are_kept }
