@@ -1,8 +1,8 @@
 #!/usr/bin/env python3
 """Prints the proofs that go over the trees form by form, from the clauses of crates/tree_walk/specs/Events.antt.
 
-It writes crates/tree_walk/specs/Told.antt, crates/tree_walk/proofs/Tells.antt, crates/unit_order/proofs/Needing.antt
-and crates/group_walk/proofs/Grouped.antt. Run it after a change of Events.antt, and then `rt fmt` in these crates.
+It writes crates/tree_walk/specs/Told.antt, crates/tree_walk/proofs/Tells.antt, crates/ml_syntax/proofs/Placed.antt,
+crates/unit_order/proofs/Needing.antt and crates/group_walk/proofs/Grouped.antt. Run it after a change of Events.antt, and then `rt fmt` in these crates.
 """
 import os
 import re
@@ -674,8 +674,73 @@ def print_groups():
     write("crates/group_walk/proofs/Grouped.antt", head, uses, body)
 
 
+NO_PLACES = ["brings", "local", "locals"]
+
+
+def places(function):
+    k = kind(function)
+    return {"base": "maybe", "guard": "maybe"}.get(k, k) + "_sites"
+
+
+def placed(parts):
+    """The equations from what the steps make of the places that were found to the places of a tree."""
+    found, out = "found", []
+    for i, x in enumerate(parts):
+        rest = parts[i + 1 :]
+        if x[0] == "ev":
+            if not is_silent(x[1]):
+                found = f"(adds_site {found} {argument(x[1])})"
+            continue
+        if kind(x[1]) in SILENT:
+            continue
+        law, left = f"{kind(x[1])}_placed {' '.join(x[2])} {found}", told_of(rest, "w", "adds_site")
+        out.append(law if left == "w" else f"ap (λ w. {bare(left)}) ({law})")
+        if kind(x[1]) not in NO_PLACES:
+            found = f"({places(x[1])} {found} {x[2][-1]})"
+    return out
+
+
+FILES_PLACED = """-- the places of a file
+pub file_placed : (t : FileTree) → file_told adds_site [] t ≡ sites t
+file_placed (Body file is) = told_Body adds_site [] file is ∙ items_placed is []
+file_placed (Face file is) = told_Face adds_site [] file is ∙ sig_items_placed is []
+"""
+
+
+def print_places():
+    body, rules = "", {"told_Body", "told_Face"}
+    functions = [f for f in KINDS if kind(f) != "file"]
+    for block in BLOCKS:
+        here = [f for f in block if f in functions]
+        if not here:
+            continue
+        indent = "  " if len(here) > 1 else ""
+        if indent:
+            body += "mutual\n"
+        for f in here:
+            names, typed = arguments(f)
+            target = "found" if kind(f) in NO_PLACES else f"{places(f)} found {names[-1]}"
+            body += f"{indent}{kind(f)}_placed : {typed} (found : List Site) → {told(f)} adds_site found {' '.join(names)} ≡ {target}\n"
+            for g, pattern, parts in FLAT:
+                if g == f:
+                    rules.add(rule(f, pattern))
+                    first = f"{rule(f, pattern)} adds_site found" + "".join(f" {v}" for v, _ in variables(f, pattern))
+                    body += f"{indent}{kind(f)}_placed {pattern} found = " + f"\n{indent}    ∙ ".join([first, *placed(parts)]) + "\n"
+            body += "\n"
+    body += FILES_PLACED
+    words = words_of(body)
+    uses = [std_names(body, "Rattle.std.proofs.Common"), *uses_of(body)]
+    uses += use("Rattle.tree_walk.specs.Told", [told(f) for f in KINDS if told(f) in words])
+    uses += use("Rattle.tree_walk.proofs.Tells", sorted(rules))
+    uses += use("Rattle.ml_syntax.specs.Places", ["Site", "sites", *sorted({places(f) for f in functions if places(f) in words})])
+    uses.append("use Rattle.ml_syntax.specs.Adding.{adds_site}")
+    head = "The places of trees are those that their events add. Printed by scripts/print_walk.py."
+    write("crates/ml_syntax/proofs/Placed.antt", head, uses, body)
+
+
 if __name__ == "__main__":
     print_told()
     print_tells()
+    print_places()
     print_needs()
     print_groups()

@@ -1,4 +1,3 @@
-pub mod Branches
 pub mod Spelling
 pub mod Steps
 pub mod Reading
@@ -11,3 +10,4 @@ pub mod RespelledFile
 pub mod RespelledNames
 pub mod SiteWords
 pub mod SoundFiles
+pub mod Placed

@@ -7,3 +7,4 @@ pub mod Each
 pub mod SpelledSites
 pub mod RespelledFile
 pub mod RespelledSource
+pub mod Adding

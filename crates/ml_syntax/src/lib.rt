@@ -1,10 +1,8 @@
 //! The places of the values in trees, and the laws of trees that are respelled.
 #![tactic(auto)]
 
-mod expression_places;
+mod found;
 mod laws;
-mod module_places;
-mod pattern_places;
 mod place;
 mod sites;
 mod value_words;

@@ -2,11 +2,9 @@
 
 ghost use Rattle.std.specs.Prelude.{◌≡◌, IfOk, map};
 ghost use Rattle.ml_trees.specs.View.{view_file};
-ghost use Rattle.ml_syntax.specs.Places.{sites, binder_sites, use_sites, pun_sites, mark};
-ghost use Rattle.ml_syntax.specs.Sites.{view_sites};
+ghost use Rattle.ml_syntax.specs.Places.{binder_sites, use_sites, pun_sites, mark};
 
-use crate::module_places::{body, face};
-use crate::sites::Site;
+use crate::found::all_sites;
 use ml_trees::FileTree;
 use rotor_base::{Memory, Name};
 use std::alloc::Global;
@@ -60,16 +58,4 @@ pub fn puns(alloc: Global, tree: &FileTree) -> Result<Vec<u32>, Memory>
         }
     }
     Ok(tokens)
-}
-
-/// All places of a file.
-fn all_sites(alloc: Global, tree: &FileTree) -> Result<Vec<Site>, Memory>
-    ensures { IfOk result (λ found. view_sites found.items ≡ sites (view_file tree.now)) }
-{
-    let mut found = Vec::new(alloc);
-    match tree {
-        FileTree::Body(_, items) => body(alloc, &mut found, items)?,
-        FileTree::Face(_, items) => face(alloc, &mut found, items)?,
-    }
-    Ok(found)
 }

@@ -1,14 +1,13 @@
 //! The places that have been found in a tree.
 
-ghost use Rattle.std.specs.Prelude.{◌≡◌, ◌++◌, ◌∷◌, [], OnOk};
-ghost use Rattle.ml_trees.specs.View.{view_word, view_tok, view_name};
-ghost use Rattle.ml_syntax.specs.Places.{plain, punned, operated, operator_sites, name_sites, label_site, variable_sites};
-ghost use Rattle.ml_trees.specs.View.{view_variable};
+ghost use Rattle.std.specs.Prelude.{◌≡◌, ◌++◌, ◌∷◌, [], OnOk, false};
+ghost use Rattle.ml_trees.specs.View.{view_word, view_tok};
+ghost use Rattle.ml_syntax.specs.Places.{plain, punned, operated, operator_sites, label_site};
 ghost use Rattle.ml_syntax.specs.Sites.{view_sites};
 
 use crate::place::Mark;
 use crate::value_words::{label_of, operator_of};
-use ml_trees::{ValueName, Variable, Word};
+use ml_trees::Word;
 use rotor_base::{Memory, Name};
 use std::alloc::Global;
 
@@ -81,6 +80,16 @@ pub fn add_operator(
     Ok(())
 }
 
+/// Adds the place of a prefix `-` or `-.`, whose name begins with `~`.
+pub fn add_minus(alloc: Global, found: &mut Vec<Site>, sign: &Word) -> Result<(), Memory>
+    ensures { OnOk result (view_sites found.new.items ≡ view_sites found.old.items ++ operated false sign.now.token (126 ∷ sign.now.name) ∷ []) }
+{
+    let mut name = Vec::new(alloc);
+    name.push(b'~')?;
+    name.extend_from_slice(sign.name.as_bytes())?;
+    add_operator(alloc, found, false, sign.token, &name)
+}
+
 /// Adds the place of a label without a colon.
 pub fn add_label(
     alloc: Global,
@@ -111,30 +120,5 @@ pub fn add_operator_word(
     match operator_of(word) {
         Some(name) => add_operator(alloc, found, binds, word.token, name),
         None => Ok(()),
-    }
-}
-
-/// Adds the place of a value's name.
-pub fn add_name(
-    alloc: Global,
-    found: &mut Vec<Site>,
-    binds: bool,
-    name: &ValueName,
-) -> Result<(), Memory>
-    ensures { OnOk result (view_sites found.new.items ≡ name_sites (view_sites found.old.items) binds (view_name name.now)) }
-{
-    match name {
-        ValueName::Lower(word) => add_plain(alloc, found, binds, word),
-        ValueName::Operator { word, .. } => add_operator_word(alloc, found, binds, word),
-    }
-}
-
-/// Adds the place of the variable of a `for`.
-pub fn add_variable(alloc: Global, found: &mut Vec<Site>, variable: &Variable) -> Result<(), Memory>
-    ensures { OnOk result (view_sites found.new.items ≡ variable_sites (view_sites found.old.items) (view_variable variable.now)) }
-{
-    match variable {
-        Variable::Lower(word) => add_plain(alloc, found, true, word),
-        Variable::Any { .. } => Ok(()),
     }
 }

@@ -1,0 +1,86 @@
+//! The places of a tree, by its events.
+
+ghost use Rattle.std.specs.Prelude.{◌≡◌, IfOk};
+ghost use Rattle.ml_trees.specs.View.{view_file};
+ghost use Rattle.ml_syntax.specs.Places.{sites};
+ghost use Rattle.ml_syntax.specs.Sites.{view_sites};
+
+use crate::sites::{
+    Site, add_label, add_minus, add_operator, add_operator_word, add_plain, add_pun,
+};
+use ml_trees::FileTree;
+use rotor_base::Memory;
+use std::alloc::Global;
+use tree_walk::{Event, Visitor, walk};
+
+/// The places that were found.
+#[derive(Drop)]
+struct Found {
+    alloc: Global,
+    sites: Vec<Site>,
+}
+
+impl Visitor for Found {
+    ghost use Rattle.std.specs.Prelude.{List};
+    ghost use Rattle.ml_syntax.specs.Places.{Site as PureSite};
+    ghost use Rattle.ml_syntax.specs.Sites.{view_sites};
+    ghost use Rattle.ml_syntax.specs.Adding.{adds_site};
+
+    ghost State = { List PureSite };
+
+    ghost state = { λ found. view_sites found.sites.items };
+
+    ghost step = { adds_site };
+
+    fn hear(&mut self, event: Event<'_>) -> Result<(), Memory> {
+        match event {
+            Event::Plain { binds, word } => add_plain(self.alloc, &mut self.sites, binds, word),
+            Event::Operator { binds, word, .. } => {
+                add_operator_word(self.alloc, &mut self.sites, binds, word)
+            }
+            Event::Field { binds, word } => add_pun(
+                self.alloc,
+                &mut self.sites,
+                binds,
+                word.token,
+                word.name.as_bytes(),
+            ),
+            Event::Label { binds, word } => add_label(self.alloc, &mut self.sites, binds, word),
+            Event::Infix(word) => add_operator_word(self.alloc, &mut self.sites, false, word),
+            Event::Prefix(word) => add_operator(
+                self.alloc,
+                &mut self.sites,
+                false,
+                word.token,
+                word.name.as_bytes(),
+            ),
+            Event::Minus(word) => add_minus(self.alloc, &mut self.sites, word),
+            Event::Separator(_) => Ok(()),
+            Event::ModulePath(_) => Ok(()),
+            Event::LastPath(_) => Ok(()),
+            Event::Qualifier(_) => Ok(()),
+            Event::BindingsBegin => Ok(()),
+            Event::GroupBegins => Ok(()),
+            Event::GroupEnds => Ok(()),
+            Event::PartBegins(_) => Ok(()),
+            Event::PartEnds(_) => Ok(()),
+            Event::AlternativesEnd => Ok(()),
+            Event::ScopeBegins => Ok(()),
+            Event::ScopeEnds => Ok(()),
+            Event::Brings(_) => Ok(()),
+        }
+    }
+}
+
+/// All places of a file.
+#[tactic(auto, using(crate::proofs::Placed::file_placed))]
+pub fn all_sites(alloc: Global, tree: &FileTree) -> Result<Vec<Site>, Memory>
+    ensures { IfOk result (λ found. view_sites found.items ≡ sites (view_file tree.now)) }
+{
+    let mut found = Found {
+        alloc,
+        sites: Vec::new(alloc),
+    };
+    walk(&mut found, tree)?;
+    Ok(found.sites)
+}
