@@ -23,7 +23,7 @@ pub fn use_alone(found: &mut Found, scope: &Scope, at: Place, name: &[u8]) -> Re
         None => Goal::Outside,
     };
     found.refs.push(Ref { at, goal })?;
-    record_use(&mut found.recorder, scope.all(), at, name, goal)
+    record_use(&mut found.recorder, scope, at, name, goal)
 }
 
 /// Looks a value up under a module. `Memory` is the only error.

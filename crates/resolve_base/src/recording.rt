@@ -1,7 +1,8 @@
 //! The looks that a recorder keeps, if there is one.
 
-ghost use Rattle.std.specs.Prelude.{◌≡◌, OnOk};
+ghost use Rattle.std.specs.Prelude.{◌≡◌, ◌||◌, OnOk, bytes_eq};
 ghost use Rattle.shape_core.specs.Shape.{entries_in, value_in};
+ghost use Rattle.shape_core.specs.Looks as looks;
 ghost use Rattle.shape_core.specs.Node.{entries_of};
 ghost use Rattle.binding_model.specs.Looks.{ref_look};
 ghost use Rattle.binding_model.specs.Steps.{UseUnder, MatchOf, PinOf};
@@ -11,54 +12,113 @@ ghost use Rattle.resolve_base.specs.Recorded.{use_recorded, tie_recorded, joined
 
 use binding_model::Recorder;
 use rotor_base::{Goal, Looks, Memory, Place, RefLook};
-use shape_core::{Kind, Shared, SharedEntry, entries, kind};
-use sig_match::{Test, darks_of, last_where, look_of_value, watch_match, watch_pin};
+use shape_core::{
+    Kind, LookSpot, Scope, Shared, darks_in, darks_of, entries, kind, last_val_in, last_val_of,
+};
+use sig_match::{Test, last_where, look_of_value, watch_match, watch_pin};
 use std::alloc::Global;
 use watched::Watched;
 
-/// Records the look of a value that is looked up in a list. `Memory` is the only error.
+/// Records the look of a value that is looked up in a scope. `Memory` is the only error.
 pub fn record_use(
     recorder: &mut Option<Recorder>,
-    list: &[SharedEntry],
+    scope: &Scope,
     at: Place,
     name: &[u8],
     goal: Goal,
 ) -> Result<(), Memory>
-    ensures { OnOk result (recorder.new ≡ use_recorded recorder.old at name.now goal (entries_of list.now)) }
+    ensures { OnOk result (recorder.new ≡ use_recorded recorder.old at name.now goal (entries_of scope.now)) }
 {
     let Some(recorder) = recorder else {
         return Ok(());
     };
-    if let Some(look) = look_of_use(&recorder.watch, list, at, name, goal) {
+    if let Some(look) = look_in(&recorder.watch, scope, at, name, goal) {
         recorder.looks.refs.push(look)?;
     }
     Ok(())
 }
 
-/// The look of a reference, if it has the old or the new name.
-fn look_of_use(
-    watch: &Watched,
-    list: &[SharedEntry],
-    at: Place,
-    name: &[u8],
-    goal: Goal,
-) -> Option<RefLook>
-    ensures { listed result ≡ ref_look watch.now at name.now goal (entries_of list.now) }
+/// The look of a reference in a scope, if it has the old or the new name.
+fn look_in(watch: &Watched, scope: &Scope, at: Place, name: &[u8], goal: Goal) -> Option<RefLook>
+    ensures { listed result ≡ ref_look watch.now at name.now goal (entries_of scope.now) }
 {
-    let is_old = name == watch.as_watch().old.as_bytes();
-    let is_new = name == watch.as_watch().new.as_bytes();
-    if !(is_old || is_new) {
+    if !is_asked(watch, name) {
         return None;
     }
-    let (darks, by) = darks_of(list);
+    let (darks, by) = darks_in(scope);
     Some(RefLook {
         at,
         goal,
-        is_new,
+        is_new: is_new(watch, name),
         darks,
         by,
-        foot: last_where(Test::InFoot, watch, list),
-        new: last_where(Test::NamedNew, watch, list),
+        foot: last_where(Test::InFoot, watch, scope.all()),
+        new: new_in(watch, scope),
+    })
+}
+
+/// Whether a name is the old or the new one.
+fn is_asked(watch: &Watched, name: &[u8]) -> bool
+    ensures { result ≡ (bytes_eq name.now watch.now.old || bytes_eq name.now watch.now.new) }
+{
+    name == watch.as_watch().old.as_bytes() || is_new(watch, name)
+}
+
+fn is_new(watch: &Watched, name: &[u8]) -> bool
+    ensures { result ≡ bytes_eq name.now watch.now.new }
+{
+    name == watch.as_watch().new.as_bytes()
+}
+
+/// The last value of the new name in a scope.
+fn new_in(watch: &Watched, scope: &Scope) -> Option<LookSpot>
+    ensures { result ≡ looks.last_where (looks.named_new watch.now) (entries_of scope.now) }
+{
+    last_val_in(scope, watch.as_watch().new.as_bytes())
+}
+
+/// The last value of the new name in a structure.
+fn new_of(watch: &Watched, shape: &Shared) -> Option<LookSpot>
+    ensures { result ≡ looks.last_where (looks.named_new watch.now) (entries_in shape.now) }
+{
+    last_val_of(shape, watch.as_watch().new.as_bytes())
+}
+
+/// Records the look of a value that is looked up in a structure. `Memory` is the only error.
+fn record_member(
+    recorder: &mut Option<Recorder>,
+    shape: &Shared,
+    at: Place,
+    name: &[u8],
+    goal: Goal,
+) -> Result<(), Memory>
+    ensures { OnOk result (recorder.new ≡ use_recorded recorder.old at name.now goal (entries_in shape.now)) }
+{
+    let Some(recorder) = recorder else {
+        return Ok(());
+    };
+    if let Some(look) = look_of(&recorder.watch, shape, at, name, goal) {
+        recorder.looks.refs.push(look)?;
+    }
+    Ok(())
+}
+
+/// The look of a reference in a structure, if it has the old or the new name.
+fn look_of(watch: &Watched, shape: &Shared, at: Place, name: &[u8], goal: Goal) -> Option<RefLook>
+    ensures { listed result ≡ ref_look watch.now at name.now goal (entries_in shape.now) }
+{
+    if !is_asked(watch, name) {
+        return None;
+    }
+    let (darks, by) = darks_of(shape);
+    Some(RefLook {
+        at,
+        goal,
+        is_new: is_new(watch, name),
+        darks,
+        by,
+        foot: last_where(Test::InFoot, watch, entries(shape)),
+        new: new_of(watch, shape),
     })
 }
 
@@ -75,7 +135,7 @@ pub fn record_under(
     ensures { OnOk result (recorder.new ≡ recorded recorder.old (UseUnder at name.now shape.now)) }
 {
     match kind(shape) {
-        Kind::Struct => record_use(recorder, entries(shape), at, name, goal),
+        Kind::Struct => record_member(recorder, shape, at, name, goal),
         Kind::Functor => Ok(()),
         Kind::Unitary => Ok(()),
         Kind::Opaque => Ok(()),

@@ -1,5 +1,5 @@
--- The last value of a list that a test accepts, and the Dark entries of a list with one entry more.
-use Rattle.std.proofs.lemmas.List.{append-nil, drop_more, length-take-le, take-append-drop, take_more}
+-- The last value of a list that a test accepts.
+use Rattle.std.proofs.lemmas.List.{drop_more, length-take-le, take-append-drop}
 use Rattle.std.proofs.Common.{◌≡◌, ℕ, suc, ◌+◌, ◌-◌, ◌<◌, ◌≤◌, Bool, true, List, [], ◌∷◌, ◌++◌, length, take, drop, get_or, Option, Some, None, refl, sym}
 use Rattle.std.proofs.Common.{ap, ◌∙◌, arith}
 use Rattle.rotor_base.specs.declared.place.Place.{Place}
@@ -11,15 +11,6 @@ use Rattle.shape_core.specs.Shape.{Name, Shape, none, or_else, some_if, darks, l
 use Rattle.shape_core.specs.Looks.{Test, Spot, moved, last_where, some_place}
 use Rattle.shape_core.proofs.Lists.{or_else_none, or_else_assoc, darks-append, last_place-append}
 use Rattle.shape_core.proofs.Shown.{entries_of-append}
-
--- the Dark entries of a list with one entry more
-pub darks_push : (list : List SharedEntry) (d : SharedEntry) → darks (entries_of (list ++ d ∷ [])) ≡ darks (entries_of list) ++ darks
-    (and_then d none)
-darks_push list d = ap darks (entries_of-append list (d ∷ [])) ∙ darks-append (entries_of list) (and_then d none)
-
-length_push : {A : Type 0} (a : List A) (x : A) → length (a ++ x ∷ []) ≡ suc (length a)
-length_push [] x = refl
-length_push (y ∷ a) x = ap suc (length_push a x)
 
 abbrev spot : ℕ → Place → ℕ → Option Spot
 spot n p k = Some (n, p, k)
@@ -62,27 +53,3 @@ module _ (test : Test) where
       let whole : take i list ++ (e.Val x g ∷ rest) ≡ list = ap (λ l. take i list ++ l) (sym seam) ∙ take-append-drop i list in
       ap (λ q. spot i q k) place ∙ ap (λ n. spot i (some_place (decl_of g)) n) count
       ∙ ap (λ n. spot n (some_place (decl_of g)) (length (darks (entries_of rest)))) (sym number) ∙ sym there ∙ ap at_last whole
-
--- the Dark entries of one entry more
-now_darks : (xs : List SharedEntry) (i : ℕ) (d : SharedEntry) → i < length xs → d ≡ get_or xs i d
-    → darks (entries_of (take (i + 1) xs)) ≡ darks (entries_of (take i xs)) ++ darks (and_then d none)
-now_darks xs i d h k = ap (λ l. darks (entries_of l)) (take_more xs i d h ∙ ap (λ z. take i xs ++ z ∷ []) (sym k)) ∙ darks_push (take i xs) d
-
-pub darks_dark : (xs : List SharedEntry) (i : ℕ) (d : SharedEntry) (p : Place) (n n' : ℕ) (m m' : Option Place) → i < length xs → d ≡ get_or xs i d
-    → d ≡ e.Dark p
-    → n ≡ length (darks (entries_of (take i xs))) → n ≤ i → n' ≡ n + 1 → m' ≡ Some p
-    → (n' ≡ length (darks (entries_of (take (i + 1) xs)))) × (m' ≡ last_place (darks (entries_of (take (i + 1) xs)))) × (n' ≤ i + 1)
-darks_dark xs i d p n n' m m' h k t a b c f =
-    let g : darks (entries_of (take (i + 1) xs)) ≡ darks (entries_of (take i xs)) ++ p ∷ [] = now_darks xs i d h k
-    ∙ ap (λ z. darks (entries_of (take i xs)) ++ darks (and_then z none)) t in
-    let l = ap length g ∙ length_push (darks (entries_of (take i xs))) p in
-    (omega (arith, l, a, c), f ∙ sym (ap last_place g ∙ last_place-append (darks (entries_of (take i xs))) (p ∷ [])), omega (arith, b, c))
-
-pub darks_still : (xs : List SharedEntry) (i : ℕ) (d : SharedEntry) (n n' : ℕ) (m m' : Option Place) → i < length xs → d ≡ get_or xs i d
-    → darks (and_then d none) ≡ []
-    → n ≡ length (darks (entries_of (take i xs))) → m ≡ last_place (darks (entries_of (take i xs))) → n ≤ i → n' ≡ n → m' ≡ m
-    → (n' ≡ length (darks (entries_of (take (i + 1) xs)))) × (m' ≡ last_place (darks (entries_of (take (i + 1) xs)))) × (n' ≤ i + 1)
-darks_still xs i d n n' m m' h k t a q b c f =
-    let g : darks (entries_of (take (i + 1) xs)) ≡ darks (entries_of (take i xs)) =
-    now_darks xs i d h k ∙ ap (λ z. darks (entries_of (take i xs)) ++ z) t ∙ append-nil (darks (entries_of (take i xs))) in
-    (c ∙ a ∙ ap length (sym g), f ∙ q ∙ ap last_place (sym g), omega (arith, b, c))

@@ -8,6 +8,4 @@ mod matching;
 mod pinning;
 
 pub use links::{Matched, match_shapes, pin};
-pub use looks::{
-    Spot, Test, darks_of, last_where, look_of_value, match_looks, pin_looks, watch_match, watch_pin,
-};
+pub use looks::{Test, last_where, look_of_value, match_looks, pin_looks, watch_match, watch_pin};

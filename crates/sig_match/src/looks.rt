@@ -12,7 +12,9 @@ use crate::found::{Found, Meeting, Stop};
 use crate::matching::match_both;
 use crate::pinning::pin_shape;
 use rotor_base::{Goal, LinkLook, Looks, Memory, Place, Row, Watch};
-use shape_core::{Shared, SharedEntry, entries, make_struct};
+use shape_core::{
+    LookSpot, Shared, SharedEntry, darks_of, entries, last_val_of, make_struct, place_of,
+};
 use std::alloc::Global;
 use watched::Watched;
 
@@ -27,9 +29,6 @@ pub enum Test {
     NamedNew,
 }
 
-/// A position in a list, the declaration there, and the number of Dark entries after it.
-pub type Spot = (u64, Place, u64);
-
 fn passes(test: Test, watch: &Watched, name: &[u8], goal: Goal) -> bool
     ensures { result ≡ test_of test watch.now name.now goal }
 {
@@ -40,19 +39,9 @@ fn passes(test: Test, watch: &Watched, name: &[u8], goal: Goal) -> bool
     }
 }
 
-// The place of a declaration.
-fn place_of(goal: Goal) -> Place
-    ensures { result ≡ pure.some_place (shapes.decl_of goal) }
-{
-    match goal {
-        Goal::Decl(place) => place,
-        _ => Place { file: 0, token: 0 },
-    }
-}
-
 /// The last value of a list that a test accepts. The walk begins at the end of the list and stops at that value. It takes
 /// no memory.
-pub fn last_where(test: Test, watch: &Watched, list: &[SharedEntry]) -> Option<Spot>
+pub fn last_where(test: Test, watch: &Watched, list: &[SharedEntry]) -> Option<LookSpot>
     ensures { result ≡ pure.last_where (test_of test watch.now) (entries_of list.now) }
 {
     let mut darks = 0;
@@ -73,33 +62,22 @@ pub fn last_where(test: Test, watch: &Watched, list: &[SharedEntry]) -> Option<S
     None
 }
 
-/// The number of Dark entries of a list, and the place of the last one. It takes no memory.
-pub fn darks_of(list: &[SharedEntry]) -> (u64, Option<Place>)
-    ensures number { result.0 ≡ length (shapes.darks (entries_of list.now)) }
-    ensures last { result.1 ≡ shapes.last_place (shapes.darks (entries_of list.now)) }
-{
-    let mut number = 0;
-    let mut last = None;
-    for entry in list {
-        match entry {
-            SharedEntry::Dark(at) => {
-                number += 1;
-                last = Some(*at);
-            }
-            SharedEntry::Val(_, _) => {}
-            SharedEntry::Mod(_, _) => {}
-            SharedEntry::Mty(_, _) => {}
-        }
-    }
-    (number, last)
-}
-
 // The last value of a source list that a test accepts; nothing if the link is pinned.
-fn source_where(test: Test, watch: &Watched, source: Option<&Shared>) -> Option<Spot>
+fn source_where(test: Test, watch: &Watched, source: Option<&Shared>) -> Option<LookSpot>
     ensures { result ≡ pure.source_where (test_of test watch.now) (list_in source.entry) }
 {
     match source {
         Some(shape) => last_where(test, watch, entries(shape)),
+        None => None,
+    }
+}
+
+// The last value of the new name in a source list; nothing if the link is pinned.
+fn source_new(watch: &Watched, source: Option<&Shared>) -> Option<LookSpot>
+    ensures { result ≡ pure.source_where (pure.named_new watch.now) (list_in source.entry) }
+{
+    match source {
+        Some(shape) => last_val_of(shape, watch.as_watch().new.as_bytes()),
         None => None,
     }
 }
@@ -110,7 +88,7 @@ fn source_darks(source: Option<&Shared>) -> (u64, Option<Place>)
     ensures last { result.1 ≡ shapes.last_place (pure.source_darks (list_in source.entry)) }
 {
     match source {
-        Some(shape) => darks_of(entries(shape)),
+        Some(shape) => darks_of(shape),
         None => (0, None),
     }
 }
@@ -157,7 +135,7 @@ pub fn look_of_value(
         by,
         foot: source_where(Test::InFoot, watch, source),
         old: source_where(Test::OtherOld, watch, source),
-        new: source_where(Test::NamedNew, watch, source),
+        new: source_new(watch, source),
     })
 }
 
