@@ -1,3 +1,4 @@
 pub mod Ends
 pub mod Lone
 pub mod Operands
+pub mod Lets

@@ -22,6 +22,7 @@ use expr_parts::{
     semicolon_if,
 };
 use expr_reading::Wanted;
+use matched_lets::lacks_in;
 use ml_trees::{Expr, Fixed, Word};
 use parse_base::{Kind, ReadError, expect, is_minus, kind_at, text, token_word, word};
 use rotor_base::{Class, Token};
@@ -60,7 +61,7 @@ impl<
     }
 
     /// A form of level 1 or 2, or an expression of levels 13 to 16.
-    #[tactic(auto, unfolding(expr_reading::specs::ExprReading::unary))]
+    #[tactic(auto, unfolding(expr_reading::specs::ExprReading::unary), using(crate::proofs::Lets::unary_lacks))]
     #[inline(never)]
     pub(crate) fn unary(
         &self,
@@ -72,7 +73,12 @@ impl<
         ensures { Gives (λ x. (view x.0.value, from tokens.now x.1)) result (r.unary (read_expr self.now.grammar.depth) self.now.grammar.depth (from tokens.now at)) }
     {
         match kind_at(tokens, at) {
-            Kind::Fixed(Fixed::Let) => self.grammar.let_expr(tokens, at),
+            Kind::Fixed(Fixed::Let) => {
+                if lacks_in(tokens, at) {
+                    return Err(ReadError::Syntax);
+                }
+                self.grammar.let_expr(tokens, at)
+            }
             Kind::Fixed(Fixed::Fun) => self.grammar.fun_expr(tokens, at),
             Kind::Fixed(Fixed::Function) => self.grammar.function_expr(tokens, at),
             Kind::Fixed(Fixed::Match) => self.grammar.match_expr(tokens, at),

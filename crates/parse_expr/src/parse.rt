@@ -10,6 +10,7 @@ ghost use Rattle.expr_reading.specs.Longest.{IsLongestExpr, BeginsNoExpr};
 ghost use Rattle.expr_levels.specs.Height.{height};
 
 use crate::reading::read;
+use expr_levels::fits;
 use expr_reading::Wanted;
 use ml_trees::Expr;
 use parse_base::{MAX_NESTED, ParseError, ReadError};
@@ -48,7 +49,12 @@ pub fn parse_seq(
         Wanted::Sequence,
         start,
     ) {
-        Ok((tree, end)) => Ok((Box::into_inner(tree), end.min(tokens.len()))),
+        Ok((tree, end)) => {
+            if !fits(&tree, MAX_DEEPER) {
+                return Err(ParseError::Memory);
+            }
+            Ok((Box::into_inner(tree), end.min(tokens.len())))
+        }
         Err(ReadError::Syntax) => Err(ParseError::Syntax),
         Err(ReadError::Memory) => Err(ParseError::Memory),
     }

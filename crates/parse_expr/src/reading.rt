@@ -1,13 +1,12 @@
 //! The knot of the readers.
 
-ghost use Rattle.std.specs.Prelude.{◌≤◌, length, IfOk};
+ghost use Rattle.std.specs.Prelude.{◌≤◌, length};
 ghost use Rattle.rotor_base.specs.Limits.{max_file_bytes};
 ghost use Rattle.ml_trees.specs.View.{view};
 ghost use Rattle.parse_base.specs.Gives.{Gives};
 ghost use Rattle.parse_base.specs.Tokens.{from};
 ghost use Rattle.expr_reading.specs.ExprReading as r;
 ghost use Rattle.expr_reading.specs.ExprReading.{read_expr};
-ghost use Rattle.expr_levels.specs.Height.{height};
 ghost use Rattle.expr_forms.specs.Reads.{Nests};
 
 use crate::readers::Readers;
@@ -19,8 +18,11 @@ use parse_base::ReadError;
 use rotor_base::Token;
 use std::alloc::Global;
 
+/// At how many levels the readers ask once whether what they have read has too many. In between, a tree may become some
+/// fourteen nodes higher at each level.
+const LEVELS_PER_TEST: usize = 16;
+
 /// What is wanted at a place, nested at most so deep and of at most so many levels, and the place after it.
-#[tactic(auto, unfolding(expr_reading::specs::ExprReading::read_expr))]
 #[inline(never)]
 pub fn read(
     alloc: Global,
@@ -31,8 +33,28 @@ pub fn read(
     at: usize,
 ) -> Result<(Box<Expr>, usize), ReadError>
     requires { length tokens.now ≤ max_file_bytes }
-    ensures reads { Gives (λ x. (view x.0.value, from tokens.now x.1)) result (read_expr depth wanted (from tokens.now at)) }
-    ensures low { IfOk result (λ x. height (view x.0.value) ≤ levels) }
+    ensures { Gives (λ x. (view x.0.value, from tokens.now x.1)) result (read_expr depth wanted (from tokens.now at)) }
+{
+    let (tree, end) = nested(alloc, tokens, depth, levels, wanted, at)?;
+    if !is_low(&tree, end.saturating_sub(at), levels) {
+        return Err(ReadError::Memory);
+    }
+    Ok((tree, end))
+}
+
+/// The same, but that the tree may have more levels: it is tested at every sixteenth one.
+#[tactic(auto, unfolding(expr_reading::specs::ExprReading::read_expr))]
+#[inline(never)]
+fn nested(
+    alloc: Global,
+    tokens: &[Token<'_>],
+    depth: usize,
+    levels: usize,
+    wanted: Wanted,
+    at: usize,
+) -> Result<(Box<Expr>, usize), ReadError>
+    requires { length tokens.now ≤ max_file_bytes }
+    ensures { Gives (λ x. (view x.0.value, from tokens.now x.1)) result (read_expr depth wanted (from tokens.now at)) }
 {
     if depth == 0 {
         return Err(ReadError::Syntax);
@@ -45,15 +67,22 @@ pub fn read(
             alloc,
             depth: depth - 1,
             levels: levels - 1,
-            sub: read,
+            sub: nested,
         },
     };
     let (tree, end) = readers.read_wanted(tokens, wanted, at)?;
-    if fits(&tree, levels) {
-        Ok((tree, end))
-    } else {
-        Err(ReadError::Memory)
+    if levels % LEVELS_PER_TEST == LEVELS_PER_TEST / 2
+        && !is_low(&tree, end.saturating_sub(at), levels)
+    {
+        return Err(ReadError::Memory);
     }
+    Ok((tree, end))
+}
+
+/// Whether a tree of so many words has at most so many levels. No tree has more levels than words.
+#[inline(never)]
+pub(crate) fn is_low(tree: &Expr, words: usize, levels: usize) -> bool {
+    words <= levels || fits(tree, levels)
 }
 
 impl<
