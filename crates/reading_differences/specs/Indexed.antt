@@ -1,6 +1,6 @@
 -- Forms that read an element, where a module of the project with the name that they mean may be in scope: `a.(i)` is `Array.get a i`, and `s.[i]`
 -- is `String.get s i`, of the module in scope (the OCaml manual, "Expressions", arrays and strings).
-use Rattle.std.specs.Prelude.{ℕ, ◌+◌, List, [], ◌∷◌, ◌++◌, Bool, true, false, ◌&&◌, ◌||◌, not, Option, Some, None, codes, cond}
+use Rattle.std.specs.Prelude.{ℕ, ◌+◌, List, [], ◌∷◌, ◌++◌, Bool, false, ◌&&◌, ◌||◌, not, Option, Some, None, codes, cond}
 use Rattle.std.specs.Str.{bytes_eq}
 use Rattle.rotor_base.specs.declared.place.Place.{Place}
 use Rattle.ml_lexer.specs.Lexed.{Lexeme}
