@@ -69,13 +69,13 @@ starts_item (placed key.Include at) = true
 starts_item _ = false
 
 -- words at which a module type ends
-abbrev closes : Tok → Bool
+abbrev pub closes : Tok → Bool
 closes (fixed key.RightParen) = true
 closes (placed key.Equals at) = true
 closes t = starts_item t
 
 -- words at which a module expression ends
-abbrev follows : Tok → Bool
+abbrev pub follows : Tok → Bool
 follows (fixed key.Colon) = true
 follows (fixed key.With) = true
 follows (fixed key.Arrow) = true
@@ -85,11 +85,11 @@ abbrev pub ItemStart : List Tok → Type 0
 ItemStart [] = Unit {0}
 ItemStart (t ∷ ts) = starts_item t ≡ true
 
-abbrev Closed : List Tok → Type 0
+abbrev pub Closed : List Tok → Type 0
 Closed [] = Unit {0}
 Closed (t ∷ ts) = closes t ≡ true
 
-abbrev Follows : List Tok → Type 0
+abbrev pub Follows : List Tok → Type 0
 Follows [] = Unit {0}
 Follows (t ∷ ts) = follows t ≡ true
 
@@ -119,11 +119,11 @@ close_follows (fixed x) h = by x h
 close_follows (placed x at) h = h
 close_follows (word c x) h = absurd cc
 
-start_closed : (r : List Tok) → ItemStart r → Closed r
+pub start_closed : (r : List Tok) → ItemStart r → Closed r
 start_closed [] h = tt
 start_closed (t ∷ r) h = start_closes t h
 
-closed_follows : (r : List Tok) → Closed r → Follows r
+pub closed_follows : (r : List Tok) → Closed r → Follows r
 closed_follows [] h = tt
 closed_follows (t ∷ r) h = close_follows t h
 
@@ -421,94 +421,94 @@ value_not_begun at recursive b bs r w ws s g =
 
 -- ---- what is read at each level
 
-abbrev simple_mod_at : ℕ → Read ModExpr
+abbrev pub simple_mod_at : ℕ → Read ModExpr
 simple_mod_at f = simple_mod (read_mod f) (read_type f) f
 
-abbrev mod_apply_at : ℕ → Read ModExpr
+abbrev pub mod_apply_at : ℕ → Read ModExpr
 mod_apply_at f = mod_apply (read_mod f) (read_type f) f
 
-abbrev mod_expr_at : ℕ → Read ModExpr
+abbrev pub mod_expr_at : ℕ → Read ModExpr
 mod_expr_at f = mod_expr (read_mod f) (read_type f) f
 
-abbrev simple_type_at : ℕ → Read ModType
+abbrev pub simple_type_at : ℕ → Read ModType
 simple_type_at f = simple_type (read_mod f) (read_type f) f
 
-abbrev mod_type_at : ℕ → Read ModType
+abbrev pub mod_type_at : ℕ → Read ModType
 mod_type_at f = mod_type (read_mod f) (read_type f) f
 
-abbrev param_at : ℕ → Read FunctorParam
+abbrev pub param_at : ℕ → Read FunctorParam
 param_at f = functor_param (read_mod f) (read_type f) f
 
-abbrev item_at : ℕ → Bool → Read Item
+abbrev pub item_at : ℕ → Bool → Read Item
 item_at f = item_of (read_mod f) (read_type f) f
 
-abbrev items_at : ℕ → ℕ → Bool → List Tok → Items × List Tok
+abbrev pub items_at : ℕ → ℕ → Bool → List Tok → Items × List Tok
 items_at f = items_of (read_mod f) (read_type f) f
 
-abbrev sig_item_at : ℕ → Read SigItem
+abbrev pub sig_item_at : ℕ → Read SigItem
 sig_item_at f = sig_item (read_mod f) (read_type f) f
 
 -- the tokens at which the items of a file or a module end
-data EndsItems : List Tok → Type 0 where
+pub data EndsItems : List Tok → Type 0 where
   at_end : EndsItems []
   at_word : (r : List Tok) → EndsItems (fixed key.End ∷ r)
 
-record GoodMod (m : ModExpr) : Type 0 where
-  lone : is_simple_mod m ≡ true → WfMod m → (f : ℕ) (r : List Tok) → dot_upper r ≡ None → length (mod_then m r) ≤ suc f
+pub record GoodMod (m : ModExpr) : Type 0 where
+  pub lone : is_simple_mod m ≡ true → WfMod m → (f : ℕ) (r : List Tok) → dot_upper r ≡ None → length (mod_then m r) ≤ suc f
       → simple_mod_at f (mod_then m r) ≡ Some (m, r)
-  flat : is_functor m ≡ false → WfMod m → (f : ℕ) (r : List Tok) → Follows r → length (mod_then m r) ≤ suc f
+  pub flat : is_functor m ≡ false → WfMod m → (f : ℕ) (r : List Tok) → Follows r → length (mod_then m r) ≤ suc f
       → mod_apply_at f (mod_then m r) ≡ Some (m, r)
-  full : WfMod m → (f : ℕ) (r : List Tok) → Follows r → length (mod_then m r) ≤ suc f → mod_expr_at f (mod_then m r) ≡ Some (m, r)
+  pub full : WfMod m → (f : ℕ) (r : List Tok) → Follows r → length (mod_then m r) ≤ suc f → mod_expr_at f (mod_then m r) ≡ Some (m, r)
 
-record GoodType (s : ModType) : Type 0 where
-  lone : is_simple_type s ≡ true → WfModType s → (f : ℕ) (r : List Tok) → Follows r → length (mod_type_then s r) ≤ suc f
+pub record GoodType (s : ModType) : Type 0 where
+  pub lone : is_simple_type s ≡ true → WfModType s → (f : ℕ) (r : List Tok) → Follows r → length (mod_type_then s r) ≤ suc f
       → simple_type_at f (mod_type_then s r) ≡ Some (s, r)
-  full : WfModType s → (f : ℕ) (r : List Tok) → Closed r → length (mod_type_then s r) ≤ suc f → mod_type_at f (mod_type_then s r) ≡ Some (s, r)
+  pub full : WfModType s → (f : ℕ) (r : List Tok) → Closed r → length (mod_type_then s r) ≤ suc f → mod_type_at f (mod_type_then s r) ≡ Some (s, r)
 
-abbrev GoodArgument : ModArgument → Type 0
+abbrev pub GoodArgument : ModArgument → Type 0
 GoodArgument (ModuleArgument at m) = GoodMod m
 GoodArgument (SealedArgument at m s) = GoodMod m × GoodType s
 GoodArgument (NoArgument at) = Unit {0}
 
-abbrev GoodArguments : ModArguments → Type 0
+abbrev pub GoodArguments : ModArguments → Type 0
 GoodArguments no_mod_argument = Unit {0}
 GoodArguments (more_mod_argument a ms) = GoodArgument a × GoodArguments ms
 
-abbrev GoodParam : FunctorParam → Type 0
+abbrev pub GoodParam : FunctorParam → Type 0
 GoodParam (NamedParam at x s) = GoodType s
 GoodParam (NoParam at) = Unit {0}
 
-abbrev GoodParams : FunctorParams → Type 0
+abbrev pub GoodParams : FunctorParams → Type 0
 GoodParams no_functor_param = Unit {0}
 GoodParams (more_functor_param p ps) = GoodParam p × GoodParams ps
 
-abbrev GoodMaybe : MaybeType → Type 0
+abbrev pub GoodMaybe : MaybeType → Type 0
 GoodMaybe no_type = Unit {0}
 GoodMaybe (some_type s) = GoodType s
 
-abbrev GoodItem : Item → Type 0
+abbrev pub GoodItem : Item → Type 0
 GoodItem (ModuleItem at x ps s q m) = GoodParams ps × GoodMaybe s × GoodMod m
 GoodItem (ModuleTypeItem at x q s) = GoodType s
 GoodItem (IncludeItem at m) = GoodMod m
 GoodItem _ = Unit {0}
 
-abbrev GoodItems : Items → Type 0
+abbrev pub GoodItems : Items → Type 0
 GoodItems no_item = Unit {0}
 GoodItems (more_item i is) = GoodItem i × GoodItems is
 
-abbrev GoodSigItem : SigItem → Type 0
+abbrev pub GoodSigItem : SigItem → Type 0
 GoodSigItem (ModuleSig at x ps s) = GoodParams ps × GoodType s
 GoodSigItem (ModuleTypeSig at x q s) = GoodType s
 GoodSigItem (IncludeSig at s) = GoodType s
 GoodSigItem _ = Unit {0}
 
-abbrev GoodSigItems : SigItems → Type 0
+abbrev pub GoodSigItems : SigItems → Type 0
 GoodSigItems no_sig_item = Unit {0}
 GoodSigItems (more_sig_item i is) = GoodSigItem i × GoodSigItems is
 
 -- ---- lengths
 
-mod_longer : (m : ModExpr) (k : List Tok) → WfMod m → length k < length (mod_then m k)
+pub mod_longer : (m : ModExpr) (k : List Tok) → WfMod m → length k < length (mod_then m k)
 mod_longer (ModPath path) k w = path_strict path k w
 mod_longer (Struct at is) k w = omega (arith, items_more is (fixed key.End ∷ k))
 mod_longer (Functor at ps m) k w = omega (arith, functor_params_more ps (fixed key.Arrow ∷ mod_then m k), mod_more m k)
@@ -548,7 +548,7 @@ external_longer x run at texts k =
       texts_more texts k,
     )
 
-item_longer : (fresh : Bool) (i : Item) (k : List Tok) → WfItem fresh i → length k < length (item_then_words i k)
+pub item_longer : (fresh : Bool) (i : Item) (k : List Tok) → WfItem fresh i → length k < length (item_then_words i k)
 item_longer fresh (ExprItem e) k w = expr_longer e k w.1
 item_longer fresh SeparatorItem k w = omega arith
 item_longer fresh (ValueItem at recursive b bs) k w =
@@ -1393,7 +1393,7 @@ apply_good m (more_mod_argument a ms) g gs = record {
 }
 
 mutual
-  mod_good : (m : ModExpr) → GoodMod m
+  pub mod_good : (m : ModExpr) → GoodMod m
   mod_good (ModPath path) = lone_mod (ModPath path) refl (λ w f r d len. path_mod_read f path r w d len)
   mod_good (Struct at is) = lone_mod (Struct at is) refl (λ w f r d len. struct_read f at is r (items_good is) w len)
   mod_good (Functor at ps m) =
@@ -1407,7 +1407,7 @@ mutual
   argument_good (SealedArgument at m s) = (mod_good m, type_good s)
   argument_good (NoArgument at) = tt
 
-  arguments_good : (ms : ModArguments) → GoodArguments ms
+  pub arguments_good : (ms : ModArguments) → GoodArguments ms
   arguments_good no_mod_argument = tt
   arguments_good (more_mod_argument a ms) = (argument_good a, arguments_good ms)
 
@@ -1415,11 +1415,11 @@ mutual
   param_good (NamedParam at x s) = type_good s
   param_good (NoParam at) = tt
 
-  params_good : (ps : FunctorParams) → GoodParams ps
+  pub params_good : (ps : FunctorParams) → GoodParams ps
   params_good no_functor_param = tt
   params_good (more_functor_param p ps) = (param_good p, params_good ps)
 
-  type_good : (s : ModType) → GoodType s
+  pub type_good : (s : ModType) → GoodType s
   type_good (TypePath path) = lone_type (TypePath path) refl (λ w f r s len. path_type_read f path r w s len)
   type_good (Sig at is) = lone_type (Sig at is) refl (λ w f r s len. sig_read f at is r (sig_items_good is) w len)
   type_good (TypeOf at m) = lone_type (TypeOf at m) refl (λ w f r s len. type_of_read f at m r (mod_good m) w.0 w.1 s len)
@@ -1434,7 +1434,7 @@ mutual
   maybe_good no_type = tt
   maybe_good (some_type s) = type_good s
 
-  item_good : (i : Item) → GoodItem i
+  pub item_good : (i : Item) → GoodItem i
   item_good (ExprItem e) = tt
   item_good SeparatorItem = tt
   item_good (ValueItem at recursive b bs) = tt
@@ -1446,11 +1446,11 @@ mutual
   item_good (OpenItem at bang path) = tt
   item_good (IncludeItem at m) = mod_good m
 
-  items_good : (is : Items) → GoodItems is
+  pub items_good : (is : Items) → GoodItems is
   items_good no_item = tt
   items_good (more_item i is) = (item_good i, items_good is)
 
-  sig_item_good : (i : SigItem) → GoodSigItem i
+  pub sig_item_good : (i : SigItem) → GoodSigItem i
   sig_item_good SeparatorSig = tt
   sig_item_good (ValSig x run) = tt
   sig_item_good (ExternalSig x run at texts) = tt
@@ -1462,7 +1462,7 @@ mutual
   sig_item_good (OpenSig at bang path) = tt
   sig_item_good (IncludeSig at s) = type_good s
 
-  sig_items_good : (is : SigItems) → GoodSigItems is
+  pub sig_items_good : (is : SigItems) → GoodSigItems is
   sig_items_good no_sig_item = tt
   sig_items_good (more_sig_item i is) = (sig_item_good i, sig_items_good is)
 
