@@ -1,5 +1,5 @@
 -- The sentences of places at which OCaml may read a folder otherwise (own).
-use Rattle.std.specs.Prelude.{ℕ, List, [], ◌∷◌, Bool, true, false, Option, Some, None, codes}
+use Rattle.std.specs.Prelude.{ℕ, List, [], ◌∷◌, Option, Some, None, codes}
 use Rattle.rotor_base.specs.declared.place.Place.{Place}
 use Rattle.report.specs.Pieces.{Word, join}
 use Rattle.messages.specs.declared.kinds.Kind.{Kind}
@@ -43,25 +43,21 @@ abbrev pub indexed : List Cut → Place → Indexed → Message
 indexed cuts at f =
     warned kind.Indexing (index_text (form_of f) (module_of f)) (place_spot cuts at) (Some (index_help (module_of f)))
 
-abbrev pub opened_words : Bool → Word
-opened_words true = codes "opened here, from outside the folder"
-opened_words false = codes "opened here"
-
 -- on the place of an opening
-abbrev pub opened_note : List Cut → Place → Bool → Note
-opened_note cuts by is_outside = record { at = place_spot cuts by; text = opened_words is_outside }
+abbrev pub opened_note : List Cut → Place → Note
+opened_note cuts by = record { at = place_spot cuts by; text = codes "opened here, from outside the folder" }
 
 abbrev pub opened_text : Word → Word → Word
 opened_text by name =
     join (codes "if the module opened at " ∷ by ∷ codes " has a module `" ∷ name ∷ codes "` of its own, OCaml means that one" ∷ [])
 
-abbrev pub opened : List Cut → Place → Word → Place → Bool → Message
-opened cuts at name by is_outside = record {
+abbrev pub opened : List Cut → Place → Word → Place → Message
+opened cuts at name by = record {
   severity = Warning;
   kind = kind.Opened;
   text = opened_text (spot_text (place_spot cuts by)) name;
   at = Some (place_spot cuts at);
-  notes = opened_note cuts by is_outside ∷ [];
+  notes = opened_note cuts by ∷ [];
   help = None;
 }
 
@@ -87,7 +83,7 @@ late cuts at unit needed =
 
 abbrev pub warning_how : List Cut → Place → Parting → Message
 warning_how cuts at (how.Indexing f) = indexed cuts at f
-warning_how cuts at (how.Opened name by is_outside) = opened cuts at name by is_outside
+warning_how cuts at (how.Opened name by) = opened cuts at name by
 warning_how cuts at (how.Types argument) = applied cuts at argument
 warning_how cuts at (how.Comment offset) = commented cuts at offset
 warning_how cuts at (how.Order unit needed) = late cuts at unit needed

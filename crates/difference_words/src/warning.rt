@@ -1,7 +1,7 @@
 //! The warning of a place.
 ghost use Rattle.std.specs.Prelude.{◌≡◌, IfOk, map};
 ghost use Rattle.refusal_words.specs.Cut.{view_cut};
-ghost use Rattle.difference_words.specs.Warning.{applied as applied_of, commented as commented_of, index_help as index_help_of, index_text as index_text_of, indexed as indexed_of, late as late_of, module_of, form_of, opened as opened_of, opened_note as opened_note_of, opened_text as opened_text_of, opened_words as opened_words_of, warned, warning_of as warning_for};
+ghost use Rattle.difference_words.specs.Warning.{applied as applied_of, commented as commented_of, index_help as index_help_of, index_text as index_text_of, indexed as indexed_of, late as late_of, module_of, form_of, opened as opened_of, opened_note as opened_note_of, opened_text as opened_text_of, warned, warning_of as warning_for};
 
 use messages::{Kind, Message, Note, Severity, Spot, joined, spot_text};
 use reading_differences::{Difference, Indexed, Parting};
@@ -20,11 +20,7 @@ pub fn warning_of(
     let at = difference.at;
     match &difference.how {
         Parting::Indexing(form) => indexed(alloc, cuts, at, *form),
-        Parting::Opened {
-            name,
-            by,
-            is_outside,
-        } => opened(alloc, cuts, at, name.as_bytes(), *by, *is_outside),
+        Parting::Opened { name, by } => opened(alloc, cuts, at, name.as_bytes(), *by),
         Parting::Types(argument) => applied(alloc, cuts, at, argument.as_bytes()),
         Parting::Comment(offset) => commented(alloc, cuts, at, *offset),
         Parting::Order { unit, needed } => {
@@ -110,21 +106,20 @@ fn form_text(form: Indexed) -> &'static [u8]
     }
 }
 
-/// The warning of a module that is used behind the opening of a module that may be outside.
+/// The warning of a module that is used behind the opening of a module from outside.
 fn opened(
     alloc: Global,
     cuts: &[CutSource<'_>],
     at: Place,
     name: &[u8],
     by: Place,
-    is_outside: bool,
 ) -> Result<Message, Memory>
-    ensures { IfOk result (λ message. message ≡ opened_of (map view_cut cuts.now) at name.now by is_outside) }
+    ensures { IfOk result (λ message. message ≡ opened_of (map view_cut cuts.now) at name.now by) }
 {
     let opening = place_spot(alloc, cuts, by)?;
     let opening = spot_text(alloc, &opening)?;
     let mut notes = Row::new(alloc);
-    notes.push(opened_note(alloc, cuts, by, is_outside)?)?;
+    notes.push(opened_note(alloc, cuts, by)?)?;
     Ok(Message {
         severity: Severity::Warning,
         kind: Kind::Opened,
@@ -152,28 +147,12 @@ fn opened_text<'a>(alloc: Global, by: &'a [u8], name: &'a [u8]) -> Result<Row<u8
 }
 
 /// The note on the place of an opening.
-fn opened_note(
-    alloc: Global,
-    cuts: &[CutSource<'_>],
-    by: Place,
-    is_outside: bool,
-) -> Result<Note, Memory>
-    ensures { IfOk result (λ note. note ≡ opened_note_of (map view_cut cuts.now) by is_outside) }
+fn opened_note(alloc: Global, cuts: &[CutSource<'_>], by: Place) -> Result<Note, Memory>
+    ensures { IfOk result (λ note. note ≡ opened_note_of (map view_cut cuts.now) by) }
 {
     let at = place_spot(alloc, cuts, by)?;
-    let text = Row::from_vec(opened_words(is_outside).to_vec(alloc)?);
+    let text = Row::from_vec(b"opened here, from outside the folder".to_vec(alloc)?);
     Ok(Note { at, text })
-}
-
-/// What is said of an opening.
-fn opened_words(is_outside: bool) -> &'static [u8]
-    ensures { result.now ≡ opened_words_of is_outside }
-{
-    if is_outside {
-        b"opened here, from outside the folder"
-    } else {
-        b"opened here"
-    }
 }
 
 /// The warning of a functor that is applied in a type.

@@ -1,14 +1,14 @@
 -- The names that are known at a file, as the definitions have them (own).
 use Rattle.module_openings.specs.Opened.{Linked, Meant, Named}
 use Rattle.module_openings.specs.declared.names.Linked.{Linked as Units}
+use Rattle.module_openings.specs.declared.names.Meant.{Meant as Modules}
 use Rattle.module_openings.specs.declared.names.Names.{Names}
-use Rattle.module_openings.specs.declared.opened.Meant.{Meant as Modules}
 
 abbrev pub view_linked : Units → Linked
-view_linked l = record { units = l.units.items; mixed = l.mixed.items; nested = l.nested.items; types = l.types.items }
+view_linked l = record { units = l.units.items; nested = l.nested.items }
 
 abbrev pub view_names : Names → Named
-view_names n = record { linked = view_linked n.linked.now; here = n.here.items }
+view_names n = record { linked = view_linked n.linked.now; types = n.types.items }
 
 abbrev pub view_meant : Modules → Meant
 view_meant m = record { named = view_names m.names.now; locals = m.locals.now; brought = m.brought }

@@ -1,5 +1,5 @@
--- Modules of the project that are used behind the opening of a module that may be outside: OCaml means the opened module's
--- own module, if it has one of the name (the OCaml manual, "Names" and "Module expressions").
+-- Modules of the project that are used behind the opening of a module from outside: OCaml means the opened module's own
+-- module, if it has one of the name (the OCaml manual, "Names" and "Module expressions").
 use Rattle.std.specs.Prelude.{ℕ, ◌+◌, ◌-◌, ◌==◌, List, [], ◌∷◌, ◌++◌, Bool, true, false, ◌&&◌, ◌||◌, not, Option, Some, None, codes, cond}
 use Rattle.std.specs.Prelude.{nat_le}
 use Rattle.std.specs.Str.{bytes_eq}
@@ -16,20 +16,15 @@ use Rattle.module_openings.specs.declared.opening.Site.{Site}
 
 -- ---- names of modules
 
--- names of the units that are linked before, and in them
+-- the units that are linked before, and the modules that they declare
 pub record Linked : Type 0 where
-  -- units without an `include`, and with one
   pub units : List (List ℕ)
-  pub mixed : List (List ℕ)
-  -- modules and module types that they declare
   pub nested : List (List ℕ)
-  pub types : List (List ℕ)
 
--- names at a file
+-- names at a file: those, and the module types that it declares
 pub record Named : Type 0 where
   pub linked : Linked
-  -- modules and module types that the file declares
-  pub here : List (List ℕ)
+  pub types : List (List ℕ)
 
 -- a module declared here: `module M`, or a functor's parameter `(M :`
 abbrev pub declared : Lexeme → List Lexeme → List (List ℕ)
@@ -50,20 +45,10 @@ abbrev pub types_in : List Lexeme → List (List ℕ)
 types_in [] = []
 types_in (x ∷ xs) = type_declared x xs ++ types_in xs
 
-abbrev pub has_include : List Lexeme → Bool
-has_include [] = false
-has_include (x ∷ xs) = is "include" x || has_include xs
-
--- a name of nothing in the project
-abbrev pub is_outside : Named → List ℕ → Bool
-is_outside n name =
-    not (is_among n.linked.units name || is_among n.linked.mixed name || is_among n.linked.nested name || is_among n.linked.types name
-    || is_among n.here name)
-
--- a unit of which all modules are known
-abbrev pub is_plain : Named → List ℕ → Bool
-is_plain n name =
-    is_among n.linked.units name && not (is_among n.linked.mixed name || is_among n.linked.nested name || is_among n.here name)
+-- the first name of a path from outside: neither a unit, nor a module type of the file, nor one of `locals`, the modules
+-- that the file declares before
+abbrev pub is_outside : Named → List (List ℕ) → List ℕ → Bool
+is_outside n locals name = not (is_among n.linked.units name || is_among n.types name || is_among locals name)
 
 -- ---- openings
 
@@ -71,24 +56,10 @@ abbrev pub behind_bang : List Lexeme → List Lexeme
 behind_bang [] = []
 behind_bang (x ∷ xs) = cond (is "!" x) xs (x ∷ xs)
 
--- another step of a path
-abbrev pub has_step : List Lexeme → Bool
-has_step [] = false
-has_step (x ∷ []) = false
-has_step (x ∷ (y ∷ xs)) = is "." x && is_upper y
-
--- the path that begins here is more than the name of a plain unit
-abbrev pub may_be_outside : Named → Lexeme → List Lexeme → Bool
-may_be_outside n x xs = not (is_plain n x.bytes) || has_step xs
-
-abbrev pub path_may_be_outside : Named → List Lexeme → Bool
-path_may_be_outside n [] = false
-path_may_be_outside n (x ∷ xs) = is_upper x && may_be_outside n x xs
-
--- the path that begins here is outside
-abbrev pub path_is_outside : Named → List Lexeme → Bool
-path_is_outside n [] = false
-path_is_outside n (x ∷ xs) = is_upper x && is_outside n x.bytes
+-- a path from outside begins here
+abbrev pub path_is_outside : Named → List (List ℕ) → List Lexeme → Bool
+path_is_outside n locals [] = false
+path_is_outside n locals (x ∷ xs) = is_upper x && is_outside n locals x.bytes
 
 -- the rest of a path, and then `.` and a bracket
 abbrev pub opens_bracket : List Lexeme → Bool
@@ -104,61 +75,24 @@ heads_bracket before x xs = is_upper x && not (bytes_eq before (codes ".")) && o
 abbrev pub open_behind : List ℕ → Opening
 open_behind before = cond (bytes_eq before (codes "let")) by.LetOpen by.Open
 
--- the opening at a lexeme behind a word, if what it opens may be outside
-abbrev pub opening_at : Named → List ℕ → Lexeme → List Lexeme → Option Opening
-opening_at n before x xs =
-    cond (is "open" x) (cond (path_may_be_outside n (behind_bang xs)) (Some (open_behind before)) None)
-    (cond (is "include" x) (Some by.Include)
-    (cond (heads_bracket before x xs && may_be_outside n x xs) (Some by.Path) None))
+-- the opening at a lexeme behind a word
+abbrev pub opening_at : List ℕ → Lexeme → List Lexeme → Option Opening
+opening_at before x xs =
+    cond (is "open" x) (Some (open_behind before)) (cond (is "include" x) (Some by.Include)
+    (cond (heads_bracket before x xs) (Some by.Path) None))
 
--- it is outside
-abbrev pub opens_outside : Named → Opening → Lexeme → List Lexeme → Bool
-opens_outside n by.Open x xs = path_is_outside n (behind_bang xs)
-opens_outside n by.LetOpen x xs = path_is_outside n (behind_bang xs)
-opens_outside n by.Include x xs = path_is_outside n xs
-opens_outside n by.Path x xs = is_outside n x.bytes
+-- it opens a path from outside
+abbrev pub opens_outside : Named → List (List ℕ) → Opening → Lexeme → List Lexeme → Bool
+opens_outside n locals by.Include x xs = path_is_outside n locals xs
+opens_outside n locals by.Path x xs = is_outside n locals x.bytes
+opens_outside n locals _ x xs = path_is_outside n locals (behind_bang xs)
 
--- a module of the project may be opened here
-abbrev pub brings : Named → List ℕ → Lexeme → List Lexeme → Bool
-brings n before x xs =
-    (is "open" x && not (path_is_outside n (behind_bang xs))) || (is "include" x && not (path_is_outside n xs))
-    || (heads_bracket before x xs && not (is_outside n x.bytes))
+-- it opens another module, which may be of the project
+abbrev pub brings : Named → List (List ℕ) → Option Opening → Lexeme → List Lexeme → Bool
+brings n locals None x xs = false
+brings n locals (Some o) x xs = not (opens_outside n locals o x xs)
 
--- ---- where an opening ends
-
--- an item of a structure begins, behind a lexeme
-abbrev pub begins_item : Lexeme → Lexeme → Bool
-begins_item last x =
-    is ";;" x || (ends_value last && (is "let" x || is "module" x || is "open" x || is "include" x || is "type" x || is "exception" x
-    || is "external" x))
-
--- an item opens a module that is outside, which is then the nearest
-abbrev pub opens_nearer : Named → Lexeme → Lexeme → List Lexeme → Bool
-opens_nearer n last x xs = is "open" x && not (is "let" last) && path_is_outside n (behind_bang xs)
-
--- a lexeme outside of brackets ends it
-abbrev pub ends_at : Named → Opening → Lexeme → Lexeme → List Lexeme → Bool
-ends_at n by.Open last x xs = opens_nearer n last x xs
-ends_at n by.Include last x xs = opens_nearer n last x xs
-ends_at n _ last x xs = begins_item last x
-
--- how many brackets are open where a closing one ends it
-abbrev pub floor : Opening → ℕ
-floor by.Path = 1
-floor _ = 0
-
--- a lexeme ends it, inside so many brackets
-abbrev pub ends : Named → Opening → ℕ → Lexeme → Lexeme → List Lexeme → Bool
-ends n o depth last x xs = (ends_nest x && nat_le depth (floor o)) || (depth == 0 && ends_at n o last x xs)
-
-abbrev pub depth_behind : ℕ → Lexeme → ℕ
-depth_behind depth x = cond (begins_nest x) (depth + 1) (cond (ends_nest x) (depth - 1) depth)
-
--- ---- uses
-
--- the name of a module or a constructor that is no step of a path and is not declared here, behind a lexeme
-abbrev pub is_head : Lexeme → Lexeme → Bool
-is_head last x = is_upper x && not (is "." last || is "module" last || is "type" last)
+-- ---- names behind an opening
 
 -- the modules that may be meant at an opening: `locals` are declared before in its file, and `brought`: a module of the
 -- project may be opened there
@@ -168,9 +102,49 @@ pub record Meant : Type 0 where
   pub brought : Bool
 
 abbrev pub is_meant : Meant → List ℕ → Bool
-is_meant m name =
-    is_among m.named.linked.units name || is_among m.named.linked.mixed name || is_among m.locals name
-    || (m.brought && is_among m.named.linked.nested name)
+is_meant m name = is_among m.named.linked.units name || is_among m.locals name || (m.brought && is_among m.named.linked.nested name)
+
+-- ---- where an opening ends
+
+-- an item of a structure begins, behind a lexeme
+abbrev pub begins_item : Lexeme → Lexeme → Bool
+begins_item last x =
+    is ";;" x || (ends_value last && (is "let" x || is "module" x || is "open" x || is "include" x || is "type" x || is "exception" x
+    || is "external" x))
+
+-- these lexemes begin with one of these names
+abbrev pub begins_among : List (List ℕ) → List Lexeme → Bool
+begins_among names [] = false
+begins_among names (x ∷ xs) = is_among names x.bytes
+
+-- an item opens a path from outside, which is then the nearest. `inner`: the modules that are declared behind the opening
+abbrev pub opens_nearer : Meant → List (List ℕ) → Lexeme → Lexeme → List Lexeme → Bool
+opens_nearer m inner last x xs =
+    is "open" x && not (is "let" last) && path_is_outside m.named m.locals (behind_bang xs) && not (begins_among inner (behind_bang xs))
+
+-- a lexeme outside of brackets ends it
+abbrev pub ends_at : Meant → List (List ℕ) → Opening → Lexeme → Lexeme → List Lexeme → Bool
+ends_at m inner by.Open last x xs = opens_nearer m inner last x xs
+ends_at m inner by.Include last x xs = opens_nearer m inner last x xs
+ends_at m inner _ last x xs = begins_item last x
+
+-- how many brackets are open where a closing one ends it
+abbrev pub floor : Opening → ℕ
+floor by.Path = 1
+floor _ = 0
+
+-- a lexeme ends it, inside so many brackets
+abbrev pub ends : Meant → List (List ℕ) → Opening → ℕ → Lexeme → Lexeme → List Lexeme → Bool
+ends m inner o depth last x xs = (ends_nest x && nat_le depth (floor o)) || (depth == 0 && ends_at m inner o last x xs)
+
+abbrev pub depth_behind : ℕ → Lexeme → ℕ
+depth_behind depth x = cond (begins_nest x) (depth + 1) (cond (ends_nest x) (depth - 1) depth)
+
+-- ---- uses
+
+-- the name of a module or a constructor that is no step of a path and is not declared here, behind a lexeme
+abbrev pub is_head : Lexeme → Lexeme → Bool
+is_head last x = is_upper x && not (is "." last || is "module" last || is "type" last)
 
 -- the first head of its name, behind those that were seen
 abbrev pub is_first : List (List ℕ) → Lexeme → Lexeme → Bool
@@ -185,29 +159,24 @@ use_at s number name true = record {
   at = record { file = s.at.file; token = number };
   name = name;
   by = s.at;
-  is_outside = s.is_outside;
 } ∷ []
 
 module _ (m : Meant) (s : Site) where
   -- the first use of each module that may be meant, among lexemes from this number on, inside so many brackets
-  abbrev pub uses : List (List ℕ) → ℕ → Lexeme → ℕ → List Lexeme → List OpenedUse
-  uses seen depth last number [] = []
-  uses seen depth last number (x ∷ xs) =
-      cond (ends m.named s.opening depth last x xs) []
+  abbrev pub uses : List (List ℕ) → List (List ℕ) → ℕ → Lexeme → ℕ → List Lexeme → List OpenedUse
+  uses inner seen depth last number [] = []
+  uses inner seen depth last number (x ∷ xs) =
+      cond (ends m inner s.opening depth last x xs) []
       (use_at s number x.bytes (is_first seen last x && is_meant m x.bytes)
-      ++ uses (seen_behind seen last x) (depth_behind depth x) x (number + 1) xs)
+      ++ uses (inner ++ declared x xs) (seen_behind seen last x) (depth_behind depth x) x (number + 1) xs)
 
-abbrev pub begins_path : List Lexeme → Bool
-begins_path [] = false
-begins_path (x ∷ xs) = is_upper x
-
--- the lexemes behind the keyword of an opening and the head of its path; of a path, those behind the head
 abbrev pub behind_first : List Lexeme → List Lexeme
 behind_first [] = []
 behind_first (x ∷ xs) = xs
 
+-- the lexemes behind the keyword of an opening and the head of its path; of `M.( .. )`, those behind the head
 abbrev pub behind_head : Opening → List Lexeme → List Lexeme
-behind_head by.Include xs = cond (begins_path xs) (behind_first xs) xs
+behind_head by.Include xs = behind_first xs
 behind_head by.Path xs = xs
 behind_head _ xs = behind_first (behind_bang xs)
 
@@ -217,36 +186,30 @@ begins_bang (x ∷ xs) = is "!" x
 
 -- how many lexemes are between
 abbrev pub skipped : Opening → List Lexeme → ℕ
-skipped by.Include xs = cond (begins_path xs) 1 0
+skipped by.Include xs = 1
 skipped by.Path xs = 0
 skipped _ xs = cond (begins_bang xs) 2 1
 
 -- behind a site, which begins at a lexeme
 abbrev pub uses_of : Meant → Site → Lexeme → List Lexeme → List OpenedUse
-uses_of m s x xs = uses m s [] 0 x (s.at.token + 1 + skipped s.opening xs) (behind_head s.opening xs)
+uses_of m s x xs = uses m s [] [] 0 x (s.at.token + 1 + skipped s.opening xs) (behind_head s.opening xs)
 
--- behind the opening at a lexeme, if there is one
+-- behind the opening at a lexeme, if it is one of a path from outside
 abbrev pub uses_behind : Meant → Place → Lexeme → List Lexeme → Option Opening → List OpenedUse
 uses_behind m at x xs None = []
-uses_behind m at x xs (Some o) = uses_of m (record { at = at; opening = o; is_outside = opens_outside m.named o x xs }) x xs
+uses_behind m at x xs (Some o) = cond (opens_outside m.named m.locals o x xs) (uses_of m (record { at = at; opening = o }) x xs) []
 
 -- ---- files and units
-
--- the modules of a file that may be meant behind an opening: those declared before, and of an `include` of no path, which
--- may declare modules itself, all
-abbrev pub locals_at : Named → List (List ℕ) → Lexeme → List Lexeme → List (List ℕ)
-locals_at n locals x xs = cond (is "include" x && not (begins_path xs)) n.here locals
 
 -- behind all openings of a file, among its lexemes from a number on, behind a word
 abbrev pub opened_in : Named → ℕ → List (List ℕ) → Bool → List ℕ → ℕ → List Lexeme → List OpenedUse
 opened_in n file locals brought before number [] = []
 opened_in n file locals brought before number (x ∷ xs) =
-    uses_behind (record { named = n; locals = locals_at n locals x xs; brought = brought || brings n before x xs })
-    (record { file = file; token = number }) x xs (opening_at n before x xs)
-    ++ opened_in n file (locals ++ declared x xs) (brought || brings n before x xs) x.bytes (number + 1) xs
+    uses_behind (record { named = n; locals = locals; brought = brought }) (record { file = file; token = number }) x xs (opening_at before x xs)
+    ++ opened_in n file (locals ++ declared x xs) (brought || brings n locals (opening_at before x xs) x xs) x.bytes (number + 1) xs
 
 abbrev pub opened_source : Linked → ℕ → List Lexeme → List OpenedUse
-opened_source l file xs = opened_in (record { linked = l; here = modules_in xs ++ types_in xs }) file [] false [] 1 xs
+opened_source l file xs = opened_in (record { linked = l; types = types_in xs }) file [] false [] 1 xs
 
 abbrev pub opened_file : List (List Lexeme) → Linked → Option FileTree → List OpenedUse
 opened_file lists l None = []
@@ -258,12 +221,7 @@ part_lexemes lists (Some tree) = lexemes_of lists (file_of tree)
 
 -- the names behind a unit of which the files have these lexemes
 abbrev pub linked_behind : Linked → List ℕ → List Lexeme → List Lexeme → Linked
-linked_behind l name xs ys = record {
-  units = cond (has_include xs || has_include ys) l.units (l.units ++ name ∷ []);
-  mixed = cond (has_include xs || has_include ys) (l.mixed ++ name ∷ []) l.mixed;
-  nested = (l.nested ++ modules_in xs) ++ modules_in ys;
-  types = (l.types ++ types_in xs) ++ types_in ys;
-}
+linked_behind l name xs ys = record { units = l.units ++ name ∷ []; nested = (l.nested ++ modules_in xs) ++ modules_in ys }
 
 -- of units in link order
 abbrev pub opened_units : List (List Lexeme) → Linked → List UnitTree → List OpenedUse
@@ -273,4 +231,4 @@ opened_units lists l (u ∷ us) =
     ++ opened_units lists (linked_behind l u.name (part_lexemes lists u.body) (part_lexemes lists u.face)) us
 
 abbrev pub opened_modules : List (List Lexeme) → List UnitTree → List OpenedUse
-opened_modules lists us = opened_units lists (record { units = []; mixed = []; nested = []; types = [] }) us
+opened_modules lists us = opened_units lists (record { units = []; nested = [] }) us

@@ -2,32 +2,36 @@
 ghost use Rattle.std.specs.Prelude.{◌≡◌, ◌++◌, IfOk, OnOk};
 ghost use Rattle.ml_lexer.specs.Lexed.{view_token, view_tokens};
 ghost use Rattle.module_openings.specs.Names.{is_among as is_among_of};
-ghost use Rattle.module_openings.specs.Named.{view_names};
-ghost use Rattle.module_openings.specs.Opened.{declared, has_include as has_include_of, is_outside as is_outside_of, is_plain as is_plain_of, modules_in, type_declared, types_in};
+ghost use Rattle.module_openings.specs.Named.{view_meant, view_names};
+ghost use Rattle.module_openings.specs.Opened.{declared, is_meant as is_meant_of, is_outside as is_outside_of, modules_in, type_declared, types_in};
 
 use crate::lexemes::{is_upper, is_word};
 use rotor_base::{Memory, Name, Token};
 use std::alloc::Global;
 
-/// Names of the units that are linked before, and in them.
+/// The units that are linked before, and the modules that they declare.
 #[derive(Drop)]
 pub(crate) struct Linked {
-    /// Units without an `include`.
     pub units: Vec<Name>,
-    /// Those with one.
-    pub mixed: Vec<Name>,
-    /// Modules that they declare.
     pub nested: Vec<Name>,
-    /// Module types that they declare.
-    pub types: Vec<Name>,
 }
 
 /// Names at a file.
 #[derive(Drop)]
 pub(crate) struct Names<'a> {
     pub linked: &'a Linked,
-    /// Modules and module types that the file declares.
-    pub here: Vec<Name>,
+    /// Module types that the file declares.
+    pub types: Vec<Name>,
+}
+
+/// The modules that may be meant at an opening.
+#[derive(Drop)]
+pub(crate) struct Meant<'a, 'b> {
+    pub names: &'a Names<'b>,
+    /// Those that are declared before in the file.
+    pub locals: &'a [Name],
+    /// Whether a module of the project may be opened there.
+    pub brought: bool,
 }
 
 /// Whether a name is one of these.
@@ -37,27 +41,21 @@ pub fn is_among(names: &[Name], name: &[u8]) -> bool
     names.iter().any(|other| other.as_bytes() == name)
 }
 
-/// Whether a name is a name of nothing in the project.
-pub(crate) fn is_outside(names: &Names<'_>, name: &[u8]) -> bool
-    ensures { result ≡ is_outside_of (view_names names.now) name.now }
+/// Whether a path that begins with a name is from outside, behind the modules that its file declares before.
+pub(crate) fn is_outside(names: &Names<'_>, locals: &[Name], name: &[u8]) -> bool
+    ensures { result ≡ is_outside_of (view_names names.now) locals.now name.now }
 {
-    let linked = names.linked;
-    !(is_among(&linked.units, name)
-        || is_among(&linked.mixed, name)
-        || is_among(&linked.nested, name)
-        || is_among(&linked.types, name)
-        || is_among(&names.here, name))
+    !(is_among(&names.linked.units, name) || is_among(&names.types, name) || is_among(locals, name))
 }
 
-/// Whether a name is that of a unit of which all modules are known.
-pub(crate) fn is_plain(names: &Names<'_>, name: &[u8]) -> bool
-    ensures { result ≡ is_plain_of (view_names names.now) name.now }
+/// Whether a name may mean a module of the project.
+pub(crate) fn is_meant(meant: &Meant<'_, '_>, name: &[u8]) -> bool
+    ensures { result ≡ is_meant_of (view_meant meant.now) name.now }
 {
-    let linked = names.linked;
+    let linked = meant.names.linked;
     is_among(&linked.units, name)
-        && !(is_among(&linked.mixed, name)
-            || is_among(&linked.nested, name)
-            || is_among(&names.here, name))
+        || is_among(meant.locals, name)
+        || (meant.brought && is_among(&linked.nested, name))
 }
 
 /// Adds the module that a token and those behind it declare, if they do: `module M`, or a functor's parameter `(M :`.
@@ -133,18 +131,4 @@ pub(crate) fn push_types(
         rest = behind;
     }
     Ok(())
-}
-
-/// Whether some tokens have an `include`.
-pub(crate) fn has_include(tokens: &[Token<'_>]) -> bool
-    ensures { result ≡ has_include_of (view_tokens tokens.now) }
-{
-    let mut rest = tokens;
-    while let [token, behind @ ..] = rest {
-        if is_word(token, b"include") {
-            return true;
-        }
-        rest = behind;
-    }
-    false
 }

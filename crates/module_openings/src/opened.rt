@@ -1,30 +1,22 @@
-//! Modules of the project that are used behind the opening of a module that may be outside.
+//! Modules of the project that are used behind the opening of a module from outside.
 ghost use Rattle.std.specs.Prelude.{◌≡◌, ◌++◌, ◌∷◌, ◌+◌, ◌≤◌, [], All, IfOk, OnOk, cond, false, length, map};
 ghost use Rattle.rotor_base.specs.Limits.{max_file_bytes};
 ghost use Rattle.ml_lexer.specs.Lexed.{view_token, view_tokens};
 ghost use Rattle.ml_trees.specs.View.{view_part_of, view_unit};
 ghost use Rattle.module_openings.specs.Named.{view_linked, view_meant, view_names};
 ghost use Rattle.module_openings.specs.Sources.{lexemes_of};
-ghost use Rattle.module_openings.specs.Opened.{depth_behind as depth_behind_of, is_first as is_first_of, is_head as is_head_of, is_meant as is_meant_of, linked_behind, locals_at as locals_at_of, opened_file, opened_in, opened_modules, opened_source, opened_units, part_lexemes, use_at, uses_behind, uses_of};
+ghost use Rattle.module_openings.specs.Opened.{depth_behind as depth_behind_of, is_first as is_first_of, is_head as is_head_of, linked_behind, opened_file, opened_in, opened_modules, opened_source, opened_units, part_lexemes, use_at, uses_behind, uses_of};
 
 use crate::lexemes::{begins_nest, ends_nest, is_upper, is_word};
-use crate::names::{Linked, Names, has_include, is_among, push_declared, push_modules, push_types};
+use crate::names::{
+    Linked, Meant, Names, is_among, is_meant, push_declared, push_modules, push_types,
+};
 use crate::opening::{Opening, Site};
-use crate::openings::{begins_path, behind_head, brings, ends, opening_at, opens_outside, skipped};
+use crate::openings::{behind_head, brings, ends, opening_at, opens_outside, skipped};
 use crate::sources::file_number;
 use ml_trees::{FileTree, UnitTree};
 use rotor_base::{Memory, Name, Place, Token};
 use std::alloc::Global;
-
-/// The modules that may be meant at an opening.
-#[derive(Drop)]
-struct Meant<'a, 'b> {
-    names: &'a Names<'b>,
-    /// Those that are declared before in the file.
-    locals: &'a [Name],
-    /// Whether a module of the project may be opened there.
-    brought: bool,
-}
 
 /// The use of a module behind an opening.
 #[derive(Drop)]
@@ -33,11 +25,9 @@ pub struct OpenedUse {
     pub name: Name,
     /// The place of the opening.
     pub by: Place,
-    /// Whether what it opens surely is outside.
-    pub is_outside: bool,
 }
 
-/// The first use of each module of the project behind each opening of a module that may be outside, of units in link order,
+/// The first use of each module of the project behind each opening of a module from outside, of units in link order,
 /// over the tokens of the sources. The one error is want of memory.
 pub fn opened_uses(
     alloc: Global,
@@ -50,9 +40,7 @@ pub fn opened_uses(
     let mut found = Vec::new(alloc);
     let mut linked = Linked {
         units: Vec::new(alloc),
-        mixed: Vec::new(alloc),
         nested: Vec::new(alloc),
-        types: Vec::new(alloc),
     };
     let mut rest = units;
     while let [unit, behind @ ..] = rest {
@@ -121,16 +109,9 @@ fn pass_unit(
 {
     let body = part_tokens(sources, &unit.body);
     let face = part_tokens(sources, &unit.face);
-    let name = Name::new(alloc, unit.name.as_bytes())?;
-    if has_include(body) || has_include(face) {
-        linked.mixed.push(name)?;
-    } else {
-        linked.units.push(name)?;
-    }
+    linked.units.push(Name::new(alloc, unit.name.as_bytes())?)?;
     push_modules(alloc, &mut linked.nested, body)?;
-    push_modules(alloc, &mut linked.nested, face)?;
-    push_types(alloc, &mut linked.types, body)?;
-    push_types(alloc, &mut linked.types, face)
+    push_modules(alloc, &mut linked.nested, face)
 }
 
 /// Adds those of a source, by its number and its tokens.
@@ -144,10 +125,9 @@ fn add_source(
     requires { length tokens.now ≤ max_file_bytes }
     ensures { OnOk result (found.new.items ≡ found.old.items ++ opened_source (view_linked linked.now) file (view_tokens tokens.now)) }
 {
-    let mut here = Vec::new(alloc);
-    push_modules(alloc, &mut here, tokens)?;
-    push_types(alloc, &mut here, tokens)?;
-    add_openings(alloc, found, &Names { linked, here }, file, tokens)
+    let mut types = Vec::new(alloc);
+    push_types(alloc, &mut types, tokens)?;
+    add_openings(alloc, found, &Names { linked, types }, file, tokens)
 }
 
 /// Adds those of a source over the names at it.
@@ -171,14 +151,14 @@ fn add_openings(
             file,
             token: number,
         };
-        let opening = opening_at(names, before, token, behind);
-        brought = brought || brings(names, before, token, behind);
+        let opening = opening_at(before, token, behind);
         let meant = Meant {
             names: &*names,
-            locals: locals_at(&*names, &locals, token, behind),
+            locals: &locals,
             brought,
         };
         add_uses(alloc, found, &meant, at, token, behind, opening)?;
+        brought = brought || brings(names, &locals, opening, token, behind);
         push_declared(alloc, &mut locals, token, behind)?;
         before = token.bytes;
         number += 1;
@@ -187,24 +167,7 @@ fn add_openings(
     Ok(())
 }
 
-/// The modules of a file that may be meant behind an opening at a token: those declared before, and of an `include` of no
-/// path, which may declare modules itself, all.
-fn locals_at<'a>(
-    names: &'a Names<'_>,
-    locals: &'a [Name],
-    token: &Token<'_>,
-    behind: &[Token<'_>],
-) -> &'a [Name]
-    ensures { result.now ≡ locals_at_of (view_names names.now) locals.now (view_token token.now) (view_tokens behind.now) }
-{
-    if is_word(token, b"include") && !begins_path(behind) {
-        &names.here
-    } else {
-        locals
-    }
-}
-
-/// Adds those behind the opening at a token, if there is one.
+/// Adds those behind the opening at a token, if it is one of a path from outside.
 fn add_uses<'a, 'b>(
     alloc: Global,
     found: &mut Vec<OpenedUse>,
@@ -218,16 +181,10 @@ fn add_uses<'a, 'b>(
     ensures { OnOk result (found.new.items ≡ found.old.items ++ uses_behind (view_meant meant.now) at (view_token token.now) (view_tokens behind.now) opening) }
 {
     match opening {
-        Some(opening) => {
-            let is_outside = opens_outside(meant.names, opening, token, behind);
-            let site = Site {
-                at,
-                opening,
-                is_outside,
-            };
-            add_uses_of(alloc, found, meant, site, token, behind)
+        Some(opening) if opens_outside(meant.names, meant.locals, opening, token, behind) => {
+            add_uses_of(alloc, found, meant, Site { at, opening }, token, behind)
         }
-        None => Ok(()),
+        Some(_) | None => Ok(()),
     }
 }
 
@@ -243,19 +200,21 @@ fn add_uses_of<'a, 'b>(
     requires { site.at.token + length behind.now ≤ max_file_bytes }
     ensures { OnOk result (found.new.items ≡ found.old.items ++ uses_of (view_meant meant.now) site (view_token token.now) (view_tokens behind.now)) }
 {
+    let mut inner = Vec::new(alloc);
     let mut seen = Vec::new(alloc);
     let mut depth = 0;
     let mut last = token;
     let mut number = site.at.token + 1 + skipped(site.opening, behind);
     let mut rest = behind_head(site.opening, behind);
     while let [token, behind @ ..] = rest {
-        if ends(meant.names, site.opening, depth, last, token, behind) {
+        if ends(meant, &inner, site.opening, depth, last, token, behind) {
             return Ok(());
         }
         let is_first = is_first(&seen, last, token);
         let is_use = is_first && is_meant(meant, token.bytes);
         push_use(alloc, found, site, number, token.bytes, is_use)?;
         push_seen(alloc, &mut seen, token.bytes, is_first)?;
+        push_declared(alloc, &mut inner, token, behind)?;
         depth = depth_behind(depth, token);
         last = token;
         number += 1;
@@ -279,17 +238,6 @@ fn is_first(seen: &[Name], last: &Token<'_>, token: &Token<'_>) -> bool
     is_head(last, token) && !is_among(seen, token.bytes)
 }
 
-/// Whether a name may mean a module of the project.
-fn is_meant(meant: &Meant<'_, '_>, name: &[u8]) -> bool
-    ensures { result ≡ is_meant_of (view_meant meant.now) name.now }
-{
-    let linked = meant.names.linked;
-    is_among(&linked.units, name)
-        || is_among(&linked.mixed, name)
-        || is_among(meant.locals, name)
-        || (meant.brought && is_among(&linked.nested, name))
-}
-
 /// Adds a use at a token of this number, if it is one.
 fn push_use(
     alloc: Global,
@@ -311,7 +259,6 @@ fn push_use(
             at,
             name,
             by: site.at,
-            is_outside: site.is_outside,
         })?;
     }
     Ok(())

@@ -15,10 +15,9 @@ pub(crate) enum Opening {
     Path,
 }
 
-/// Where and how a module is opened, and whether it surely is outside.
+/// Where and how a module is opened.
 #[derive(Clone, Copy)]
 pub(crate) struct Site {
     pub at: Place,
     pub opening: Opening,
-    pub is_outside: bool,
 }

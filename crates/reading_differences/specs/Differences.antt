@@ -36,7 +36,7 @@ late_if false lists us = []
 
 -- the use of a module behind an opening
 abbrev pub opened_use : OpenedUse → Difference
-opened_use u = record { at = u.at; how = Opened u.name u.by u.is_outside }
+opened_use u = record { at = u.at; how = Opened u.name u.by }
 
 -- of all kinds
 abbrev pub found_among : Bool → List SourceFile → List UnitTree → List (List Lexeme) → List Difference

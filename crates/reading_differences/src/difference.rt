@@ -16,21 +16,14 @@ pub enum Indexed {
 pub enum Parting {
     /// The form reads a module of the project.
     Indexing(Indexed),
-    /// The module of this name is used behind the opening of a module that may be outside, or surely is.
-    Opened {
-        name: Name,
-        by: Place,
-        is_outside: bool,
-    },
+    /// The module of this name is used behind the opening of a module from outside, at a place.
+    Opened { name: Name, by: Place },
     /// A functor is applied in a type, to a module of this name.
     Types(Name),
     /// The quote at this offset directly follows a name, in a comment or an attribute, and begins a character.
     Comment(u32),
     /// The unit of the place needs a unit that is linked behind it.
-    Order {
-        unit: Name,
-        needed: Name,
-    },
+    Order { unit: Name, needed: Name },
 }
 
 /// A place at which OCaml may read a project otherwise, and how.

@@ -89,7 +89,7 @@ fn add_listed(
     Ok(())
 }
 
-/// Adds the modules that are used behind the opening of a module that may be outside.
+/// Adds the modules that are used behind the opening of a module from outside.
 fn add_opened(
     alloc: Global,
     found: &mut Vec<Difference>,
@@ -113,7 +113,6 @@ fn opened_use(alloc: Global, used: &OpenedUse) -> Result<Difference, Memory>
     let how = Parting::Opened {
         name: Name::new(alloc, used.name.as_bytes())?,
         by: used.by,
-        is_outside: used.is_outside,
     };
     Ok(Difference { at: used.at, how })
 }
