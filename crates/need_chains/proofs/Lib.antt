@@ -1,2 +1,3 @@
-pub mod Marking
+pub mod Positions
+pub mod Nearest
 pub mod Leading

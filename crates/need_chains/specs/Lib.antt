@@ -1,4 +1,4 @@
-pub mod Marks
 pub mod Needs
 pub mod Chains
-pub mod Levels
+pub mod Distances
+pub mod Marks

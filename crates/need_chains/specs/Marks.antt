@@ -1,14 +1,9 @@
 -- Marks of sources (own).
-use Rattle.std.specs.Prelude.{List, [], ◌∷◌, Bool, false, ◌&&◌, ◌||◌}
+use Rattle.std.specs.Prelude.{ℕ, List, [], ◌∷◌, Bool, ◌&&◌, Option}
+use Rattle.need_chains.specs.Distances.{is_number}
 
--- the sources that are marked in both lists
-abbrev pub both_marked : List Bool → List Bool → List Bool
-both_marked [] others = []
-both_marked (mark ∷ marks) [] = []
-both_marked (mark ∷ marks) (other ∷ others) = (mark && other) ∷ both_marked marks others
-
--- a source is marked in both
-abbrev pub any_both : List Bool → List Bool → Bool
-any_both [] others = false
-any_both (mark ∷ marks) [] = false
-any_both (mark ∷ marks) (other ∷ others) = (mark && other) || any_both marks others
+-- the sources that are marked and have this number
+abbrev pub marked_at : ℕ → List Bool → List (Option ℕ) → List Bool
+marked_at n [] numbers = []
+marked_at n (mark ∷ marks) [] = []
+marked_at n (mark ∷ marks) (number ∷ numbers) = (mark && is_number n number) ∷ marked_at n marks numbers

@@ -1,47 +1,50 @@
 //! The units of a chain.
-ghost use Rattle.std.specs.Prelude.{◌≡◌, ◌++◌, ℕ, List, IfOk, None, OnOk, length, map};
+ghost use Rattle.std.specs.Prelude.{◌≡◌, ◌≤◌, ◌<◌, ◌++◌, ℕ, suc, false, List, IfOk, None, OnOk};
 ghost use Rattle.std.specs.Option.{option_copied};
-ghost use Rattle.need_chains.specs.Chains.{chain, first_marked as first_marked_of, next_marks};
-ghost use Rattle.need_chains.specs.Levels.{level_of, levels_of};
+ghost use Rattle.need_chains.specs.Chains.{chain, first_marked as first_marked_of, leads, next_marks};
+ghost use Rattle.need_chains.specs.Distances.{distances as distances_of};
 
-use crate::marks::{both_marked, first_marked};
+use crate::marks::{first_marked, marked_at};
 use crate::needs::need_marks;
 use crate::unit_heads::UnitHeads;
 use rotor_base::{Memory, Name};
 use std::alloc::Global;
 
-/// Adds the units of the chain from a unit to another, by the levels below its number of needs.
+/// Adds the units of the chain of this many needs from a unit to another, by the distances to that one. No chain of
+/// fewer needs but none leads from the unit to the other.
 pub(crate) fn push_chain(
     alloc: Global,
     names: &mut Vec<Name>,
     sources: &[UnitHeads],
-    levels: &[Vec<bool>],
+    distances: &[Option<usize>],
     unit: &[u8],
+    needs: usize,
 ) -> Result<(), Memory>
-    ensures { OnOk result ((to : List ℕ) → map (λ level. level.items) levels.now ≡ levels_of (length levels.now) sources.now to → names.new.items ≡ names.old.items ++ chain (length levels.now) sources.now to unit.now) }
+    ensures { OnOk result ((to : List ℕ) (n : ℕ) → needs ≤ n → distances.now ≡ distances_of n sources.now to → ((d : ℕ) → suc d < needs → leads (suc d) sources.now to unit.now ≡ false) → names.new.items ≡ names.old.items ++ chain needs sources.now to unit.now) }
 {
-    match levels {
-        [] => Ok(()),
-        [before @ .., level] => match next_unit(alloc, sources, level, unit)? {
-            Some(next) => {
-                names.push(Name::new(alloc, next)?)?;
-                push_chain(alloc, names, sources, before, next)
-            }
-            None => Ok(()),
-        },
+    if needs == 0 {
+        return Ok(());
+    }
+    match next_unit(alloc, sources, distances, unit, needs - 1)? {
+        Some(next) => {
+            names.push(Name::new(alloc, next)?)?;
+            push_chain(alloc, names, sources, distances, next, needs - 1)
+        }
+        None => Ok(()),
     }
 }
 
-/// The first in byte order of the units of a level that a unit needs.
+/// The first in byte order of the units at a distance that a unit needs.
 fn next_unit<'a>(
     alloc: Global,
     sources: &'a [UnitHeads],
-    level: &[bool],
+    distances: &[Option<usize>],
     unit: &[u8],
+    needs: usize,
 ) -> Result<Option<&'a [u8]>, Memory>
-    ensures { IfOk result (λ next. (n : ℕ) (to : List ℕ) → level.now ≡ level_of n sources.now to → option_copied next ≡ first_marked_of None sources.now (next_marks n sources.now to unit.now)) }
+    ensures { IfOk result (λ next. (to : List ℕ) (n : ℕ) → needs < n → distances.now ≡ distances_of n sources.now to → ((d : ℕ) → d < needs → leads (suc d) sources.now to unit.now ≡ false) → option_copied next ≡ first_marked_of None sources.now (next_marks needs sources.now to unit.now)) }
 {
     let marks = need_marks(alloc, sources, unit)?;
-    let both = both_marked(alloc, &marks, level)?;
+    let both = marked_at(alloc, &marks, distances, needs)?;
     Ok(first_marked(sources, &both))
 }

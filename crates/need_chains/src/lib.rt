@@ -2,7 +2,7 @@
 #![tactic(auto)]
 
 mod chain;
-mod levels;
+mod distances;
 mod marks;
 mod needs;
 mod search;

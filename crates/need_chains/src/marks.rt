@@ -2,51 +2,34 @@
 ghost use Rattle.std.specs.Prelude.{◌≡◌, IfOk, None};
 ghost use Rattle.std.specs.Option.{option_copied};
 ghost use Rattle.need_chains.specs.Chains.{first_marked as first_marked_of, mark_name as mark_name_of};
-ghost use Rattle.need_chains.specs.Marks.{any_both as any_both_of, both_marked as both_marked_of};
+ghost use Rattle.need_chains.specs.Marks.{marked_at as marked_at_of};
 
+use crate::distances::is_number;
 use crate::unit_heads::UnitHeads;
 use rotor_base::Memory;
 use std::alloc::Global;
 
-/// The sources that are marked in both lists.
-pub(crate) fn both_marked(
+/// The sources that are marked and at this distance.
+pub(crate) fn marked_at(
     alloc: Global,
     marks: &[bool],
-    others: &[bool],
+    distances: &[Option<usize>],
+    needs: usize,
 ) -> Result<Vec<bool>, Memory>
-    ensures { IfOk result (λ both. both.items ≡ both_marked_of marks.now others.now) }
+    ensures { IfOk result (λ both. both.items ≡ marked_at_of needs marks.now distances.now) }
 {
     let mut both = Vec::new(alloc);
-    let mut left = others;
+    let mut left = distances;
     for mark in marks {
         match left {
             [] => return Ok(both),
-            [other, rest @ ..] => {
-                both.push(*mark && *other)?;
+            [distance, rest @ ..] => {
+                both.push(*mark && is_number(*distance, needs))?;
                 left = rest;
             }
         }
     }
     Ok(both)
-}
-
-/// Whether a source is marked in both lists.
-pub(crate) fn any_both(marks: &[bool], others: &[bool]) -> bool
-    ensures { result ≡ any_both_of marks.now others.now }
-{
-    let mut left = others;
-    for mark in marks {
-        match left {
-            [] => return false,
-            [other, rest @ ..] => {
-                if *mark && *other {
-                    return true;
-                }
-                left = rest;
-            }
-        }
-    }
-    false
 }
 
 /// The first in byte order of the units of the sources that are marked.

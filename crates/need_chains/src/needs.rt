@@ -2,6 +2,7 @@
 ghost use Rattle.std.specs.Prelude.{◌≡◌, ◌++◌, ◌∷◌, [], IfOk, OnOk, map};
 ghost use Rattle.std.specs.List.{list_any};
 ghost use Rattle.std.specs.Str.{bytes_eq};
+ghost use Rattle.need_chains.specs.Distances.{positions_from};
 ghost use Rattle.need_chains.specs.Needs.{heads_in as heads_in_of, needs};
 
 use crate::unit_heads::UnitHeads;
@@ -81,4 +82,40 @@ fn push_heads<'a>(heads: &mut Vec<&'a [u8]>, more: &'a [Name]) -> Result<(), Mem
         heads.push(head.as_bytes())?;
     }
     Ok(())
+}
+
+/// The positions of the sources whose units a unit needs.
+pub(crate) fn need_positions(
+    alloc: Global,
+    sources: &[UnitHeads],
+    unit: &[u8],
+) -> Result<Vec<usize>, Memory>
+    ensures { IfOk result (λ row. row.items ≡ positions_from 0 (map (λ s. needs sources.now unit.now s.unit) sources.now)) }
+{
+    let marks = need_marks(alloc, sources, unit)?;
+    positions_in(alloc, &marks)
+}
+
+/// The positions that are marked.
+fn positions_in(alloc: Global, marks: &[bool]) -> Result<Vec<usize>, Memory>
+    ensures { IfOk result (λ row. row.items ≡ positions_from 0 marks.now) }
+{
+    let mut row = Vec::new(alloc);
+    for at in 0..marks.len() {
+        if marks[at] {
+            row.push(at)?;
+        }
+    }
+    Ok(row)
+}
+
+/// Of each source, the positions of those whose units its unit needs.
+pub(crate) fn need_table(alloc: Global, sources: &[UnitHeads]) -> Result<Vec<Vec<usize>>, Memory>
+    ensures { IfOk result (λ table. map (λ row. row.items) table.items ≡ map (λ u. positions_from 0 (map (λ s. needs sources.now u.unit s.unit) sources.now)) sources.now) }
+{
+    let mut table = Vec::new(alloc);
+    for source in sources {
+        table.push(need_positions(alloc, sources, source.unit.as_bytes())?)?;
+    }
+    Ok(table)
 }

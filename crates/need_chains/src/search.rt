@@ -1,12 +1,10 @@
 //! The shortest chain from a unit back to it.
-ghost use Rattle.std.specs.Prelude.{IfNone, IfOk, IfSome, map};
+ghost use Rattle.std.specs.Prelude.{IfNone, IfOk, IfSome};
 ghost use Rattle.need_chains.specs.Chains.{HasNoCircle, IsCircle};
-ghost use Rattle.need_chains.specs.Levels.{AreLevels};
 
 use crate::chain::push_chain;
-use crate::levels::{meeting_rows, need_table, unit_marks};
-use crate::marks::any_both;
-use crate::needs::need_marks;
+use crate::distances::{any_at, first_distances, more_distances};
+use crate::needs::{need_positions, need_table};
 use crate::unit_heads::UnitHeads;
 use rotor_base::{Memory, Name, Row};
 use std::alloc::Global;
@@ -21,37 +19,16 @@ pub fn circle(
     ensures found { IfOk result (λ found. IfSome found (IsCircle sources.now unit.now)) }
     ensures none { IfOk result (λ found. IfNone found (HasNoCircle sources.now unit.now)) }
 {
-    match circle_levels(alloc, sources, unit)? {
-        Some(levels) => {
-            let mut names = Vec::new(alloc);
-            push_chain(alloc, &mut names, sources, &levels, unit)?;
-            Ok(Some(Row::from_vec(names)))
-        }
-        None => Ok(None),
-    }
-}
-
-/// The levels of a shortest chain from a unit back to it.
-fn circle_levels(
-    alloc: Global,
-    sources: &[UnitHeads],
-    unit: &[u8],
-) -> Result<Option<Vec<Vec<bool>>>, Memory>
-    ensures found { IfOk result (λ found. IfSome found (λ levels. AreLevels sources.now unit.now (map (λ level. level.items) levels.items))) }
-    ensures none { IfOk result (λ found. IfNone found (HasNoCircle sources.now unit.now)) }
-{
     let table = need_table(alloc, sources)?;
-    let needed = need_marks(alloc, sources, unit)?;
-    let mut levels = Vec::new(alloc);
-    let mut level = unit_marks(alloc, sources, unit)?;
-    for _between in 0..sources.len() {
-        let leads_back = any_both(&needed, &level);
-        let next = meeting_rows(alloc, &table, &level)?;
-        levels.push(level)?;
-        if leads_back {
-            return Ok(Some(levels));
+    let needed = need_positions(alloc, sources, unit)?;
+    let mut distances = first_distances(alloc, sources, unit)?;
+    for between in 0..sources.len() {
+        if any_at(&needed, &distances, between) {
+            let mut names = Vec::new(alloc);
+            push_chain(alloc, &mut names, sources, &distances, unit, between + 1)?;
+            return Ok(Some(Row::from_vec(names)));
         }
-        level = next;
+        distances = more_distances(alloc, &table, &distances, between)?;
     }
     Ok(None)
 }

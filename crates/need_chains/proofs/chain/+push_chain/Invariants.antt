@@ -1,5 +1,4 @@
-use Rattle.std.proofs.Common.{length}
 use Rattle.need_chains.proofs.chain.+push_chain.Given as goal
 
 abbrev pub decreases-push_chain : goal.decreases-push_chain
-decreases-push_chain l = length l.levels.now
+decreases-push_chain l = l.needs
