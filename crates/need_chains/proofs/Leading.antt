@@ -100,5 +100,5 @@ pub next_far : (n : ℕ) (sources : List UnitHeads) (to unit name : List ℕ) �
     → first_marked None sources (next_marks n sources to unit) ≡ Some name → (d : ℕ) → suc d < n → leads (suc d) sources to name ≡ false
 unfolding leads
 next_far n sources to unit name none e d lt =
-    first_false (λ (s : UnitHeads). needs sources unit s.unit) (λ (s : UnitHeads). leads n sources to s.unit) (λ (u : List ℕ). leads (suc d) sources to u)
-    sources None name (λ b none_is. absurd cc) (none (suc d) lt) e
+    first_false (λ (s : UnitHeads). needs sources unit s.unit) (λ (s : UnitHeads). leads n sources to s.unit)
+    (λ (u : List ℕ). leads (suc d) sources to u) sources None name (λ b none_is. absurd cc) (none (suc d) lt) e

@@ -1,3 +1,4 @@
 pub mod Positions
 pub mod Nearest
 pub mod Leading
+pub mod Rowing

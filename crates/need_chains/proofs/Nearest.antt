@@ -1,13 +1,13 @@
 -- The fewest needs from units to another.
 use borrow.Author.Count.{below_more}
 use Rattle.std.proofs.lemmas.Bool.{eq-eqb, eqb-true, true≢false}
-use Rattle.std.proofs.Common.{◌≡◌, ◌<◌, ℕ, ◌+◌, ◌-◌, zero, suc, List, [], ◌∷◌, ◌++◌, Bool, true, false, ◌&&◌, ◌||◌, Option, Some, None, cond, get_or, length, map, nat_eq, refl, ap, sym, ◌∙◌, arith}
-use Rattle.std.proofs.lemmas.List.{append_assoc, length-append}
+use Rattle.std.proofs.Common.{◌≡◌, ◌<◌, ℕ, ◌+◌, ◌-◌, zero, suc, List, [], ◌∷◌, Bool, true, false, ◌&&◌, ◌||◌, Option, Some, None, cond, map, nat_eq, refl, ap, sym, ◌∙◌, arith}
 use Rattle.std.specs.List.{list_any}
 use Rattle.need_chains.specs.Chains.{leads, next_marks}
-use Rattle.need_chains.specs.Distances.{any_at, distance, distances, farther, farther_one, is_number, least, least_or, positions_from}
+use Rattle.need_chains.specs.Distances.{any_at, distance, distances, farther, farther_one, is_number, least, least_or}
 use Rattle.need_chains.specs.Marks.{marked_at}
 use Rattle.need_chains.specs.Needs.{needs}
+use Rattle.need_chains.specs.Rows.{AreRows}
 use Rattle.need_chains.specs.declared.unit_heads.UnitHeads.{UnitHeads}
 
 -- ---- the least number
@@ -95,45 +95,23 @@ marks_least need holds n m (x ∷ xs) lt h =
     ap (λ (b : Bool). b ∷ marked_at n (map need xs) (map (λ y. least (λ d. holds d y) m) xs)) one
     ∙ ap (λ (bs : List Bool). (need x && holds n x) ∷ bs) rest
 
--- ---- by positions
-
-get_here : {A : Type 0} (front rest : List A) (x d : A) → get_or (front ++ x ∷ rest) (length front) d ≡ x
-get_here [] rest x d = refl
-get_here (y ∷ front) rest x d = get_here front rest x d
-
-any_one : (n : ℕ) (numbers : List (Option ℕ)) (at : ℕ) (row : List ℕ) (needed here more : Bool)
-    → is_number n (get_or numbers at None) ≡ here → any_at n numbers row ≡ more
-    → any_at n numbers (cond needed (at ∷ row) row) ≡ ((needed && here) || more)
-any_one n numbers at row true here more is rest = ap (λ (b : Bool). b || any_at n numbers row) is ∙ ap (λ (b : Bool). here || b) rest
-any_one n numbers at row false here more is rest = rest
-
-any_behind : {A : Type 0} (n : ℕ) (need : A → Bool) (number : A → Option ℕ) (front : List (Option ℕ)) (xs : List A) (at : ℕ) → at ≡ length front
-    → any_at n (front ++ map number xs) (positions_from at (map need xs)) ≡ list_any (λ x. need x && is_number n (number x)) xs
-any_behind n need number front [] at e = refl
-any_behind n need number front (x ∷ xs) at e =
-    let all = front ++ number x ∷ map number xs in
-    let longer = length-append front (number x ∷ []) in
-    any_one n all at (positions_from (at + 1) (map need xs)) (need x) (is_number n (number x)) (list_any (λ y. need y && is_number n (number y)) xs)
-    (ap (λ (i : ℕ). is_number n (get_or all i None)) e ∙ ap (is_number n) (get_here front (map number xs) (number x) None))
-    (ap (λ (l : List (Option ℕ)). any_at n l (positions_from (at + 1) (map need xs))) (sym (append_assoc front (number x ∷ []) (map number xs)))
-    ∙ any_behind n need number (front ++ number x ∷ []) xs (at + 1) (omega (arith, e, longer)))
+-- ---- by rows
 
 -- a need leads to a unit that is this far from another, if no fewer needs lead there
-pub near : (n m : ℕ) (sources : List UnitHeads) (to unit : List ℕ) → n < m → ((d : ℕ) → d < n → leads (suc d) sources to unit ≡ false)
-    → any_at n (distances m sources to) (positions_from 0 (map (λ s. needs sources unit s.unit) sources)) ≡ leads (suc n) sources to unit
+pub near : (n m : ℕ) (sources : List UnitHeads) (row : List ℕ → List ℕ) (to unit : List ℕ) → AreRows sources row → n < m
+    → ((d : ℕ) → d < n → leads (suc d) sources to unit ≡ false) → any_at n (distances m sources to) (row unit) ≡ leads (suc n) sources to unit
 unfolding leads
-near n m sources to unit lt h =
-    any_behind n (λ (s : UnitHeads). needs sources unit s.unit) (λ (s : UnitHeads). distance m sources to s.unit) [] sources 0 refl
+near n m sources row to unit rows lt h =
+    rows unit n (λ x. distance m sources to x)
     ∙ any_least (λ (s : UnitHeads). needs sources unit s.unit) (λ (d : ℕ) (s : UnitHeads). leads d sources to s.unit) n m sources lt h
 
 -- whether one need more leads back
-pub back_at : (n : ℕ) (sources : List UnitHeads) (unit row : List ℕ) (numbers : List (Option ℕ)) (back : Bool)
-    → row ≡ positions_from 0 (map (λ s. needs sources unit s.unit) sources) → numbers ≡ distances (suc n) sources unit
-    → back ≡ any_at n numbers row → ((d : ℕ) → d < n → leads (suc d) sources unit unit ≡ false) → leads (suc n) sources unit unit ≡ back
-back_at n sources unit row numbers back row_is are is none =
-    sym (is ∙ ap (any_at n numbers) row_is
-    ∙ ap (λ (l : List (Option ℕ)). any_at n l (positions_from 0 (map (λ (s : UnitHeads). needs sources unit s.unit) sources))) are
-    ∙ near n (suc n) sources unit unit (omega arith) none)
+pub back_at : (n : ℕ) (sources : List UnitHeads) (row : List ℕ → List ℕ) (unit own : List ℕ) (numbers : List (Option ℕ)) (back : Bool)
+    → AreRows sources row → own ≡ row unit → numbers ≡ distances (suc n) sources unit → back ≡ any_at n numbers own
+    → ((d : ℕ) → d < n → leads (suc d) sources unit unit ≡ false) → leads (suc n) sources unit unit ≡ back
+back_at n sources row unit own numbers back rows own_is are is none =
+    sym (is ∙ ap (any_at n numbers) own_is ∙ ap (λ (l : List (Option ℕ)). any_at n l (row unit)) are
+    ∙ near n (suc n) sources row unit unit rows (omega arith) none)
 
 pub next_near : (n m : ℕ) (sources : List UnitHeads) (to unit : List ℕ) → n < m → ((d : ℕ) → d < n → leads (suc d) sources to unit ≡ false)
     → marked_at n (map (λ s. needs sources unit s.unit) sources) (distances m sources to) ≡ next_marks n sources to unit
@@ -157,14 +135,13 @@ farther_by n numbers row None b h =
     let up : n + 1 ≡ suc n = omega arith in
     ap (λ (a : Bool). cond a (Some (n + 1)) None) (h refl) ∙ ap (λ (i : ℕ). cond b (Some i) None) up
 
-pub distances_more : (n : ℕ) (sources : List UnitHeads) (to : List ℕ)
-    → farther n (distances (suc n) sources to) (map (λ u. positions_from 0 (map (λ s. needs sources u.unit s.unit) sources)) sources)
-    (distances (suc n) sources to) ≡ distances (suc (suc n)) sources to
-distances_more n sources to =
+pub distances_more : (n : ℕ) (sources : List UnitHeads) (row : List ℕ → List ℕ) (to : List ℕ) → AreRows sources row
+    → farther n (distances (suc n) sources to) (map (λ u. row u.unit) sources) (distances (suc n) sources to) ≡ distances (suc (suc n)) sources to
+distances_more n sources row to rows =
     let all = distances (suc n) sources to in
-    farther_all n all (λ (u : UnitHeads). positions_from 0 (map (λ (s : UnitHeads). needs sources u.unit s.unit) sources))
-    (λ (u : UnitHeads). distance (suc n) sources to u.unit) (λ (u : UnitHeads). distance (suc (suc n)) sources to u.unit) sources (λ u.
-    farther_by n all (positions_from 0 (map (λ (s : UnitHeads). needs sources u.unit s.unit) sources)) (distance (suc n) sources to u.unit)
+    farther_all n all (λ (u : UnitHeads). row u.unit) (λ (u : UnitHeads). distance (suc n) sources to u.unit)
+    (λ (u : UnitHeads). distance (suc (suc n)) sources to u.unit) sources (λ u.
+    farther_by n all (row u.unit) (distance (suc n) sources to u.unit)
     (leads (suc n) sources to u.unit) (λ none.
-    near n (suc n) sources to u.unit (omega arith) (λ d lt.
+    near n (suc n) sources row to u.unit rows (omega arith) (λ d lt.
     none_before (λ (i : ℕ). leads i sources to u.unit) (suc n) none (suc d) (omega (arith, lt)))))

@@ -1,5 +1,5 @@
 -- The fewest needs that lead from units to another (own).
-use Rattle.std.specs.Prelude.{◌≡◌, ◌+◌, ℕ, zero, suc, List, [], ◌∷◌, Bool, true, false, ◌&&◌, Option, Some, None, cond, get_or, map, nat_eq}
+use Rattle.std.specs.Prelude.{◌+◌, ℕ, zero, suc, List, [], ◌∷◌, Bool, false, Option, Some, None, cond, get_or, map, nat_eq}
 use Rattle.std.specs.List.{list_any}
 use Rattle.need_chains.specs.Chains.{leads}
 use Rattle.need_chains.specs.declared.unit_heads.UnitHeads.{UnitHeads}
@@ -25,11 +25,6 @@ distance n sources to unit = least (λ d. leads d sources to unit) n
 -- the same of the unit of each source
 abbrev pub distances : ℕ → List UnitHeads → List ℕ → List (Option ℕ)
 distances n sources to = map (λ s. distance n sources to s.unit) sources
-
--- the positions at which a row says so, counted from one on
-abbrev pub positions_from : ℕ → List Bool → List ℕ
-positions_from at [] = []
-positions_from at (needed ∷ row) = cond needed (at ∷ positions_from (at + 1) row) (positions_from (at + 1) row)
 
 -- one of these positions has this number
 abbrev pub any_at : ℕ → List (Option ℕ) → List ℕ → Bool

@@ -4,8 +4,8 @@ ghost use Rattle.std.specs.Option.{option_copied};
 ghost use Rattle.need_chains.specs.Chains.{chain, first_marked as first_marked_of, leads, next_marks};
 ghost use Rattle.need_chains.specs.Distances.{distances as distances_of};
 
-use crate::marks::{first_marked, marked_at};
-use crate::needs::need_marks;
+use crate::marks::first_marked;
+use crate::needs::needed_at;
 use crate::unit_heads::UnitHeads;
 use rotor_base::{Memory, Name};
 use std::alloc::Global;
@@ -44,7 +44,6 @@ fn next_unit<'a>(
 ) -> Result<Option<&'a [u8]>, Memory>
     ensures { IfOk result (λ next. (to : List ℕ) (n : ℕ) → needs < n → distances.now ≡ distances_of n sources.now to → ((d : ℕ) → d < needs → leads (suc d) sources.now to unit.now ≡ false) → option_copied next ≡ first_marked_of None sources.now (next_marks needs sources.now to unit.now)) }
 {
-    let marks = need_marks(alloc, sources, unit)?;
-    let both = marked_at(alloc, &marks, distances, needs)?;
-    Ok(first_marked(sources, &both))
+    let marks = needed_at(alloc, sources, distances, unit, needs)?;
+    Ok(first_marked(sources, &marks))
 }

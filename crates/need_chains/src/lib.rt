@@ -5,6 +5,7 @@ mod chain;
 mod distances;
 mod marks;
 mod needs;
+mod rows;
 mod search;
 mod unit_heads;
 

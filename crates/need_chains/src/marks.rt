@@ -1,36 +1,9 @@
 //! Marks of sources.
-ghost use Rattle.std.specs.Prelude.{◌≡◌, IfOk, None};
+ghost use Rattle.std.specs.Prelude.{◌≡◌, None};
 ghost use Rattle.std.specs.Option.{option_copied};
 ghost use Rattle.need_chains.specs.Chains.{first_marked as first_marked_of, mark_name as mark_name_of};
-ghost use Rattle.need_chains.specs.Marks.{marked_at as marked_at_of};
 
-use crate::distances::is_number;
 use crate::unit_heads::UnitHeads;
-use rotor_base::Memory;
-use std::alloc::Global;
-
-/// The sources that are marked and at this distance.
-pub(crate) fn marked_at(
-    alloc: Global,
-    marks: &[bool],
-    distances: &[Option<usize>],
-    needs: usize,
-) -> Result<Vec<bool>, Memory>
-    ensures { IfOk result (λ both. both.items ≡ marked_at_of needs marks.now distances.now) }
-{
-    let mut both = Vec::new(alloc);
-    let mut left = distances;
-    for mark in marks {
-        match left {
-            [] => return Ok(both),
-            [distance, rest @ ..] => {
-                both.push(*mark && is_number(*distance, needs))?;
-                left = rest;
-            }
-        }
-    }
-    Ok(both)
-}
 
 /// The first in byte order of the units of the sources that are marked.
 pub(crate) fn first_marked<'a>(sources: &'a [UnitHeads], marks: &[bool]) -> Option<&'a [u8]>

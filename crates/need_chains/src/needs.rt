@@ -2,25 +2,36 @@
 ghost use Rattle.std.specs.Prelude.{◌≡◌, ◌++◌, ◌∷◌, [], IfOk, OnOk, map};
 ghost use Rattle.std.specs.List.{list_any};
 ghost use Rattle.std.specs.Str.{bytes_eq};
-ghost use Rattle.need_chains.specs.Distances.{positions_from};
-ghost use Rattle.need_chains.specs.Needs.{heads_in as heads_in_of, needs};
+ghost use Rattle.need_chains.specs.Marks.{marked_at};
+ghost use Rattle.need_chains.specs.Needs.{heads_in as heads_in_of, needs as needed_of};
 
+use crate::distances::is_number;
 use crate::unit_heads::UnitHeads;
 use rotor_base::{Memory, Name};
 use std::alloc::Global;
 
-/// Of each source, whether a unit needs its unit.
-pub(crate) fn need_marks(
+/// Of each source, whether it is at this distance and a unit needs its unit.
+pub(crate) fn needed_at(
     alloc: Global,
     sources: &[UnitHeads],
+    distances: &[Option<usize>],
     unit: &[u8],
+    needs: usize,
 ) -> Result<Vec<bool>, Memory>
-    ensures { IfOk result (λ marks. marks.items ≡ map (λ s. needs sources.now unit.now s.unit) sources.now) }
+    ensures { IfOk result (λ marks. marks.items ≡ marked_at needs (map (λ s. needed_of sources.now unit.now s.unit) sources.now) distances.now) }
 {
     let heads = heads_in(alloc, sources, unit)?;
     let mut marks = Vec::new(alloc);
+    let mut left = distances;
     for source in sources {
-        marks.push(is_needed(&heads, sources, unit, source.unit.as_bytes()))?;
+        match left {
+            [] => return Ok(marks),
+            [distance, rest @ ..] => {
+                let other = source.unit.as_bytes();
+                marks.push(is_number(*distance, needs) && is_needed(&heads, sources, unit, other))?;
+                left = rest;
+            }
+        }
     }
     Ok(marks)
 }
@@ -28,7 +39,7 @@ pub(crate) fn need_marks(
 /// Whether a unit of these heads needs another.
 fn is_needed(heads: &[&[u8]], _sources: &[UnitHeads], unit: &[u8], other: &[u8]) -> bool
     requires { map (λ head. head.now) heads.now ≡ heads_in_of _sources.now unit.now }
-    ensures { result ≡ needs _sources.now unit.now other.now }
+    ensures { result ≡ needed_of _sources.now unit.now other.now }
 {
     is_among(heads, other) && other != unit
 }
@@ -82,40 +93,4 @@ fn push_heads<'a>(heads: &mut Vec<&'a [u8]>, more: &'a [Name]) -> Result<(), Mem
         heads.push(head.as_bytes())?;
     }
     Ok(())
-}
-
-/// The positions of the sources whose units a unit needs.
-pub(crate) fn need_positions(
-    alloc: Global,
-    sources: &[UnitHeads],
-    unit: &[u8],
-) -> Result<Vec<usize>, Memory>
-    ensures { IfOk result (λ row. row.items ≡ positions_from 0 (map (λ s. needs sources.now unit.now s.unit) sources.now)) }
-{
-    let marks = need_marks(alloc, sources, unit)?;
-    positions_in(alloc, &marks)
-}
-
-/// The positions that are marked.
-fn positions_in(alloc: Global, marks: &[bool]) -> Result<Vec<usize>, Memory>
-    ensures { IfOk result (λ row. row.items ≡ positions_from 0 marks.now) }
-{
-    let mut row = Vec::new(alloc);
-    for at in 0..marks.len() {
-        if marks[at] {
-            row.push(at)?;
-        }
-    }
-    Ok(row)
-}
-
-/// Of each source, the positions of those whose units its unit needs.
-pub(crate) fn need_table(alloc: Global, sources: &[UnitHeads]) -> Result<Vec<Vec<usize>>, Memory>
-    ensures { IfOk result (λ table. map (λ row. row.items) table.items ≡ map (λ u. positions_from 0 (map (λ s. needs sources.now u.unit s.unit) sources.now)) sources.now) }
-{
-    let mut table = Vec::new(alloc);
-    for source in sources {
-        table.push(need_positions(alloc, sources, source.unit.as_bytes())?)?;
-    }
-    Ok(table)
 }

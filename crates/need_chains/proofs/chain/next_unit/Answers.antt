@@ -14,7 +14,6 @@ returns c =
     let k = c.args.needs in
     c.first_marked.ensures
     ∙ ap (λ (l : List Bool). first_marked None sources l)
-    (c.deref-2.ensures.value ∙ c.in_ok-both.ensures
-    ∙ ap (λ (l : List Bool). marked_at k l c.args.distances.now) (c.deref.ensures.value ∙ c.in_ok-marks.ensures)
+    (c.deref.ensures.value ∙ c.in_ok-marks.ensures
     ∙ ap (λ (l : List (Option ℕ)). marked_at k (map (λ (s : UnitHeads). needs sources unit s.unit) sources) l) are
     ∙ next_near k n sources to unit lt none)

@@ -8,5 +8,6 @@ returns-in-empty c =
     let out = λ (row : Vec ℕ Global). row.items in
     sym (append-nil c.loop-row.more.items)
     ∙ ap (λ (l : List (Option ℕ)). c.loop-row.more.items ++ l)
-    (sym (farther_none c.args.needs c.args.distances.now (map out (drop c.loop-row.row-index c.args.table.now)) c.loop-row.left.now c.in-empty.len_below))
+    (sym (farther_none c.args.needs c.args.distances.now (map out (drop c.loop-row.row-index c.args.table.now)) c.loop-row.left.now
+    c.in-empty.len_below))
     ∙ c.loop-row.invariant
