@@ -1,0 +1,197 @@
+-- Items with bindings, and the expressions that begin with their words.
+use Rattle.std.proofs.Common.{◌≡◌, ℕ, zero, suc, ◌≤◌, List, [], ◌∷◌, length, Bool, true, false, Some, refl, sym, ap, subst, ◌∙◌, arith}
+use Rattle.ml_trees.specs.declared.fixed.Fixed.{Fixed}
+use Rattle.ml_trees.specs.declared.fixed.Fixed.TheVariants as key
+use Rattle.ml_trees.specs.Tok.{Tok, fixed, placed, word}
+use Rattle.ml_trees.specs.Words.{optional_then, expr_then, binding_then, bindings_then}
+use Rattle.ml_trees.specs.WellFormed.{WfBinding, WfBindings}
+use Rattle.ml_trees.specs.Tree.{Expr, Binding, Bindings}
+use Rattle.parse_base.specs.Steps.{expect}
+use Rattle.parse_base.proofs.Stepping.{some_is, from_some, bind_ok, expect_ok}
+use Rattle.parse_base.proofs.Reach.{Reach, exact, farther, stop}
+use Rattle.parse_base.proofs.LongerPat.{begins_pat, Opens, optional_longer}
+use Rattle.expr_reading.specs.declared.wanted.Wanted.TheVariants as wanted
+use Rattle.expr_reading.specs.ExprReading.{bindings, let_values, let_expr, unary, tier, expr, seq, read_expr}
+use Rattle.expr_reading.proofs.AppendExpr.{expr_front}
+use Rattle.expr_reading.proofs.FirstWord.{begins_expr, Begins, expr_begins}
+use Rattle.expr_reading.proofs.FoundExpr.{expr_reads}
+use Rattle.expr_reading.proofs.GoesExpr.{Holds, Begun, Headed, Goes, clash, by_level, by_form, by_if, by_else, by_bar, by_more}
+use Rattle.expr_reading.proofs.LawsExpr.{expr_longest}
+use Rattle.expr_reading.proofs.LongerExpr.{expr_more}
+use Rattle.expr_reading.proofs.ReachExpr.{expr_reach, binding_good, bindings_good}
+use Rattle.expr_reading.proofs.ReachForms.{bindings_reach, binding_opens, last_value}
+use Rattle.parse_module.specs.ModReading.{some_bindings, value_rest}
+use Rattle.parse_module.proofs.ReachMod.{starts_item, ItemStart, Follow}
+use Rattle.longest_items.proofs.Passing.{Passes, passes, start_stops}
+
+-- ---- first words
+
+pub begins_not : (t : Tok) (ts : List Tok) → begins_expr t ≡ false → Begins (t ∷ ts) → ⊥
+begins_not t ts un b = clash (subst (λ u. begins_expr u ≡ true) (sym (head_is t b.first ts b.rest b.is)) b.begins) un
+  where
+    head_is : (t u : Tok) (ts us : List Tok) → t ∷ ts ≡ u ∷ us → t ≡ u
+    head_is t u ts us e = cc
+
+pub read_begins : (f : ℕ) (ts : List Tok) (x : Expr × List Tok) → read_expr f wanted.Sequence ts ≡ Some x → Begins ts
+read_begins f ts x e = let v = expr_reads f wanted.Sequence ts x e in subst Begins (sym v.words) (expr_begins x.0 x.1 v.wf)
+
+pub begun_begins : (ts : List Tok) → Begun ts → Begins ts
+begun_begins ts g = subst Begins (sym g.words) (expr_begins g.tree g.rest g.wf)
+
+-- ---- what follows an item goes on with no expression
+
+holds_not : (n : ℕ) (r : List Tok) → ItemStart r → Holds n r → ⊥
+holds_not n [] s h = h
+holds_not n (t ∷ r) s h = omega (arith, h, (start_stops t s).loose)
+
+headed_not : (k : Fixed) (r : List Tok) → starts_item (fixed k) ≡ false → ItemStart r → Headed k r → ⊥
+headed_not k r un s h = let q : ItemStart (fixed k ∷ h.0) = subst ItemStart h.1 s in clash q un
+
+pub goes_not : (n : ℕ) (e : Expr) (r : List Tok) → Follow r → Goes n e r → ⊥
+goes_not n e r s (by_level h) = holds_not n r s.start h
+goes_not n e r s (by_form p h) = holds_not 0 r s.start h
+goes_not n e r s (by_if p h) = holds_not 1 r s.start h
+goes_not n e r s (by_else p h) = headed_not key.Else r refl s.start h
+goes_not n e r s (by_bar p h) = headed_not key.Bar r refl s.start h
+goes_not n e r s (by_more p q b) = s.none b
+
+-- ---- bindings
+
+pub bindings_exact : (f : ℕ) (b : Binding) (bs : Bindings) (r : List Tok) → WfBinding b → WfBindings bs → Follow r
+    → length (binding_then b (bindings_then bs r)) ≤ f → bindings (read_expr f) f (binding_then b (bindings_then bs r)) ≡ Some ((b, bs), r)
+bindings_exact f b bs r w ws s len =
+    stop (λ h. h) (bindings_reach f ⊥ r (λ h. headed_not key.And r refl s.start h) b bs (binding_good b) (bindings_good bs) w ws
+    (λ h. goes_not 0 (last_value b bs) r s h) len)
+
+pub bindings_pass : (f : ℕ) (b : Binding) (bs : Bindings) (r : List Tok) → WfBinding b → WfBindings bs
+    → length (binding_then b (bindings_then bs r)) ≤ f → Passes r (bindings (read_expr f) f (binding_then b (bindings_then bs r)))
+bindings_pass f b bs r w ws len =
+    passes (omega arith) (bindings_reach f (Unit {0}) r (λ h. tt) b bs (binding_good b) (bindings_good bs) w ws (λ h. tt) len)
+
+module _ (f at : ℕ) where
+  let_opens : (ts : List Tok) → Opens ts → let_expr (read_expr f) f at ts ≡ let_values (read_expr f) f at false ts
+  unfolding let_expr
+  let_opens ts o = subst (λ k. let_expr (read_expr f) f at k ≡ let_values (read_expr f) f at false k) (sym o.is) (by o.first o.rest o.begins)
+    where
+      by : (t : Tok) (rest : List Tok) → begins_pat t ≡ true → let_expr (read_expr f) f at (t ∷ rest) ≡ let_values (read_expr f) f at false (t ∷ rest)
+      by (fixed x) rest b = absurd cc
+      by (placed key.Open at') rest b = absurd cc
+      by (placed key.Module at') rest b = absurd cc
+      by (placed _ at') rest b = refl
+      by (word c x) rest b = refl
+
+  value_opens : (ts : List Tok) → Opens ts → value_rest f at ts ≡ some_bindings f false at ts
+  unfolding value_rest
+  value_opens ts o = subst (λ k. value_rest f at k ≡ some_bindings f false at k) (sym o.is) (by o.first o.rest o.begins)
+    where
+      by : (t : Tok) (rest : List Tok) → begins_pat t ≡ true → value_rest f at (t ∷ rest) ≡ some_bindings f false at (t ∷ rest)
+      by (fixed x) rest b = absurd cc
+      by (placed x at') rest b = refl
+      by (word c x) rest b = refl
+
+  -- the words of bindings behind an optional `rec`, after a `let`
+  let_bound : (recursive : Bool) (b : Binding) (k : List Tok) → WfBinding b
+      → let_expr (read_expr f) f at (optional_then key.Rec recursive (binding_then b k))
+      ≡ let_values (read_expr f) f at recursive (binding_then b k)
+  unfolding let_expr
+  let_bound true b k w = refl
+  let_bound false b k w = let_opens (binding_then b k) (binding_opens b k w)
+
+  pub value_bound : (recursive : Bool) (b : Binding) (k : List Tok) → WfBinding b
+      → value_rest f at (optional_then key.Rec recursive (binding_then b k)) ≡ some_bindings f recursive at (binding_then b k)
+  unfolding value_rest
+  value_bound true b k w = refl
+  value_bound false b k w = value_opens (binding_then b k) (binding_opens b k w)
+
+-- ---- an expression that begins with `let`
+
+tier_unary : (f d : ℕ) (ts : List Tok) (x : Expr × List Tok) → tier (read_expr f) f d ts ≡ Some x
+    → (y : Expr × List Tok) × (unary (read_expr f) f ts ≡ Some y)
+unfolding tier
+tier_unary f zero ts x e = (x, e)
+tier_unary f (suc d) ts x e = let a = bind_ok (tier (read_expr f) f d ts) _ x e in tier_unary f d ts a.0 a.1
+
+seq_unary : (f : ℕ) (ts : List Tok) (x : Expr × List Tok) → read_expr (suc f) wanted.Sequence ts ≡ Some x
+    → (y : Expr × List Tok) × (unary (read_expr f) f ts ≡ Some y)
+unfolding read_expr seq
+seq_unary f ts x e = let a = bind_ok (expr (read_expr f) f ts) _ x e in tier_unary f 10 ts a.0 a.1
+
+operand_is : (f : ℕ) (ts : List Tok) → read_expr (suc f) wanted.Operand ts ≡ unary (read_expr f) f ts
+unfolding read_expr
+operand_is f ts = refl
+
+unary_let : (f at : ℕ) (ts : List Tok) → unary (read_expr f) f (placed key.Let at ∷ ts) ≡ let_expr (read_expr f) f at ts
+unfolding unary
+unary_let f at ts = refl
+
+-- bindings and an `in` are read, and an expression behind it
+record GoesIn (f : ℕ) (ts : List Tok) (y : Expr × List Tok) : Type 0 where
+  found : (Binding × Bindings) × List Tok
+  body : List Tok
+  are : bindings (read_expr f) f ts ≡ Some found
+  inside : found.1 ≡ fixed key.In ∷ body
+  behind : length y.1 ≤ length body
+
+values_in : (f at : ℕ) (recursive : Bool) (ts : List Tok) (y : Expr × List Tok) → let_values (read_expr f) f at recursive ts ≡ Some y → GoesIn f ts y
+unfolding let_values
+values_in f at recursive ts y e =
+    let b = bind_ok (bindings (read_expr f) f ts) _ y e in
+    let r = bind_ok (expect key.In b.0.1) _ y b.2 in
+    let v = bind_ok (read_expr f wanted.Sequence r.0) _ y r.2 in
+    let inner = (expr_reads f wanted.Sequence r.0 v.0 v.1).words in
+    record {
+      found = b.0;
+      body = r.0;
+      are = b.1;
+      inside = expect_ok key.In b.0.1 r.0 r.1;
+      behind = from_some (λ (z : Expr × List Tok). length z.1 ≤ length r.0) v.2 (omega (arith, ap length inner, expr_more v.0.0 v.0.1));
+    }
+
+module _ (f at : ℕ) (recursive : Bool) (b : Binding) (bs : Bindings) (r : List Tok) (w : WfBinding b) (ws : WfBindings bs) where
+  abbrev bound_words : List Tok
+  bound_words = binding_then b (bindings_then bs r)
+
+  abbrev value_words : List Tok
+  value_words = placed key.Let at ∷ optional_then key.Rec recursive bound_words
+
+  -- if an expression is read there, these bindings and an `in` begin one
+  let_inside : (x : Expr × List Tok) → read_expr (suc f) wanted.Sequence value_words ≡ Some x
+      → (y : Expr × List Tok) × (read_expr (suc f) wanted.Operand value_words ≡ Some y) × GoesIn f bound_words y
+  let_inside x e =
+      let u = seq_unary f value_words x e in
+      let l = sym (let_bound f at recursive b (bindings_then bs r) w)
+      ∙ sym (unary_let f at (optional_then key.Rec recursive bound_words)) ∙ u.1 in
+      (u.0, operand_is f value_words ∙ u.1, values_in f at recursive bound_words u.0 l)
+
+  inner : length value_words ≤ suc f → length bound_words ≤ f
+  inner len = omega (arith, len, optional_longer key.Rec recursive bound_words)
+
+  -- not before an item
+  pub let_not_read : (x : Expr × List Tok) → Follow r → length value_words ≤ suc f → read_expr (suc f) wanted.Sequence value_words ≡ Some x → ⊥
+  let_not_read x s len e =
+      let p = let_inside x e in
+      let q = some_is (sym (bindings_exact f b bs r w ws s (inner len)) ∙ p.2.are) in
+      let at_in : r ≡ fixed key.In ∷ p.2.body = ap (λ (z : (Binding × Bindings) × List Tok). z.1) q ∙ p.2.inside in
+      headed_not key.In r refl s.start (p.2.body, at_in)
+
+  -- and it ends no earlier than the bindings
+  pub let_read_past : (x : Expr × List Tok) → length value_words ≤ suc f → read_expr (suc f) wanted.Sequence value_words ≡ Some x
+      → length x.1 ≤ length r
+  let_read_past x len e =
+      let p = let_inside x e in
+      let m = bindings_pass f b bs r w ws (inner len) in
+      let q = ap (λ (z : (Binding × Bindings) × List Tok). length z.1) (some_is (sym m.1 ∙ p.2.are)) in
+      let v = expr_reads (suc f) wanted.Operand value_words p.0 p.1 in
+      let far = (expr_longest (suc f) value_words x.0 x.1 len e).longest p.0.0 p.0.1 v.wf (v.words ∙ expr_front p.0.0 p.0.1) in
+      omega (arith, m.2, q, ap length p.2.inside, p.2.behind, far)
+
+  -- no expression begins with an item before another
+  pub value_begins_none : Follow r → length value_words ≤ suc f → Begun value_words → ⊥
+  value_begins_none s len g = by (expr_reach g.tree g.wf (suc f) g.rest (omega (arith, len, ap length g.words)))
+    where
+      known : (x : Expr × List Tok) → read_expr (suc f) wanted.Sequence (expr_then g.tree g.rest) ≡ Some x → ⊥
+      known x e = let_not_read x s len (subst (λ k. read_expr (suc f) wanted.Sequence k ≡ Some x) (sym g.words) e)
+
+      by : Reach (Goes 0 g.tree g.rest) g.tree g.rest (read_expr (suc f) wanted.Sequence (expr_then g.tree g.rest)) → ⊥
+      by (exact e) = known (g.tree, g.rest) e
+      by (farther c x e lt) = known x e
