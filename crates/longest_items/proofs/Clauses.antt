@@ -118,15 +118,22 @@ module _ (f : ℕ) where
   abbrev pub Clauses : List Tok → List WithClause × List Tok → Type 0
   Clauses r m = (w : WithClause) × (ws : List WithClause) × (k : List Tok) × (m ≡ (w ∷ ws, k)) × (length k ≤ length r)
 
+  clauses_left : (r : List Tok) (m : List WithClause × List Tok) → Clauses r m → length m.1 ≤ length r
+  clauses_left r m c = omega (arith, c.4, ap (λ (z : List WithClause × List Tok). length z.1) c.3)
+
   pub withs_pass : (c : Constraint) (cs : List Constraint) (ws : List WithClause) (r : List Tok) → WfWiths (WithOf c cs ∷ ws) → (n : ℕ)
       → length (withs_then (WithOf c cs ∷ ws) r) ≤ n → n ≤ suc f
       → Clauses r (many [] ◌∷◌ always (with_clause f) n (withs_then (WithOf c cs ∷ ws) r))
   withs_pass c cs ws r w zero len le = absurd (omega (arith, len))
   withs_pass c cs [] r w (suc n) len le =
       let p = clause_pass c cs r w.0 w.1 (omega (arith, len, le, constraint_more c (constraints_then cs r))) in
-      let more = many [] ◌∷◌ always (with_clause f) n p.0.1 in
-      (p.0.0, more.0, more.1, many_on [] ◌∷◌ always (with_clause f) clause_shorter n (withs_then (WithOf c cs ∷ []) r) p.0 p.1 refl,
-      omega (arith, p.2, many_shorter [] ◌∷◌ always (with_clause f) clause_shorter n p.0.1))
+      let more = many [] ◌∷◌ always (with_clause f) n p.0.1 in (
+        p.0.0,
+        more.0,
+        more.1,
+        many_on [] ◌∷◌ always (with_clause f) clause_shorter n (withs_then (WithOf c cs ∷ []) r) p.0 p.1 refl,
+        omega (arith, p.2, many_shorter [] ◌∷◌ always (with_clause f) clause_shorter n p.0.1),
+      )
   withs_pass c cs (WithOf c' cs' ∷ ws) r w (suc n) len le =
       let k : List Tok = constraint_then c' (constraints_then cs' (withs_then ws r)) in
       let rest : List Tok = fixed key.With ∷ k in
@@ -134,6 +141,10 @@ module _ (f : ℕ) where
       let l2 = constraints_more cs rest in
       let first = clause_whole c cs k w.0 w.1 (omega (arith, len, le, l)) in
       let more = withs_pass c' cs' ws r w.2 n (omega (arith, len, l, l2)) (omega (arith, le)) in
-      let all = many [] ◌∷◌ always (with_clause f) n rest in
-      (WithOf c cs, all.0, all.1, many_on [] ◌∷◌ always (with_clause f) clause_shorter n (withs_then (WithOf c cs ∷ []) rest) (WithOf c cs, rest) first refl,
-      omega (arith, more.4, ap (λ (z : List WithClause × List Tok). length z.1) more.3))
+      let all = many [] ◌∷◌ always (with_clause f) n rest in (
+        WithOf c cs,
+        all.0,
+        all.1,
+        many_on [] ◌∷◌ always (with_clause f) clause_shorter n (withs_then (WithOf c cs ∷ []) rest) (WithOf c cs, rest) first refl,
+        clauses_left r all more,
+      )

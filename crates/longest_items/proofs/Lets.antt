@@ -132,19 +132,21 @@ record GoesIn (f : ℕ) (ts : List Tok) (y : Expr × List Tok) : Type 0 where
   inside : found.1 ≡ fixed key.In ∷ body
   behind : length y.1 ≤ length body
 
+expr_left : (f : ℕ) (ts : List Tok) (v : Expr × List Tok) → read_expr f wanted.Sequence ts ≡ Some v → length v.1 ≤ length ts
+expr_left f ts v e = let inner = (expr_reads f wanted.Sequence ts v e).words in omega (arith, ap length inner, expr_more v.0 v.1)
+
 values_in : (f at : ℕ) (recursive : Bool) (ts : List Tok) (y : Expr × List Tok) → let_values (read_expr f) f at recursive ts ≡ Some y → GoesIn f ts y
 unfolding let_values
 values_in f at recursive ts y e =
     let b = bind_ok (bindings (read_expr f) f ts) _ y e in
     let r = bind_ok (expect key.In b.0.1) _ y b.2 in
     let v = bind_ok (read_expr f wanted.Sequence r.0) _ y r.2 in
-    let inner = (expr_reads f wanted.Sequence r.0 v.0 v.1).words in
     record {
       found = b.0;
       body = r.0;
       are = b.1;
       inside = expect_ok key.In b.0.1 r.0 r.1;
-      behind = from_some (λ (z : Expr × List Tok). length z.1 ≤ length r.0) v.2 (omega (arith, ap length inner, expr_more v.0.0 v.0.1));
+      behind = from_some (λ (z : Expr × List Tok). length z.1 ≤ length r.0) v.2 (expr_left f r.0 v.0 v.1);
     }
 
 module _ (f at : ℕ) (recursive : Bool) (b : Binding) (bs : Bindings) (r : List Tok) (w : WfBinding b) (ws : WfBindings bs) where

@@ -5,4 +5,7 @@ mod Wholes
 mod Modules
 mod Clauses
 mod Types
-pub mod Longest
+mod Longest
+mod Appended
+pub mod Single
+pub mod Fronts

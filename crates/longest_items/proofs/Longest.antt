@@ -14,11 +14,11 @@ use Rattle.expr_reading.specs.ExprReading.{read_expr}
 use Rattle.expr_reading.proofs.AppendExpr.{expr_front}
 use Rattle.expr_reading.proofs.LawsExpr.{expr_longest, expr_none}
 use Rattle.expr_reading.proofs.FirstWord.{Begins}
-use Rattle.parse_module.specs.ModReading.{item_of, items_of, item_then as read_then, read_mod, read_type}
+use Rattle.parse_module.specs.ModReading.{body_start, face_start, item_of, items_of, item_then as read_then, read_mod, read_type}
 use Rattle.parse_module.proofs.FoundMod.{item_found, sig_item_found, mod_reads, type_reads}
 use Rattle.parse_module.proofs.ReachMod.{item_at, items_at, sig_item_at, item_longer}
 use Rattle.longest_items.specs.Longest.{IsLongestItem, BeginsNoItem, AreLongestItems, none_begins, longest_then, IsLongestSig, BeginsNoSig}
-use Rattle.longest_items.specs.Longest.{AreLongestSigs, no_sig_begins, longest_sig_then, BodiesBeginLongest, FacesBeginLongest}
+use Rattle.longest_items.specs.Longest.{AreLongestSigs, no_sig_begins, longest_sig_then}
 use Rattle.longest_items.proofs.Passing.{Passes, passes, pass_map}
 use Rattle.longest_items.proofs.Lets.{read_begins, bindings_pass, value_bound, let_read_past}
 use Rattle.longest_items.proofs.Items.{solid_begins_none, plain_at, solid_ends, sig_item_ends}
@@ -66,7 +66,8 @@ module _ (f : ℕ) where
           let l = sig_item_shorter f ts x e in
           longest_sig_then ts x.0 x.1 _ _ (sig_longest ts x le e) (more x.1 (omega (arith, len, l)) (omega (arith, le, l)))
 
-pub faces_begin_longest : FacesBeginLongest
+-- the items with which an interface begins
+pub faces_begin_longest : (n : ℕ) (ts : List Tok) → length ts ≤ n → AreLongestSigs ts (face_start n ts).0 (face_start n ts).1
 faces_begin_longest n ts len = sigs_longest n n ts len (omega (arith, len))
 
 -- ---- items of bodies
@@ -155,5 +156,6 @@ items_longest f (suc n) fresh ts len le = by (item_at f fresh ts) refl (λ g r l
         longest_then fresh ts x.0 x.1 _ _ p (more (is_separator x.0) x.1 (omega (arith, len, ap length p.reads, item_longer fresh x.0 x.1 p.wf))
         (omega (arith, le, ap length p.reads, item_longer fresh x.0 x.1 p.wf)))
 
-pub bodies_begin_longest : BodiesBeginLongest
+-- the items with which a body begins
+pub bodies_begin_longest : (n : ℕ) (ts : List Tok) → length ts ≤ n → AreLongestItems true ts (body_start n ts).0 (body_start n ts).1
 bodies_begin_longest n ts len = items_longest n n true ts len len

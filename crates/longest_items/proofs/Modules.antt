@@ -138,8 +138,11 @@ module _ (f : ℕ) where
       let rest : List Tok = mod_arguments_then (more_mod_argument a ms) r in
       let first = (mod_good m).lone w.0 w.1 f rest (no_dot a (mod_arguments_then ms r)) len in
       let args = mod_arguments (read_mod f) (read_type f) f rest in
-      rw first ((grown_mod m args.0, args.1), refl,
-      arguments_pass (more_mod_argument a ms) w.3 r f (omega (arith, len, mod_longer m rest w.1)) (omega arith))
+      rw first (
+        (grown_mod m args.0, args.1),
+        refl,
+        arguments_pass (more_mod_argument a ms) w.3 r f (omega (arith, len, mod_longer m rest w.1)) (omega arith),
+      )
     where
       no_dot : (a : ModArgument) (k : List Tok) → dot_upper (mod_argument_then a k) ≡ None
       no_dot (ModuleArgument at m) k = refl

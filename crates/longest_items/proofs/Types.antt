@@ -20,7 +20,7 @@ use Rattle.longest_items.proofs.Passing.{Passes, passes, pass_map, exactly, path
 use Rattle.longest_items.proofs.Items.{param_longer, type_longer, type_whole, param_whole, params_before}
 use Rattle.longest_items.proofs.Wholes.{sig_items_whole}
 use Rattle.longest_items.proofs.Modules.{flat_pass}
-use Rattle.longest_items.proofs.Clauses.{clause_shorter, withs_pass}
+use Rattle.longest_items.proofs.Clauses.{clause_shorter, Clauses, withs_pass}
 
 -- ---- no parameter of a functor begins a simple module type
 
@@ -110,13 +110,15 @@ module _ (f : ℕ) where
 
   -- ---- what may be behind one
 
+  type_left : (ts : List Tok) (x : ModType × List Tok) → read_type f ts ≡ Some x → length x.1 ≤ length ts
+  type_left ts x e = let inner = (type_reads f ts x e).words in omega (arith, ap length inner, mod_type_more x.0 x.1)
+
   arrow_shorter : (s : ModType) (ts : List Tok) (o : Option (ModType × List Tok)) → (expect key.Arrow ts >>= read_type f) ≡ o
       → length (arrow_or (read_mod f) (read_type f) f s ts o).1 ≤ length ts
   arrow_shorter s ts None e = omega arith
   arrow_shorter s ts (Some x) e =
       let a = bind_ok (expect key.Arrow ts) (read_type f) x e in
-      let words = (type_reads f a.0 x a.2).words in
-      omega (arith, ap length (expect_ok key.Arrow ts a.0 a.1), ap length words, mod_type_more x.0 x.1)
+      omega (arith, ap length (expect_ok key.Arrow ts a.0 a.1), type_left a.0 x a.2)
 
   with_shorter : (s : ModType) (ts : List Tok) (m : List WithClause × List Tok) → length m.1 ≤ length ts
       → length (with_or (read_mod f) (read_type f) f s ts m).1 ≤ length ts
@@ -133,6 +135,10 @@ module _ (f : ℕ) where
       → Passes r (mod_type_at f (mod_type_then s r))
   lone_pass s r p w len = rw (type_plain s r p w) (with_pass (mod_type_then s r) r (simple_type_pass s r p w len))
 
+  clauses_left : (s : ModType) (ts r : List Tok) (m : List WithClause × List Tok) → Clauses f r m
+      → length (with_or (read_mod f) (read_type f) f s ts m).1 ≤ length r
+  clauses_left s ts r m c = rw c.3 c.4
+
   clauses_pass : (s : ModType) (ws : List WithClause) (r : List Tok) → WfModType (With s ws) → length (mod_type_then (With s ws) r) ≤ suc f
       → Passes r (mod_type_at f (mod_type_then (With s ws) r))
   clauses_pass s [] r w len = absurd (w.2 refl)
@@ -140,7 +146,8 @@ module _ (f : ℕ) where
       let rest : List Tok = withs_then (WithOf c cs ∷ ws) r in
       let first = (type_good s).lone w.0 w.1 f rest refl len in
       let more = withs_pass f c cs ws r w.3 f (omega (arith, len, type_longer s rest w.1)) (omega arith) in
-      rw (type_plain s rest w.0 w.1, first, more.3) ((With s (more.0 ∷ more.1), more.2), refl, more.4)
+      let all = with_clauses f rest in
+      rw (type_plain s rest w.0 w.1, first) (with_or (read_mod f) (read_type f) f s rest all, refl, clauses_left s rest r all more)
 
   no_clause : (k : List Tok) → with_clauses f (fixed key.Arrow ∷ k) ≡ ([], fixed key.Arrow ∷ k)
   unfolding many with_clause

@@ -1,11 +1,10 @@
 -- Items that are read one after another, each the longest that begins where it does (own; the OCaml manual,
 -- "Compilation units").
-use Rattle.std.specs.Prelude.{◌≡◌, ℕ, ◌≤◌, List, length, Bool, true}
+use Rattle.std.specs.Prelude.{◌≡◌, ◌≤◌, List, length, Bool}
 use Rattle.ml_trees.specs.Tok.{Tok}
 use Rattle.ml_trees.specs.Tree.{Item, Items, no_item, more_item, SigItem, SigItems, no_sig_item, more_sig_item}
 use Rattle.ml_trees.specs.WellFormed.{is_separator, WfItem, WfSigItem}
 use Rattle.ml_trees.specs.Words.{item_then, sig_item_then}
-use Rattle.parse_module.specs.ModReading.{body_start, face_start}
 
 -- ---- bodies
 
@@ -40,12 +39,13 @@ pub data AreLongestSigs : List Tok → SigItems → List Tok → Type 0 where
   longest_sig_then : (ts : List Tok) (i : SigItem) (rest : List Tok) (is : SigItems) (end : List Tok) → IsLongestSig ts i rest
       → AreLongestSigs rest is end → AreLongestSigs ts (more_sig_item i is) end
 
--- ---- the laws
+-- ---- one reading
 
--- the items that are read from the tokens of a body are so; the first may be an expression
-abbrev pub BodiesBeginLongest : Type 0
-BodiesBeginLongest = (n : ℕ) (ts : List Tok) → length ts ≤ n → AreLongestItems true ts (body_start n ts).0 (body_start n ts).1
+-- no other items are so, and they have no other end
+abbrev pub OneLongestBody : Type 0
+OneLongestBody = (fresh : Bool) (ts : List Tok) (is : Items) (end : List Tok) → AreLongestItems fresh ts is end
+    → (others : Items) (last : List Tok) → AreLongestItems fresh ts others last → (is ≡ others) × (end ≡ last)
 
--- and those of an interface
-abbrev pub FacesBeginLongest : Type 0
-FacesBeginLongest = (n : ℕ) (ts : List Tok) → length ts ≤ n → AreLongestSigs ts (face_start n ts).0 (face_start n ts).1
+abbrev pub OneLongestFace : Type 0
+OneLongestFace = (ts : List Tok) (is : SigItems) (end : List Tok) → AreLongestSigs ts is end
+    → (others : SigItems) (last : List Tok) → AreLongestSigs ts others last → (is ≡ others) × (end ≡ last)

@@ -1,7 +1,7 @@
-//! The laws that the items of a file are read one after another, each the longest that begins where it does, up to the
-//! first place where no item begins.
+//! The laws of the items before a front: each is the longest that begins where it does, behind the last no item begins,
+//! and no other items are so.
 #![tactic(auto)]
 
 mod laws;
 
-pub use laws::{bodies_begin_longest, faces_begin_longest};
+pub use laws::{fronts_end_longest_items, one_longest_reading};
