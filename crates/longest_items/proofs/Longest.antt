@@ -77,7 +77,7 @@ module _ (f : ℕ) where
       → length (item_then (ValueItem at recursive b bs) r) ≤ suc f → Passes r (plain_at f (item_then (ValueItem at recursive b bs) r))
   value_pass at recursive b bs r w ws len =
       let k : List Tok = binding_then b (bindings_then bs r) in
-      rw (value_is f r at (optional_then key.Rec recursive k), value_bound f at recursive b (bindings_then bs r) w)
+      rw (value_is f at (optional_then key.Rec recursive k), value_bound f at recursive b (bindings_then bs r) w)
       (pass_map r (λ (z : Binding × Bindings). ValueItem at recursive z.0 z.1)
       (bindings_pass f b bs r w ws (omega (arith, len, optional_longer key.Rec recursive k))))
 
@@ -118,13 +118,13 @@ unfresh f ts len e i r w q = w
 
 item_past : (f : ℕ) (fresh : Bool) (ts : List Tok) (x : Item × List Tok) → length ts ≤ f → item_at f fresh ts ≡ Some x → (i : Item) (r : List Tok)
     → WfItem fresh i → ts ≡ item_then i r → length x.1 ≤ length r
-item_past f false ts x len e i r w q = no_more_left r x (sym (stale_is f ts ts) ∙ e) (plain_pass_at f ts i r (omega (arith, len)) w q)
+item_past f false ts x len e i r w q = no_more_left r x (sym (stale_is f ts) ∙ e) (plain_pass_at f ts i r (omega (arith, len)) w q)
 item_past f true ts x len e i r w q = by (read_expr f wanted.Sequence ts) refl
   where
     by : (o : Option (Expr × List Tok)) → read_expr f wanted.Sequence ts ≡ o → length x.1 ≤ length r
     by (Some y) h =
         from_some (λ (z : Item × List Tok). length z.1 ≤ length r) (sym (expression_is f ts y h) ∙ e) (expression_past f ts y len h i r w q)
-    by None h = no_more_left r x (sym (fresh_is f ts ts h) ∙ e) (plain_pass_at f ts i r (omega (arith, len)) (unfresh f ts len h i r w q) q)
+    by None h = no_more_left r x (sym (fresh_is f ts h) ∙ e) (plain_pass_at f ts i r (omega (arith, len)) (unfresh f ts len h i r w q) q)
 
 item_longest : (f : ℕ) (fresh : Bool) (ts : List Tok) (x : Item × List Tok) → length ts ≤ f → item_at f fresh ts ≡ Some x
     → IsLongestItem fresh ts x.0 x.1
@@ -133,12 +133,12 @@ item_longest f fresh ts x len e =
     record { wf = p.wf; reads = p.words; longest = item_past f fresh ts x len e }
 
 no_item_read : (f : ℕ) (fresh : Bool) (ts : List Tok) → length ts ≤ f → item_at f fresh ts ≡ None → BeginsNoItem fresh ts
-no_item_read f false ts len e i r w q = something r (sym (stale_is f ts ts) ∙ e) (plain_pass_at f ts i r (omega (arith, len)) w q)
+no_item_read f false ts len e i r w q = something r (sym (stale_is f ts) ∙ e) (plain_pass_at f ts i r (omega (arith, len)) w q)
 no_item_read f true ts len e i r w q = by (read_expr f wanted.Sequence ts) refl
   where
     by : (o : Option (Expr × List Tok)) → read_expr f wanted.Sequence ts ≡ o → ⊥
     by (Some y) h = let k : ◌≡◌ {A = Option (Item × List Tok)} None (Some (ExprItem y.0, y.1)) = sym e ∙ expression_is f ts y h in absurd cc
-    by None h = something r (sym (fresh_is f ts ts h) ∙ e) (plain_pass_at f ts i r (omega (arith, len)) (unfresh f ts len h i r w q) q)
+    by None h = something r (sym (fresh_is f ts h) ∙ e) (plain_pass_at f ts i r (omega (arith, len)) (unfresh f ts len h i r w q) q)
 
 items_longest : (f n : ℕ) (fresh : Bool) (ts : List Tok) → length ts ≤ n → length ts ≤ f
     → AreLongestItems fresh ts (items_at f n fresh ts).0 (items_at f n fresh ts).1

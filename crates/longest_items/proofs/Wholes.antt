@@ -122,7 +122,7 @@ items_follow (more_item (ValueItem at recursive b bs) is) r w =
     record { start = refl; none = value_begins_none n at recursive b bs k w.0.0 w.0.1 (items_follow is r w.1) (omega arith) }
 items_follow (more_item i is) r w = solid_follow i (items_then is (fixed key.End ∷ r)) refl
 
-module _ (f : ℕ) (k : List Tok) where
+module _ (f : ℕ) where
   pub fresh_is : (ts : List Tok) → read_expr f wanted.Sequence ts ≡ None → item_at f true ts ≡ plain_at f ts
   unfolding item_of
   fresh_is ts e = rw e refl
@@ -135,6 +135,7 @@ module _ (f : ℕ) (k : List Tok) where
   unfolding plain_item
   value_is at ts = refl
 
+module _ (f : ℕ) (k : List Tok) where
   separator_is : plain_at f (fixed key.DoubleSemicolon ∷ k) ≡ Some (SeparatorItem, k)
   unfolding plain_item
   separator_is = refl
@@ -143,7 +144,7 @@ module _ (f : ℕ) (k : List Tok) where
       → length (item_then_words (ValueItem at recursive b bs) k) ≤ f
       → plain_at f (item_then_words (ValueItem at recursive b bs) k) ≡ Some (ValueItem at recursive b bs, k)
   value_whole at recursive b bs w ws s len =
-      value_is at (optional_then key.Rec recursive (binding_then b (bindings_then bs k))) ∙ value_bound f at recursive b (bindings_then bs k) w
+      value_is f at (optional_then key.Rec recursive (binding_then b (bindings_then bs k))) ∙ value_bound f at recursive b (bindings_then bs k) w
       ∙ rw (bindings_exact f b bs k w ws s (omega (arith, len, optional_longer key.Rec recursive (binding_then b (bindings_then bs k))))) refl
 
   -- an item that is no expression, before another
@@ -172,8 +173,8 @@ value_unread (suc f) k at recursive b bs w ws s len =
 -- where no expression is read, all items are read alike
 by_fresh : (f : ℕ) (fresh : Bool) (ts : List Tok) (x : Item × List Tok) → read_expr f wanted.Sequence ts ≡ None → plain_at f ts ≡ Some x
     → item_at f fresh ts ≡ Some x
-by_fresh f true ts x n e = fresh_is f ts ts n ∙ e
-by_fresh f false ts x n e = stale_is f ts ts ∙ e
+by_fresh f true ts x n e = fresh_is f ts n ∙ e
+by_fresh f false ts x n e = stale_is f ts ∙ e
 
 item_whole : (f : ℕ) (fresh : Bool) (i : Item) (is : Items) (r : List Tok) → WfItem fresh i → WfItems (is_separator i) is
     → length (item_then_words i (items_then is (fixed key.End ∷ r))) ≤ f
