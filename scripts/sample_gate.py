@@ -37,8 +37,8 @@ def read_processes():
         except (OSError, IndexError):
             continue
         name = words[words.index("--crate-name") + 1]
-        kind = "edits" if "/rt-edit-" in folder else "tests" if words[1] == "test" or name.endswith("_tests") else "proof"
-        found[pid, fields[19]] = (name.removesuffix("_tests"), kind, (int(fields[11]) + int(fields[12])) / TICKS, peak)
+        kind = "edits" if "/rt-edit-" in folder else "tests" if "--test" in words else "proof"
+        found[pid, fields[19]] = (name, kind, (int(fields[11]) + int(fields[12])) / TICKS, peak)
     return found
 
 
