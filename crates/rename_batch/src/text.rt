@@ -1,11 +1,10 @@
 //! The report of an accepted batch.
 ghost use Rattle.std.specs.Prelude.{◌≡◌, ◌++◌, IfOk, OnOk, flat_map, map, string_bytes};
-ghost use Rattle.report.specs.Lines.{number_line};
 ghost use Rattle.report.specs.Text.{ended};
-ghost use Rattle.rename_batch.specs.Text.{batch_text as batch_text_of, change_line, undo_line};
+ghost use Rattle.rename_batch.specs.Text.{batch_text as batch_text_of, change_line, undo_line as undo_line_of};
 
 use crate::{Batched, Change, Undo};
-use report::{number_text, place_text, push_line};
+use report::{batch_line, files_line, push_line, step_line, undo_line};
 use rotor_base::Memory;
 use std::alloc::Global;
 
@@ -15,19 +14,13 @@ pub fn batch_text(alloc: Global, names: &[String], done: &Batched) -> Result<Vec
     ensures { IfOk result (λ text. text.items ≡ batch_text_of (map string_bytes names.now) done.now) }
 {
     let mut text = Vec::new(alloc);
-    push_number(alloc, &mut text, "batch", done.done.as_slice().len())?;
+    let steps = batch_line(alloc, done.done.as_slice().len() as u64)?;
+    push_line(&mut text, &[steps.as_slice()])?;
     push_changes(alloc, &mut text, names, done.done.as_slice())?;
-    push_number(alloc, &mut text, "files", done.changed.as_slice().len())?;
+    let files = files_line(alloc, done.changed.as_slice().len() as u64)?;
+    push_line(&mut text, &[files.as_slice()])?;
     push_undos(alloc, &mut text, names, done.undo.as_slice())?;
     Ok(text)
-}
-
-/// Adds the line of a word and a number.
-fn push_number(alloc: Global, text: &mut Vec<u8>, word: &str, number: usize) -> Result<(), Memory>
-    ensures { OnOk result (text.new.items ≡ text.old.items ++ ended (number_line word.now number)) }
-{
-    let digits = number_text(alloc, number as u64)?;
-    push_line(text, &[word.as_bytes(), b" ", digits.as_slice()])
 }
 
 /// Adds the lines of the steps.
@@ -40,12 +33,8 @@ fn push_changes(
     ensures { OnOk result (text.new.items ≡ text.old.items ++ flat_map ended (map (change_line (map string_bytes names.now)) changes.now)) }
 {
     for change in changes {
-        let place = place_text(alloc, names, change.at)?;
-        let (old, new) = (change.old.as_bytes(), change.new.as_bytes());
-        push_line(
-            text,
-            &[b"rename ", old, b" to ", new, b" ", place.as_slice()],
-        )?;
+        let line = step_line(alloc, names, &change.old, &change.new, change.at)?;
+        push_line(text, &[line.as_slice()])?;
     }
     Ok(())
 }
@@ -57,14 +46,11 @@ fn push_undos(
     names: &[String],
     undos: &[Undo],
 ) -> Result<(), Memory>
-    ensures { OnOk result (text.new.items ≡ text.old.items ++ flat_map ended (map (undo_line (map string_bytes names.now)) undos.now)) }
+    ensures { OnOk result (text.new.items ≡ text.old.items ++ flat_map ended (map (undo_line_of (map string_bytes names.now)) undos.now)) }
 {
     for undo in undos {
-        let place = place_text(alloc, names, undo.at)?;
-        push_line(
-            text,
-            &[b"undo ", place.as_slice(), b" ", undo.old.as_bytes()],
-        )?;
+        let line = undo_line(alloc, names, undo.at, &undo.old)?;
+        push_line(text, &[line.as_slice()])?;
     }
     Ok(())
 }

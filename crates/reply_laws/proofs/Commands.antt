@@ -2,17 +2,13 @@
 use Rattle.std.proofs.Common.{◌≡◌, ◌⊎◌, inl, inr, ℕ, ◌<◌, ◌≤◌, List, Bool, true, false, Option, Some, None, Result, Ok, Err, length, refl, sym, ◌∙◌}
 use Rattle.std.proofs.lemmas.Bool.{true≢false}
 use Rattle.std.specs.FinMap.{get}
-use Rattle.rotor_base.specs.Files.{FileSet, names_of}
+use Rattle.rotor_base.specs.Files.{FileSet}
 use Rattle.rotor_base.specs.Limits.{max_file_bytes}
 use Rattle.rotor_base.specs.Lines.{feed_lines}
 use Rattle.rotor_base.specs.declared.refusal.LoadError.{LoadError}
-use Rattle.rotor_base.specs.declared.refusal.LoadError.TheVariants.{TooLarge}
-use Rattle.rotor_base.specs.declared.report.Outcome.{Outcome}
-use Rattle.rotor_base.specs.declared.report.Outcome.TheVariants as outcome
 use Rattle.tree_io.specs.Outside.{FileMap}
 use Rattle.project_load.specs.Load.{loaded}
 use Rattle.apply_journal.specs.Recovered.{IsOpen, gate_name, open_bytes}
-use Rattle.cli_words.specs.declared.command.Command.{Command}
 use Rattle.rename_batch.specs.declared.error.BatchError.{BatchError}
 use Rattle.rename_batch.specs.declared.error.BatchError.TheVariants.{At, Memory}
 use Rattle.rename_batch.specs.declared.step.Batched.{Batched}
@@ -22,9 +18,8 @@ use Rattle.rename_batch.specs.Reading.{IsBadLine, IsBatch}
 use Rattle.command_answers.proofs.Batches.{batches_are_answered}
 use Rattle.decided_lists.proofs.Known.{Known, bytes_known, within_or_over}
 use Rattle.decided_lists.proofs.Steps.{batch_lines_are_decided}
-use Rattle.rotor_app.specs.Said.{Answers, MayWrite, SaysBatch, SaysSteps, SaysTo, pending_reply}
+use Rattle.rotor_app.specs.Said.{IsBarred, MayWrite, SaysFound, SaysLoaded, SaysPermitted, SaysSteps, pending_reply}
 use Rattle.rotor_app.specs.Said as said
-use Rattle.rotor_app.specs.Words.{asks_gate}
 use Rattle.rotor_app.specs.declared.reply.Reply.{Reply}
 
 pub open_known : (held : FileMap) → Known (IsOpen held)
@@ -37,55 +32,48 @@ open_known held = by (get held gate_name) refl where
   by None e = inr (λ o. let wrong : None ≡ Some open_bytes = sym e ∙ o in cc)
   by (Some bytes) e = found bytes e (bytes_known bytes open_bytes)
 
--- a command may write, or it asks for the gate, which is open
-abbrev IsPermitted : Command → FileMap → Type 0
-IsPermitted c held = MayWrite c held ⊎ ((asks_gate c ≡ true) × IsOpen held)
-
-permitted : (c : Command) (held : FileMap) → IsPermitted c held
-permitted c held = by (asks_gate c) refl (open_known held) where
-  by : (b : Bool) → asks_gate c ≡ b → Known (IsOpen held) → IsPermitted c held
+-- a command may write, or it writes and the gate is open
+permission_known : (writes : Bool) (held : FileMap) → MayWrite writes held ⊎ IsBarred writes held
+permission_known writes held = by writes refl (open_known held) where
+  by : (b : Bool) → writes ≡ b → Known (IsOpen held) → MayWrite writes held ⊎ IsBarred writes held
   by false e o = inl (λ asks. absurd (true≢false (sym asks ∙ e)))
-  by true e (inl o) = inr (e, o)
+  by true e (inl o) = inr (record { asked = e; opened = o })
   by true e (inr n) = inl (λ asks. n)
 
--- there is a reply
-abbrev pub HasReply : Command → FileMap → Type 0
-HasReply c held = (reply : Reply) × SaysTo c held reply
+-- ---- a folder that loads, or does not
 
--- what is said of files that are loaded, if the command may write
-module _ (c : Command) (held : FileMap) (then : (files : FileSet) → loaded held ≡ Ok files → MayWrite c held → HasReply c held) where
-  pub replied : HasReply c held
-  replied = by (loaded held) refl (permitted c held) where
-    by : (load : Result FileSet LoadError) → loaded held ≡ load → IsPermitted c held → HasReply c held
-    by (Err error) e p = (_, said.answers _ (outcome.NotLoaded error) (said.not_loaded error e) refl)
-    by (Ok files) e (inl may) = then files e may
-    by (Ok files) e (inr asked) =
-        (pending_reply c, said.pends (record { files = files; loads = e; asked = asked.0; opened = asked.1 }) refl)
+pub loaded_replied : (json : Bool) (P : FileSet → Reply → Type 0) (held : FileMap) → ((files : FileSet) → (reply : Reply) × P files reply)
+    → (reply : Reply) × SaysLoaded json P held reply
+loaded_replied json P held replied = by (loaded held) refl where
+  by : (load : Result FileSet LoadError) → loaded held ≡ load → (reply : Reply) × SaysLoaded json P held reply
+  by (Err error) e = (_, said.not_loaded error e refl)
+  by (Ok files) e = let r = replied files in (r.0, said.over files e r.1)
 
--- ---- answers
-
-pub answered : (c : Command) (held : FileMap) → ((files : FileSet) → (o : Outcome) × Answers c files o) → HasReply c held
-answered c held answer =
-    replied c held (λ files loads may. let a = answer files in (_, said.answers _ a.0 (said.answered files a.0 loads may a.1) refl))
+pub permitted_replied : (writes json : Bool) (held : FileMap) (P : Reply → Type 0) → ((reply : Reply) × P reply)
+    → (reply : Reply) × SaysPermitted writes json held P reply
+permitted_replied writes json held P replied = by (permission_known writes held) where
+  by : MayWrite writes held ⊎ IsBarred writes held → (reply : Reply) × SaysPermitted writes json held P reply
+  by (inl may) = (replied.0, said.permitted may replied.1)
+  by (inr barred) = (pending_reply json, said.pends barred refl)
 
 -- ---- a batch
 
-module _ (c : Command) (file : List ℕ) (files : FileSet) where
-  steps_replied : (steps : List Step) → (reply : Reply) × SaysSteps c files steps reply
+module _ (file : List ℕ) (write : Bool) (files : FileSet) where
+  steps_replied : (steps : List Step) → (reply : Reply) × SaysSteps write files steps reply
   steps_replied steps = by (batches_are_answered files steps) where
-    by : (answer : Result Batched BatchError) × Batches files steps answer → (reply : Reply) × SaysSteps c files steps reply
+    by : (answer : Result Batched BatchError) × Batches files steps answer → (reply : Reply) × SaysSteps write files steps reply
     by (Ok done, h) = (_, said.batched done h refl)
     by (Err (At step why), h) = (_, said.stopped step why h refl)
     by (Err Memory, h) = absurd h
 
   bytes_replied : (bytes : List ℕ) → (length bytes ≤ max_file_bytes) ⊎ (max_file_bytes < length bytes)
       → ((steps : List Step) × IsBatch (feed_lines bytes) steps) ⊎ ((number : ℕ) × IsBadLine (feed_lines bytes) number)
-      → (reply : Reply) × SaysBatch c file (Some bytes) files reply
+      → (reply : Reply) × SaysFound file write (Some bytes) files reply
   bytes_replied bytes (inr over) read = (_, said.large bytes refl over refl)
   bytes_replied bytes (inl few) (inr bad) = (_, said.unread bytes bad.0 refl few bad.1 refl)
   bytes_replied bytes (inl few) (inl batch) =
       let r = steps_replied batch.0 in (r.0, said.runs bytes batch.0 refl few batch.1 r.1)
 
-  pub batch_replied : (found : Option (List ℕ)) → (reply : Reply) × SaysBatch c file found files reply
-  batch_replied None = (_, said.lacks refl refl)
-  batch_replied (Some bytes) = bytes_replied bytes (within_or_over (length bytes) max_file_bytes) (batch_lines_are_decided (feed_lines bytes))
+  pub found_replied : (found : Option (List ℕ)) → (reply : Reply) × SaysFound file write found files reply
+  found_replied None = (_, said.lacks refl refl)
+  found_replied (Some bytes) = bytes_replied bytes (within_or_over (length bytes) max_file_bytes) (batch_lines_are_decided (feed_lines bytes))

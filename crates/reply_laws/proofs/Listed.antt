@@ -1,9 +1,8 @@
 -- There is a reply to `verify`, to `recover` and to `sample`.
-use Rattle.std.proofs.Common.{◌≡◌, ◌⊎◌, inl, inr, ℕ, List, Option, Some, None, Result, Ok, Err, length, refl, sym, subst, ◌∙◌}
+use Rattle.std.proofs.Common.{◌≡◌, ◌⊎◌, inl, inr, ℕ, List, false, Option, Some, None, Result, Ok, Err, refl, sym, subst, ◌∙◌}
 use Rattle.std.specs.FinMap.{get}
 use Rattle.rotor_base.specs.Files.{FileSet, IsProject}
 use Rattle.rotor_base.specs.declared.refusal.Refusal.{Refusal}
-use Rattle.rotor_base.specs.declared.report.Outcome.TheVariants as outcome
 use Rattle.rotor_base.specs.declared.report.Renamed.{Renamed}
 use Rattle.rotor_base.specs.declared.report.SampleReport.{SampleReport}
 use Rattle.rotor_base.specs.declared.source.SourceFile.{SourceFile}
@@ -17,7 +16,7 @@ use Rattle.apply_journal.specs.Plan.{IsPlan}
 use Rattle.apply_journal.specs.Recovered.{HoldsNoPlan, HoldsPlan, IsOpen, plan_name}
 use Rattle.rename_files.specs.Answer.{Renames}
 use Rattle.rename_laws.proofs.Undone.{renamings_are_undone, undos_have_places}
-use Rattle.sample_project.specs.Sample.{Answers, Samples, report_of, sample_target}
+use Rattle.sample_project.specs.Sample.{Samples, report_of, sample_target}
 use Rattle.sample_project.specs.Sources.{sample_files}
 use Rattle.sample_project.proofs.Back.{is_project, is_undone}
 use Rattle.std.specs.Prelude.{codes}
@@ -26,7 +25,7 @@ use Rattle.command_answers.proofs.Verdicts.{verdicts_are_answered}
 use Rattle.decided_lists.proofs.Known.{Known}
 use Rattle.decided_lists.proofs.Lists.{lists_are_answered}
 use Rattle.decided_lists.proofs.Plans.{plans_are_decided}
-use Rattle.rotor_app.specs.Said.{RefusesList, SaysAgainst, SaysRecovery, SaysSample, SaysVerify, as_outcome, bad_list, judged_reply, reply_by, unloaded_list}
+use Rattle.rotor_app.specs.Said.{RefusesList, SaysAgainst, SaysRecovery, SaysSample, SaysVerify, bad_list, unloaded_reply}
 use Rattle.rotor_app.specs.Said as said
 use Rattle.rotor_app.specs.declared.reply.Reply.{Reply}
 use Rattle.reply_laws.proofs.Commands.{open_known}
@@ -36,7 +35,7 @@ use Rattle.reply_laws.proofs.Commands.{open_known}
 -- a list that gives no project is refused
 refused : (held : FileMap) (name : List ℕ) (error : ListError) → Lists held name (Err error) → (reply : Reply) × RefusesList name error reply
 refused held name (list_error.BadList number) h = (bad_list name number, refl)
-refused held name (list_error.Load why) h = (unloaded_list why, refl)
+refused held name (list_error.Load why) h = (unloaded_reply false why, refl)
 refused held name list_error.Read h = absurd (none h) where
   none : Lists held name (Err list_error.Read) → ⊥
   none (load.lacks e r) = cc
@@ -113,4 +112,4 @@ sampled n = by (renamings_are_answered (sample_files n) sample_target (codes "re
       (Ok (report_of n done), (done, h, back, refl))
 
 pub sample_replied : (n : ℕ) → (reply : Reply) × SaysSample n reply
-sample_replied n = let s = sampled n in (_, (as_outcome outcome.Sampled s.0, (s.0, s.1, refl), refl))
+sample_replied n = let s = sampled n in (_, (s.0, s.1, refl))

@@ -49,3 +49,7 @@ data_of names outcome = lines_data (lines_of names outcome)
 
 abbrev pub json_of : List Word → Outcome → List ℕ
 json_of names outcome = ended (compact_text (data_of names outcome))
+
+-- the JSON of a refusal
+abbrev pub notice_json : Option Notice → List ℕ
+notice_json notice = ended (compact_text (notice_data notice))

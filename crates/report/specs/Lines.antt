@@ -9,12 +9,15 @@ use Rattle.rotor_base.specs.declared.report.Renamed.{Renamed}
 use Rattle.rotor_base.specs.declared.report.Outcome.{Outcome}
 use Rattle.rotor_base.specs.declared.report.Outcome.TheVariants.{Done, Checked, Shown, Sampled, Refused, NotLoaded, BadWords}
 use Rattle.report.specs.declared.notice.Notice.{Notice}
-use Rattle.report.specs.Pieces.{Word, join, place_text}
+use Rattle.report.specs.Pieces.{Word, join, place_text, placed_name}
 use Rattle.report.specs.Notice.{load_notice, notice_line, refusal_notice}
 
 -- a word and a number
 abbrev pub number_line : Word → ℕ → Word
 number_line word number = join (word ∷ codes " " ∷ decimal number ∷ [])
+
+abbrev pub files_line : ℕ → Word
+files_line count = number_line (codes "files") count
 
 abbrev pub declaration_line : List Word → Place → Word
 declaration_line names at = join (codes "declaration " ∷ place_text names at ∷ [])
@@ -23,24 +26,24 @@ abbrev pub declaration_lines : List Word → List Place → List Word
 declaration_lines names = map (declaration_line names)
 
 -- the old name and the new one
-abbrev pub rename_line : Renamed → Word
-rename_line done = join (codes "rename " ∷ done.old ∷ codes " to " ∷ done.new ∷ [])
+abbrev pub rename_line : Word → Word → Word
+rename_line old new = join (codes "rename " ∷ old ∷ codes " to " ∷ new ∷ [])
 
--- the words of the undo
-abbrev pub undo_line : List Word → Renamed → Word
-undo_line names done = join (codes "undo " ∷ place_text names done.undo_at ∷ codes " " ∷ done.old ∷ [])
+-- the words of an undo: the place, and the name that it had
+abbrev pub undo_line : List Word → Place → Word → Word
+undo_line names at old = join (codes "undo " ∷ placed_name names at old ∷ [])
 
 abbrev pub done_lines : List Word → Renamed → List Word
 done_lines names done =
-    rename_line done ∷
+    rename_line done.old done.new ∷
     (declaration_lines names done.foot.decls ++
     (number_line (codes "references") done.refs ∷
-    number_line (codes "files") (length done.changed) ∷
-    undo_line names done ∷ []))
+    files_line (length done.changed) ∷
+    undo_line names done.undo_at done.old ∷ []))
 
 abbrev pub checked_lines : Counts → List Word
 checked_lines counts =
-    number_line (codes "files") counts.files ∷
+    files_line counts.files ∷
     number_line (codes "units") counts.units ∷
     number_line (codes "declarations") counts.declarations ∷
     number_line (codes "references") counts.references ∷

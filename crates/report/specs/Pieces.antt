@@ -25,6 +25,10 @@ file_of names file = unwrap_or (slice_get names file) []
 abbrev pub place_text : List Word → Place → Word
 place_text names p = join (file_of names p.file ∷ codes "#" ∷ decimal p.token ∷ [])
 
+-- P NAME: a place and a name
+abbrev pub placed_name : List Word → Place → Word → Word
+placed_name names at name = join (place_text names at ∷ codes " " ∷ name ∷ [])
+
 -- FILE@OFFSET
 abbrev pub offset_text : List Word → ℕ → ℕ → Word
 offset_text names file offset = join (file_of names file ∷ codes "@" ∷ decimal offset ∷ [])

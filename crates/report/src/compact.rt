@@ -6,7 +6,7 @@ ghost use Rattle.serde_json.specs.Written.{has_float};
 ghost use Rattle.rotor_base.specs.declared.report.Outcome.TheVariants as outcome;
 ghost use Rattle.report.specs.Pieces.{file_of, place_text as place_text_of};
 ghost use Rattle.report.specs.Notice.{value_of};
-ghost use Rattle.report.specs.Json.{data_of, done_data, done_members, json_of, lines_data, notice_data, text_data, texts as texts_of};
+ghost use Rattle.report.specs.Json.{data_of, done_data, done_members, json_of, lines_data, notice_data, notice_json as notice_json_of, text_data, texts as texts_of};
 
 use crate::lines::lines;
 use crate::notice::{Notice, Part, load_notice, refusal_notice};
@@ -21,6 +21,16 @@ pub fn json(alloc: Global, names: &[String], outcome: &Outcome) -> Result<Vec<u8
     ensures { IfOk result (λ text. text.items ≡ json_of (map string_bytes names.now) outcome.now) }
 {
     let value = outcome_value(alloc, names, outcome)?;
+    let mut text = value.to_vec(alloc)?;
+    text.push(b'\n')?;
+    Ok(text)
+}
+
+/// The JSON of a notice.
+pub(crate) fn notice_json(alloc: Global, notice: Option<Notice>) -> Result<Vec<u8>, Memory>
+    ensures { IfOk result (λ text. text.items ≡ notice_json_of notice) }
+{
+    let value = notice_value(alloc, notice)?;
     let mut text = value.to_vec(alloc)?;
     text.push(b'\n')?;
     Ok(text)

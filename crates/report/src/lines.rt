@@ -1,10 +1,12 @@
 //! The lines of a report, without their ends.
 ghost use Rattle.std.specs.Prelude.{◌≡◌, ◌++◌, [], ◌∷◌, IfOk, OnOk, map, string_bytes};
-ghost use Rattle.report.specs.Lines.{checked_lines as checked_lines_of, declaration_line as declaration_line_of, declaration_lines, done_lines as done_lines_of, lines_of, notice_lines as notice_lines_of, number_line as number_line_of, outside_line as outside_line_of, rename_line as rename_line_of, undo_line as undo_line_of, footprint_line as footprint_line_of, sampled_line as sampled_line_of, shown_lines as shown_lines_of, undone_text};
+ghost use Rattle.report.specs.Lines.{checked_lines as checked_lines_of, declaration_line as declaration_line_of, declaration_lines, done_lines as done_lines_of, files_line as files_line_of, lines_of, notice_lines as notice_lines_of, number_line as number_line_of, outside_line as outside_line_of, rename_line as rename_line_of, undo_line as undo_line_of, footprint_line as footprint_line_of, sampled_line as sampled_line_of, shown_lines as shown_lines_of, undone_text};
 
 use crate::notice::{Notice, load_notice, refusal_notice};
-use crate::pieces::{joined, number_text, place_text};
-use rotor_base::{Counts, Foot, FootReport, Memory, Outcome, Place, Renamed, Row, SampleReport};
+use crate::pieces::{joined, number_text, place_text, placed_name};
+use rotor_base::{
+    Counts, Foot, FootReport, Memory, Name, Outcome, Place, Renamed, Row, SampleReport,
+};
 use std::alloc::Global;
 
 /// The usage line, with the forms that have a command.
@@ -41,35 +43,45 @@ fn done_lines(alloc: Global, names: &[String], done: &Renamed) -> Result<Row<Row
     ensures { IfOk result (λ lines. lines ≡ done_lines_of (map string_bytes names.now) done.now) }
 {
     let changed = done.changed.as_slice().len() as u64;
-    let mut lines = one(alloc, rename_line(alloc, done)?)?;
+    let mut lines = one(alloc, rename_line(alloc, &done.old, &done.new)?)?;
     add_declarations(alloc, names, &done.foot, &mut lines)?;
     lines.push(number_line(alloc, "references", done.refs)?)?;
-    lines.push(number_line(alloc, "files", changed)?)?;
-    lines.push(undo_line(alloc, names, done)?)?;
+    lines.push(files_line(alloc, changed)?)?;
+    lines.push(undo_line(alloc, names, done.undo_at, &done.old)?)?;
     Ok(lines)
 }
 
 /// The line of the old name and the new one.
-fn rename_line(alloc: Global, done: &Renamed) -> Result<Row<u8>, Memory>
-    ensures { IfOk result (λ line. line ≡ rename_line_of done.now) }
+pub(crate) fn rename_line(alloc: Global, old: &Name, new: &Name) -> Result<Row<u8>, Memory>
+    ensures { IfOk result (λ line. line ≡ rename_line_of old.now new.now) }
 {
-    let (old, new) = (done.old.as_bytes(), done.new.as_bytes());
-    joined(alloc, &[b"rename ", old, b" to ", new])
+    joined(
+        alloc,
+        &[b"rename ", old.as_bytes(), b" to ", new.as_bytes()],
+    )
 }
 
-/// The line that gives the words of the undo.
-fn undo_line(alloc: Global, names: &[String], done: &Renamed) -> Result<Row<u8>, Memory>
-    ensures { IfOk result (λ line. line ≡ undo_line_of (map string_bytes names.now) done.now) }
+/// The line of an undo, `undo P OLD`: the place, and the name that it had. `names` are as in [`crate::text`]. The one error
+/// is want of memory.
+pub fn undo_line(alloc: Global, names: &[String], at: Place, old: &Name) -> Result<Row<u8>, Memory>
+    ensures { IfOk result (λ line. line ≡ undo_line_of (map string_bytes names.now) at old.now) }
 {
-    let at = place_text(alloc, names, done.undo_at)?;
-    joined(alloc, &[b"undo ", at.as_slice(), b" ", done.old.as_bytes()])
+    let words = placed_name(alloc, names, at, old)?;
+    joined(alloc, &[b"undo ", words.as_slice()])
+}
+
+/// The line of the number of changed files, `files N`. The one error is want of memory.
+pub fn files_line(alloc: Global, count: u64) -> Result<Row<u8>, Memory>
+    ensures { IfOk result (λ line. line ≡ files_line_of count) }
+{
+    number_line(alloc, "files", count)
 }
 
 /// The lines of what was counted.
 fn checked_lines(alloc: Global, counts: &Counts) -> Result<Row<Row<u8>>, Memory>
     ensures { IfOk result (λ lines. lines ≡ checked_lines_of counts.now) }
 {
-    let mut lines = one(alloc, number_line(alloc, "files", counts.files)?)?;
+    let mut lines = one(alloc, files_line(alloc, counts.files)?)?;
     lines.push(number_line(alloc, "units", counts.units)?)?;
     lines.push(number_line(alloc, "declarations", counts.declarations)?)?;
     lines.push(number_line(alloc, "references", counts.references)?)?;
@@ -139,7 +151,7 @@ fn yes_or_no(undone: bool) -> &'static str
 }
 
 /// The line of a notice, if there is one.
-fn notice_lines(alloc: Global, notice: Option<Notice>) -> Result<Row<Row<u8>>, Memory>
+pub(crate) fn notice_lines(alloc: Global, notice: Option<Notice>) -> Result<Row<Row<u8>>, Memory>
     ensures { IfOk result (λ lines. lines ≡ notice_lines_of notice) }
 {
     match notice {
@@ -149,7 +161,7 @@ fn notice_lines(alloc: Global, notice: Option<Notice>) -> Result<Row<Row<u8>>, M
 }
 
 /// A word and a number.
-fn number_line(alloc: Global, word: &str, number: u64) -> Result<Row<u8>, Memory>
+pub(crate) fn number_line(alloc: Global, word: &str, number: u64) -> Result<Row<u8>, Memory>
     ensures { IfOk result (λ line. line ≡ number_line_of word.now number) }
 {
     let number = number_text(alloc, number)?;

@@ -94,7 +94,7 @@ fn alone(alloc: Global, kind: &str) -> Result<Option<Notice>, Memory>
 }
 
 /// A notice with a number.
-fn numbered(alloc: Global, kind: &str, number: u64) -> Result<Option<Notice>, Memory>
+pub(crate) fn numbered(alloc: Global, kind: &str, number: u64) -> Result<Option<Notice>, Memory>
     ensures { IfOk result (λ notice. notice ≡ project kind.now (Part.Plain (decimal number) ∷ [])) }
 {
     let number = Part::Plain(number_text(alloc, number)?);
@@ -152,7 +152,7 @@ fn form(
 }
 
 /// A notice with a place.
-fn place(
+pub(crate) fn place(
     alloc: Global,
     names: &[String],
     subject: Subject,
@@ -211,7 +211,7 @@ fn place_part(alloc: Global, names: &[String], at: Place) -> Result<Part, Memory
 }
 
 /// The notice of a kind with these values.
-fn made(
+pub(crate) fn made(
     alloc: Global,
     subject: Subject,
     kind: &str,

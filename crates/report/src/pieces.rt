@@ -1,10 +1,10 @@
 //! What the lines of a report are made of.
 ghost use Rattle.std.specs.Prelude.{◌≡◌, ◌++◌, IfOk, OnOk, map, string_bytes};
 ghost use Rattle.std.specs.Fmt.{decimal};
-ghost use Rattle.report.specs.Pieces.{behind_text as behind_text_of, file_of, goal_text as goal_text_of, join, kind_text as kind_text_of, offset_text as offset_text_of, place_text as place_text_of};
+ghost use Rattle.report.specs.Pieces.{behind_text as behind_text_of, file_of, goal_text as goal_text_of, join, kind_text as kind_text_of, offset_text as offset_text_of, place_text as place_text_of, placed_name as placed_name_of};
 ghost use Rattle.report.specs.Text.{ended};
 
-use rotor_base::{FormKind, Goal, Memory, Place, Row};
+use rotor_base::{FormKind, Goal, Memory, Name, Place, Row};
 use std::alloc::Global;
 
 /// Some words, one directly behind the other.
@@ -30,7 +30,7 @@ pub fn push_line(text: &mut Vec<u8>, words: &[&[u8]]) -> Result<(), Memory>
 }
 
 /// The name of a source by its number; a number past the list has the empty name.
-pub fn file_name(names: &[String], file: u32) -> &[u8]
+pub(crate) fn file_name(names: &[String], file: u32) -> &[u8]
     ensures { result.now ≡ file_of (map string_bytes names.now) file }
 {
     match names.get(file as usize) {
@@ -47,8 +47,8 @@ pub fn number_text(alloc: Global, number: u64) -> Result<Row<u8>, Memory>
     joined(alloc, &[digits.as_bytes()])
 }
 
-/// A place, `FILE#N`. The one error is want of memory.
-pub fn place_text(alloc: Global, names: &[String], place: Place) -> Result<Row<u8>, Memory>
+/// A place, `FILE#N`.
+pub(crate) fn place_text(alloc: Global, names: &[String], place: Place) -> Result<Row<u8>, Memory>
     ensures { IfOk result (λ text. text ≡ place_text_of (map string_bytes names.now) place) }
 {
     let number = number_text(alloc, u64::from(place.token))?;
@@ -56,6 +56,19 @@ pub fn place_text(alloc: Global, names: &[String], place: Place) -> Result<Row<u
         alloc,
         &[file_name(names, place.file), b"#", number.as_slice()],
     )
+}
+
+/// A place and a name, `FILE#N NAME`.
+pub(crate) fn placed_name(
+    alloc: Global,
+    names: &[String],
+    at: Place,
+    name: &Name,
+) -> Result<Row<u8>, Memory>
+    ensures { IfOk result (λ text. text ≡ placed_name_of (map string_bytes names.now) at name.now) }
+{
+    let at = place_text(alloc, names, at)?;
+    joined(alloc, &[at.as_slice(), b" ", name.as_bytes()])
 }
 
 /// A byte of a source, `FILE@OFFSET`.

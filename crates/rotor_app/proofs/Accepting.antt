@@ -1,12 +1,10 @@
 -- If the answer of a command is an Ok, or `verify` is asked of a valid respelling, the reply is Done.
-use Rattle.std.proofs.Common.{◌≡◌, ◌≤◌, ℕ, List, [], Bool, true, false, Option, Some, None, Result, Ok, Err, length, refl, ap, subst, ◌∙◌}
+use Rattle.std.proofs.Common.{◌≡◌, ℕ, List, [], Bool, false, Option, Some, None, Result, Ok, Err, refl, ap, subst, ◌∙◌}
 use Rattle.rotor_base.specs.Files.{FileSet, names_of}
-use Rattle.rotor_base.specs.Limits.{max_file_bytes}
-use Rattle.rotor_base.specs.Lines.{feed_lines}
 use Rattle.rotor_base.specs.declared.refusal.Refusal.{Refusal}
-use Rattle.rotor_base.specs.declared.report.Outcome.{Outcome}
 use Rattle.rotor_base.specs.declared.report.Outcome.TheVariants as outcome
 use Rattle.rotor_base.specs.declared.report.SampleReport.{SampleReport}
+use Rattle.rotor_base.specs.declared.target.Target.{Target}
 use Rattle.tree_io.specs.Outside.{FileMap}
 use Rattle.project_load.specs.Load.{loaded}
 use Rattle.project_load.specs.Listed.{Lists}
@@ -14,10 +12,6 @@ use Rattle.project_load.specs.declared.error.ListError.{ListError}
 use Rattle.apply_journal.specs.Recovered.{IsLost}
 use Rattle.cli_words.specs.declared.command.Command.{Command}
 use Rattle.cli_words.specs.declared.command.Command.TheVariants as command
-use Rattle.rename_batch.specs.declared.step.Step.{Step}
-use Rattle.rename_batch.specs.declared.step.Batched.{Batched}
-use Rattle.rename_batch.specs.Batch.{Batches}
-use Rattle.rename_batch.specs.Reading.{IsBatch}
 use Rattle.rename_verify.specs.declared.verdict.Verdict.{Verdict}
 use Rattle.rename_verify.specs.declared.verdict.Verdict.TheVariants.{Yes, No}
 use Rattle.rename_verify.specs.Laws.{IsValidRespelling, IsYesAnswer}
@@ -25,37 +19,42 @@ use Rattle.sample_project.specs.Sample.{Samples}
 use Rattle.rotor_app.specs.declared.status.Status.{Status}
 use Rattle.rotor_app.specs.declared.status.Status.TheVariants.{Done}
 use Rattle.rotor_app.specs.declared.reply.Reply.{Reply}
-use Rattle.rotor_app.specs.Said.{status_of, reply_by, Answers, MayWrite, answered, batch_in, batched_reply, batched, runs, SaysTo, answers, batches}
+use Rattle.rotor_app.specs.declared.writing.Writing.{Writing}
+use Rattle.rotor_app.specs.Writing.{is_writing, writing_of}
+use Rattle.rotor_app.specs.Said.{silent_reply, renamed_reply, batched_reply, judged_reply, MayWrite, over, permitted, SaysChecked, SaysCheck}
+use Rattle.rotor_app.specs.Said.{SaysShown, SaysShape, SaysRenaming, SaysRename, batch_in, batched, SaysFound, runs, SaysBatch}
 use Rattle.rotor_app.specs.Said.{SaysRecovery, idle, finished, lost, SaysVerify, no_list, listed, SaysAgainst, unlisted, judged, IsJudged}
-use Rattle.rotor_app.specs.Said.{judged_reply, SaysSample, Says, SomeReply}
+use Rattle.rotor_app.specs.Said.{SaysSample, Says, SomeReply}
 use Rattle.rotor_app.specs.Table.{IsAsSaid, Seen}
 use Rattle.rotor_app.specs.Laws.{HasLaws}
-use Rattle.rotor_app.specs.Done.{IsDoneIfAccepted}
-use Rattle.rotor_app.proofs.OneReply.{one_sampled, one_to}
+use Rattle.rotor_app.specs.Done.{IsAccepted, IsDoneIfAccepted}
+use Rattle.rotor_app.proofs.OneReply.{one_to_check, one_to_shape, one_to_rename, one_to_batch, one_to_sample}
 use Rattle.rotor_app.proofs.Undoing.{list_project}
 
--- a command whose answer is an Ok is done
-over_done : (c : Command) (held : FileMap) (files : FileSet) (o : Outcome) (reply : Reply) → SaysTo c held reply → loaded held ≡ Ok files
-    → MayWrite c held → Answers c files o → status_of o ≡ Done → reply.status ≡ Done
-over_done c held files o reply s l may a d =
-    ap (λ (r : Reply). r.status) (one_to c held reply (reply_by c (names_of files.entries) o) s
-    (answers (names_of files.entries) o (answered files o l may a) refl)) ∙ d
+-- ---- a reply over files that a folder loads as
 
--- a batch that is accepted is done
-batch_done : (held : FileMap) (file : List ℕ) (write : Bool) (files : FileSet) (bytes : List ℕ) (steps : List Step) (done : Batched) (reply : Reply)
-    → SaysTo (command.Batch file write) held reply → loaded held ≡ Ok files → MayWrite (command.Batch file write) held
-    → batch_in held file ≡ Some bytes → length bytes ≤ max_file_bytes → IsBatch (feed_lines bytes) steps → Batches files steps (Ok done)
-    → reply.status ≡ Done
-batch_done held file write files bytes steps done reply s l may found few is accepted =
-    let c = command.Batch file write in
-    ap (λ (r : Reply). r.status) (one_to c held reply (batched_reply c (names_of files.entries) done) s
-    (batches file files refl l may (runs bytes steps found few is (batched done accepted refl))))
+module _ (held : FileMap) (files : FileSet) (loads : loaded held ≡ Ok files) (reply other : Reply) where
+  check_done : SaysCheck held reply → SaysChecked files other → other.status ≡ Done → reply.status ≡ Done
+  check_done s a d = ap (λ (r : Reply). r.status) (one_to_check held reply other s (over files loads a)) ∙ d
 
--- a sample that is accepted is done
+  shape_done : (target : Target) → SaysShape target held reply → SaysShown target files other → other.status ≡ Done → reply.status ≡ Done
+  shape_done target s a d = ap (λ (r : Reply). r.status) (one_to_shape target held reply other s (over files loads a)) ∙ d
+
+  rename_done : (target : Target) (name : List ℕ) (writing : Writing) (json : Bool) → SaysRename target name writing json held reply
+      → MayWrite (is_writing writing) held → SaysRenaming target name writing json files other → other.status ≡ Done → reply.status ≡ Done
+  rename_done target name writing json s may a d =
+      ap (λ (r : Reply). r.status) (one_to_rename target name writing json held reply other s (over files loads (permitted may a))) ∙ d
+
+  batch_done : (file : List ℕ) (write : Bool) → SaysBatch file write held reply → MayWrite write held
+      → SaysFound file write (batch_in held file) files other → other.status ≡ Done → reply.status ≡ Done
+  batch_done file write s may a d =
+      ap (λ (r : Reply). r.status) (one_to_batch file write held reply other s (over files loads (permitted may a))) ∙ d
+
+-- ---- sample and recover
+
 sample_done : (units : ℕ) (report : SampleReport) (reply : Reply) → SaysSample units reply → Samples units (Ok report) → reply.status ≡ Done
 sample_done units report reply s is =
-    ap (λ (r : Reply). r.status) (one_sampled units reply (reply_by (command.Sample units) [] (outcome.Sampled report)) s
-    (outcome.Sampled report, (Ok report, is, refl), refl))
+    ap (λ (r : Reply). r.status) (one_to_sample units reply (silent_reply false [] (outcome.Sampled report)) s (Ok report, is, refl))
 
 recovery_done : (held : FileMap) (reply : Reply) → SaysRecovery held reply → (IsLost held → ⊥) → reply.status ≡ Done
 recovery_done held reply (idle shut e) n = ap (λ (r : Reply). r.status) e
@@ -93,25 +92,25 @@ module _ (laws : HasLaws) where
             yes_done (names_of old.entries) answer reply
             (laws.verified_all old new answer (list_project laws held old_name old f) (list_project laws held new_name new g) v d) e
 
-  by_accepted : (request : Option Command) (held : FileMap) (reply : Reply) (status : Status) → Says request held reply → status ≡ reply.status
-      → IsDoneIfAccepted request held status
+  by_accepted : (request : Option Command) (held : FileMap) (reply : Reply) → Says request held reply → IsAccepted request held → reply.status ≡ Done
   unfolding Says
-  by_accepted None held reply status s e = tt
-  by_accepted (Some command.Check) held reply status s e = λ files counts l a.
-      e ∙ over_done command.Check held files (outcome.Checked counts) reply s l (λ asked. let no : false ≡ true = asked in absurd cc)
-      (Ok counts, a, refl) refl
-  by_accepted (Some (command.Shape target)) held reply status s e = λ files shown l a.
-      e ∙ over_done (command.Shape target) held files (outcome.Shown shown) reply s l (λ asked. let no : false ≡ true = asked in absurd cc)
-      (Ok shown, a, refl) refl
-  by_accepted (Some (command.Rename target new write safe json)) held reply status s e = λ files done l may a.
-      e ∙ over_done (command.Rename target new write safe json) held files (outcome.Done done) reply s l may (Ok done, a, refl) refl
-  by_accepted (Some (command.Sample units)) held reply status s e = λ report a. e ∙ sample_done units report reply s a
-  by_accepted (Some (command.Verify old_name new_name)) held reply status s e =
-      λ old new f g v. e ∙ valid_done held old_name new_name reply s old new f g v
-  by_accepted (Some (command.Batch file write)) held reply status s e = λ files bytes steps done l may found few is a.
-      e ∙ batch_done held file write files bytes steps done reply s l may found few is a
-  by_accepted (Some command.Recover) held reply status s e = λ n. e ∙ recovery_done held reply s n
+  by_accepted None held reply s a = absurd a
+  by_accepted (Some command.Check) held reply s a =
+      check_done held a.files a.loads reply (silent_reply false (names_of a.files.entries) (outcome.Checked a.counts)) s (Ok a.counts, a.checks, refl)
+      refl
+  by_accepted (Some (command.Shape target)) held reply s a =
+      shape_done held a.files a.loads reply (silent_reply false (names_of a.files.entries) (outcome.Shown a.shown)) target s
+      (Ok a.shown, a.shows, refl) refl
+  by_accepted (Some (command.Rename target name write safe json)) held reply s a =
+      rename_done held a.files a.loads reply (renamed_reply (writing_of write safe) json (names_of a.files.entries) a.done) target name
+      (writing_of write safe) json s a.may (Ok a.done, a.renames, refl) refl
+  by_accepted (Some (command.Sample units)) held reply s a = sample_done units a.report reply s a.samples
+  by_accepted (Some (command.Verify old new)) held reply s a = valid_done held old new reply s a.old a.new a.old_files a.new_files a.valid
+  by_accepted (Some (command.Batch file write)) held reply s a =
+      batch_done held a.files a.loads reply (batched_reply write (names_of a.files.entries) a.done) file write s a.may
+      (runs a.bytes a.steps a.found a.few a.reads (batched a.done a.batches refl)) refl
+  by_accepted (Some command.Recover) held reply s a = recovery_done held reply s a
 
   pub done_if_accepted : (request : Option Command) (held : FileMap) (before now : Seen) (status : Status)
       → SomeReply request held (λ reply. IsAsSaid reply held before now status) → IsDoneIfAccepted request held status
-  done_if_accepted request held before now status s = by_accepted request held s.0 status s.1 s.2.status
+  done_if_accepted request held before now status s = λ accepted. s.2.status ∙ by_accepted request held s.0 s.1 accepted

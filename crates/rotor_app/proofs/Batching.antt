@@ -8,12 +8,8 @@ use Rattle.rotor_base.specs.Lines.{feed_lines}
 use Rattle.rotor_base.specs.declared.fault.Memory.{Memory}
 use Rattle.rotor_base.specs.declared.refusal.Refusal.{Refusal}
 use Rattle.rotor_base.specs.declared.refusal.LoadError.TheVariants.{TooLarge}
-use Rattle.rotor_base.specs.declared.report.Outcome.TheVariants as outcome
 use Rattle.tree_io.specs.Outside.{FileMap, IsFront}
-use Rattle.tree_io.specs.declared.outside.TreeError.{TreeError}
 use Rattle.project_load.specs.Listed.{is_listed_name}
-use Rattle.project_load.specs.Load.{loaded}
-use Rattle.cli_words.specs.declared.command.Command.{Command}
 use Rattle.rename_batch.specs.declared.error.BatchError.{BatchError}
 use Rattle.rename_batch.specs.declared.error.BatchError.TheVariants.{At, Memory as NoMemory}
 use Rattle.rename_batch.specs.declared.error.BatchReadError.{BatchReadError}
@@ -22,12 +18,10 @@ use Rattle.rename_batch.specs.declared.step.Step.{Step}
 use Rattle.rename_batch.specs.declared.step.Batched.{Batched}
 use Rattle.rename_batch.specs.Batch.{Batches, IsFailedFor}
 use Rattle.rename_batch.specs.Reading.{AreSteps, IsBatch, IsUnread}
-use Rattle.rotor_app.specs.declared.status.Status.TheVariants.{Done, Usage}
 use Rattle.rotor_app.specs.declared.reply.Reply.{Reply}
-use Rattle.rotor_app.specs.Words.{batch_file}
-use Rattle.rotor_app.specs.Said.{bad_batch, stopped_batch, batched_reply, reply_by, batch_in, IsReply, SaysSteps, stopped, batched, SaysBatch, lacks}
-use Rattle.rotor_app.specs.Said.{large, unread, runs, Permits, SaysTo, batches}
-use Rattle.rotor_app.proofs.Saying.{refusal_kind, no_usage_refusal}
+use Rattle.rotor_app.specs.Said.{bad_batch, stopped_batch, batched_reply, unloaded_reply, batch_in, IsCommandReply, SaysSteps, stopped, batched}
+use Rattle.rotor_app.specs.Said.{SaysFound, lacks, large, unread, runs}
+use Rattle.rotor_app.proofs.Saying.{refusal_kind}
 
 -- ---- the bytes that are read
 
@@ -59,7 +53,7 @@ front_read content now file bytes holds same e t h =
 
 -- ---- what is said
 
-module _ (c : Command) (file : List ℕ) (files : FileSet) (reply : Reply) where
+module _ (file : List ℕ) (write : Bool) (files : FileSet) (reply : Reply) where
   all_of : (whole bytes b : List ℕ) → bytes ≡ take 1048577 whole → Some bytes ≡ Some b → length b ≤ 1048576 → bytes ≡ whole
   all_of whole bytes b e f l =
       let same : b ≡ bytes = cc in
@@ -67,8 +61,8 @@ module _ (c : Command) (file : List ℕ) (files : FileSet) (reply : Reply) where
       e ∙ take_all 1048577 whole short
 
   -- all bytes of a file decide what its first bytes decide
-  widened : (whole bytes : List ℕ) → bytes ≡ take 1048577 whole → SaysBatch c file (Some bytes) files reply
-      → SaysBatch c file (Some whole) files reply
+  widened : (whole bytes : List ℕ) → bytes ≡ take 1048577 whole → SaysFound file write (Some bytes) files reply
+      → SaysFound file write (Some whole) files reply
   widened whole bytes e (lacks f r) = cc
   widened whole bytes e (large b f l r) = large whole refl (longer b f l) r where
     longer : (b : List ℕ) → Some bytes ≡ Some b → 1048576 < length b → 1048576 < length whole
@@ -78,46 +72,25 @@ module _ (c : Command) (file : List ℕ) (files : FileSet) (reply : Reply) where
       where
         by : (b : List ℕ) → Some bytes ≡ Some b → b ≡ bytes
         by b f = cc
-  widened whole bytes e (unread b n f l bad r) = subst (λ (v : List ℕ). SaysBatch c file (Some v) files reply) (all_of whole bytes b e f l)
+  widened whole bytes e (unread b n f l bad r) = subst (λ (v : List ℕ). SaysFound file write (Some v) files reply) (all_of whole bytes b e f l)
       (unread b n f l bad r)
-  widened whole bytes e (runs b steps f l is s) = subst (λ (v : List ℕ). SaysBatch c file (Some v) files reply) (all_of whole bytes b e f l)
+  widened whole bytes e (runs b steps f l is s) = subst (λ (v : List ℕ). SaysFound file write (Some v) files reply) (all_of whole bytes b e f l)
       (runs b steps f l is s)
 
-  pub said_lacking : (content : Option FileMap) (found : Option (List ℕ)) → found ≡ None
-      → IfSome content (λ held. found ≡ option_map (take 1048577) (batch_in held file)) → reply ≡ bad_batch 0
-      → IfSome content (λ held. SaysBatch c file (batch_in held file) files reply)
-  said_lacking None found n h r = tt
-  said_lacking (Some held) found n h r = by (batch_in held file) (sym n ∙ h) where
-    by : (there : Option (List ℕ)) → None ≡ option_map (take 1048577) there → SaysBatch c file there files reply
-    by None e = lacks refl r
-    by (Some whole) e = cc
-
-  pub said_found : (content : Option FileMap) (found : Option (List ℕ)) (bytes : List ℕ) → found ≡ Some bytes
+  -- the first bytes that are read decide, as all do
+  pub said_found : (content : Option FileMap) (found : Option (List ℕ))
       → IfSome content (λ held. found ≡ option_map (take 1048577) (batch_in held file))
-      → SaysBatch c file (Some bytes) files reply → IfSome content (λ held. SaysBatch c file (batch_in held file) files reply)
-  said_found None found bytes n h s = tt
-  said_found (Some held) found bytes n h s = by (batch_in held file) (sym n ∙ h) where
-    by : (there : Option (List ℕ)) → Some bytes ≡ option_map (take 1048577) there → SaysBatch c file there files reply
-    by None e = cc
-    by (Some whole) e = widened whole bytes (one e) s where
+      → SaysFound file write found files reply → IfSome content (λ held. SaysFound file write (batch_in held file) files reply)
+  said_found None found h s = tt
+  said_found (Some held) found h s = by found (batch_in held file) h s where
+    by : (found there : Option (List ℕ)) → found ≡ option_map (take 1048577) there → SaysFound file write found files reply
+        → SaysFound file write there files reply
+    by None None e s = s
+    by None (Some whole) e s = cc
+    by (Some bytes) None e s = cc
+    by (Some bytes) (Some whole) e s = widened whole bytes (one e) s where
       one : Some bytes ≡ Some (take 1048577 whole) → bytes ≡ take 1048577 whole
       one e = cc
-
--- a batch over the files that the folder loads as
-pub said_batch : (c : Command) (file : List ℕ) (files : FileSet) (content now : Option FileMap) (may : Bool) (result : Result Reply TreeError)
-    → now ≡ content → may ≡ true → batch_file c ≡ Some file
-    → IfSome content (λ held. loaded held ≡ Ok files) → IfSome content (λ held. Permits c held may)
-    → IfOk result (λ reply. IfSome now (λ held. SaysBatch c file (batch_in held file) files reply))
-    → IfOk result (λ reply. IfSome content (λ held. SaysTo c held reply))
-said_batch c file files content now may (Err e) same t b l p s = tt
-said_batch c file files content now may (Ok reply) same t b l p s =
-    by content may t l p (subst (λ (o : Option FileMap). IfSome o (λ held. SaysBatch c file (batch_in held file) files reply)) same s) where
-      by : (content : Option FileMap) (may : Bool) → may ≡ true → IfSome content (λ held. loaded held ≡ Ok files)
-          → IfSome content (λ held. Permits c held may)
-          → IfSome content (λ held. SaysBatch c file (batch_in held file) files reply) → IfSome content (λ held. SaysTo c held reply)
-      by None may t l p s = tt
-      by (Some held) true t l p s = batches file files b l p s
-      by (Some held) false t l p s = cc
 
 -- ---- the replies to the steps
 
@@ -130,57 +103,52 @@ steps_count (l ∷ lines) (step ∷ steps) h = omega (arith, steps_count lines s
 pub few_steps : (lines : List (List ℕ)) (steps these : List Step) → IsBatch lines steps → these ≡ steps → length these < 4294967296
 few_steps lines steps these is e = omega (arith, ap (λ (l : List Step). length l) e, steps_count lines steps is.each, is.few)
 
-pub said_done : (c : Command) (files : FileSet) (steps : List Step) (names : List (List ℕ)) (done : Batched) (result : Result Reply Memory)
+pub said_done : (write : Bool) (files : FileSet) (steps : List Step) (names : List (List ℕ)) (done : Batched) (result : Result Reply Memory)
     → names ≡ names_of files.entries → Batches files steps (Ok done)
-    → IfOk result (λ reply. reply ≡ batched_reply c names done) → IfOk result (SaysSteps c files steps)
-said_done c files steps names done (Err m) n a h = tt
-said_done c files steps names done (Ok reply) n a h = batched done a (h ∙ ap (λ (ns : List (List ℕ)). batched_reply c ns done) n)
+    → IfOk result (λ reply. reply ≡ batched_reply write names done) → IfOk result (SaysSteps write files steps)
+said_done write files steps names done (Err m) n a h = tt
+said_done write files steps names done (Ok reply) n a h = batched done a (h ∙ ap (λ (ns : List (List ℕ)). batched_reply write ns done) n)
 
-pub said_stop : (c : Command) (files : FileSet) (steps : List Step) (names : List (List ℕ)) (step : ℕ) (why : Refusal) (error : BatchError)
+pub said_stop : (write : Bool) (files : FileSet) (steps : List Step) (names : List (List ℕ)) (step : ℕ) (why : Refusal) (error : BatchError)
     (result : Result Reply Memory) → names ≡ names_of files.entries
     → error ≡ At step why → IsFailedFor (λ e. Batches files steps (Err e)) error → IfOk result (λ reply. reply ≡ stopped_batch names step why)
-    → IfOk result (SaysSteps c files steps)
-said_stop c files steps names step why error (Err m) n e a h = tt
-said_stop c files steps names step why error (Ok reply) n e a h = by (subst (IsFailedFor (λ f. Batches files steps (Err f))) e a) where
-  by : Batches files steps (Err (At step why)) ⊎ (At step why ≡ NoMemory) → SaysSteps c files steps reply
+    → IfOk result (SaysSteps write files steps)
+said_stop write files steps names step why error (Err m) n e a h = tt
+said_stop write files steps names step why error (Ok reply) n e a h = by (subst (IsFailedFor (λ f. Batches files steps (Err f))) e a) where
+  by : Batches files steps (Err (At step why)) ⊎ (At step why ≡ NoMemory) → SaysSteps write files steps reply
   by (inl b) = stopped step why b (h ∙ ap (λ (ns : List (List ℕ)). stopped_batch ns step why) n)
   by (inr m) = cc
 
-pub said_large : (c : Command) (file name bytes : List ℕ) (files : FileSet) (result : Result Reply Memory) → 1048576 < length bytes → name ≡ file
-    → IfOk result (λ reply. reply ≡ reply_by c [] (outcome.NotLoaded (TooLarge name))) → IfOk result (SaysBatch c file (Some bytes) files)
-said_large c file name bytes files (Err m) l n h = tt
-said_large c file name bytes files (Ok reply) l n h = large bytes refl l (h ∙ ap (λ (w : List ℕ). reply_by c [] (outcome.NotLoaded (TooLarge w))) n)
+pub said_large : (write : Bool) (file name bytes : List ℕ) (files : FileSet) (result : Result Reply Memory) → 1048576 < length bytes → name ≡ file
+    → IfOk result (λ reply. reply ≡ unloaded_reply false (TooLarge name)) → IfOk result (SaysFound file write (Some bytes) files)
+said_large write file name bytes files (Err m) l n h = tt
+said_large write file name bytes files (Ok reply) l n h = large bytes refl l (h ∙ ap (λ (w : List ℕ). unloaded_reply false (TooLarge w)) n)
 
-pub said_runs : (c : Command) (file bytes : List ℕ) (files : FileSet) (steps these : List Step) (result : Result Reply Memory)
+pub said_runs : (write : Bool) (file bytes : List ℕ) (files : FileSet) (steps these : List Step) (result : Result Reply Memory)
     → length bytes ≤ 1048576 → IsBatch (feed_lines bytes) steps → these ≡ steps
-    → IfOk result (SaysSteps c files these) → IfOk result (SaysBatch c file (Some bytes) files)
-said_runs c file bytes files steps these (Err m) l is e h = tt
-said_runs c file bytes files steps these (Ok reply) l is e h = runs bytes steps refl l is (subst (λ (ss : List Step). SaysSteps c files ss reply) e h)
+    → IfOk result (SaysSteps write files these) → IfOk result (SaysFound file write (Some bytes) files)
+said_runs write file bytes files steps these (Err m) l is e h = tt
+said_runs write file bytes files steps these (Ok reply) l is e h =
+    runs bytes steps refl l is (subst (λ (ss : List Step). SaysSteps write files ss reply) e h)
 
-pub said_unread : (c : Command) (file bytes : List ℕ) (files : FileSet) (number : ℕ) (error : BatchReadError) (result : Result Reply Memory)
+pub said_unread : (write : Bool) (file bytes : List ℕ) (files : FileSet) (number : ℕ) (error : BatchReadError) (result : Result Reply Memory)
     → length bytes ≤ 1048576 → error ≡ Line number
-    → IsUnread (feed_lines bytes) error → IfOk result (λ reply. reply ≡ bad_batch number) → IfOk result (SaysBatch c file (Some bytes) files)
-said_unread c file bytes files number error (Err m) l e bad h = tt
-said_unread c file bytes files number error (Ok reply) l e bad h = unread bytes number refl l (subst (IsUnread (feed_lines bytes)) e bad) h
+    → IsUnread (feed_lines bytes) error → IfOk result (λ reply. reply ≡ bad_batch number) → IfOk result (SaysFound file write (Some bytes) files)
+said_unread write file bytes files number error (Err m) l e bad h = tt
+said_unread write file bytes files number error (Ok reply) l e bad h = unread bytes number refl l (subst (IsUnread (feed_lines bytes)) e bad) h
 
--- the status of a reply to steps
-steps_kind : (c : Command) (files : FileSet) (steps : List Step) (reply : Reply) → SaysSteps c files steps reply → IsReply reply.status reply.writes
-steps_kind c files steps reply (stopped k why a e) = subst (λ (r : Reply). IsReply r.status r.writes) (sym e) (refusal_kind why)
-steps_kind c files steps reply (batched done a e) = subst (λ (r : Reply). IsReply r.status r.writes) (sym e) tt
+-- ---- the status of a reply to a batch
 
-steps_usage : (c : Command) (files : FileSet) (steps : List Step) (reply : Reply) → SaysSteps c files steps reply → reply.status ≡ Usage → ⊥
-steps_usage c files steps reply (stopped k why a e) u = no_usage_refusal why (sym (ap (λ (r : Reply). r.status) e) ∙ u)
-steps_usage c files steps reply (batched done a e) u = let no : Done ≡ Usage = sym (ap (λ (r : Reply). r.status) e) ∙ u in cc
+steps_kind : (write : Bool) (files : FileSet) (steps : List Step) (reply : Reply) → SaysSteps write files steps reply → IsCommandReply reply
+steps_kind write files steps reply (stopped k why a e) = subst IsCommandReply (sym e) (refusal_kind why)
+steps_kind write files steps reply (batched done a e) = subst IsCommandReply (sym e) tt
 
-pub all_kind : (c : Command) (files : FileSet) (steps : List Step) (result : Result Reply Memory) → IfOk result (SaysSteps c files steps)
-    → IfOk result (λ reply. IsReply reply.status reply.writes)
-all_kind c files steps (Err m) h = tt
-all_kind c files steps (Ok reply) h = steps_kind c files steps reply h
-
-pub no_usage : (c : Command) (files : FileSet) (steps : List Step) (result : Result Reply Memory) → IfOk result (SaysSteps c files steps)
-    → IfOk result (λ reply. reply.status ≡ Usage → ⊥)
-no_usage c files steps (Err m) h = tt
-no_usage c files steps (Ok reply) h = steps_usage c files steps reply h
+pub found_kind : (file : List ℕ) (write : Bool) (found : Option (List ℕ)) (files : FileSet) (reply : Reply)
+    → SaysFound file write found files reply → IsCommandReply reply
+found_kind file write found files reply (lacks n e) = subst IsCommandReply (sym e) refl
+found_kind file write found files reply (large bytes n l e) = subst IsCommandReply (sym e) refl
+found_kind file write found files reply (unread bytes number n l bad e) = subst IsCommandReply (sym e) refl
+found_kind file write found files reply (runs bytes steps n l is s) = steps_kind write files steps reply s
 
 -- ---- a listed file
 

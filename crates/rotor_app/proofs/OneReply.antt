@@ -1,16 +1,17 @@
 -- A command over a folder has at most one reply.
-use Rattle.std.proofs.Common.{◌≡◌, ◌<◌, ◌≤◌, ℕ, List, [], ◌∷◌, Option, Some, None, Result, Ok, Err, length, map, flat_map, codes, refl}
+use Rattle.std.proofs.Common.{◌≡◌, ◌<◌, ◌≤◌, ℕ, List, [], ◌∷◌, Bool, false, Option, Some, None, Result, Ok, Err, length, map, flat_map, codes, refl}
 use Rattle.std.proofs.Common.{sym, ap, subst, ◌∙◌, arith}
 use Rattle.std.specs.FinMap.{get}
 use Rattle.rotor_base.specs.Files.{FileSet, names_of}
 use Rattle.rotor_base.specs.Limits.{max_file_bytes}
 use Rattle.rotor_base.specs.Lines.{feed_lines}
-use Rattle.rotor_base.specs.declared.refusal.LoadError.{LoadError}
 use Rattle.rotor_base.specs.declared.refusal.Refusal.{Refusal}
-use Rattle.rotor_base.specs.declared.report.Outcome.{Outcome}
+use Rattle.rotor_base.specs.declared.report.Counts.{Counts}
+use Rattle.rotor_base.specs.declared.report.FootReport.{FootReport}
 use Rattle.rotor_base.specs.declared.report.Outcome.TheVariants as outcome
 use Rattle.rotor_base.specs.declared.report.SampleReport.{SampleReport}
 use Rattle.rotor_base.specs.declared.source.SourceFile.{SourceFile}
+use Rattle.rotor_base.specs.declared.target.Target.{Target}
 use Rattle.report.specs.Lines.{number_line}
 use Rattle.report.specs.Text.{ended}
 use Rattle.tree_io.specs.Outside.{FileMap}
@@ -22,8 +23,9 @@ use Rattle.project_load.proofs.OneList.{lists_are_one}
 use Rattle.apply_journal.specs.Plan.{IsPlan}
 use Rattle.apply_journal.specs.Recovered.{plan_name, plan_writes}
 use Rattle.apply_journal.proofs.Plans.{plans_one}
-use Rattle.cli_words.specs.declared.command.Command.{Command}
 use Rattle.cli_words.specs.declared.command.Command.TheVariants as command
+use Rattle.report.specs.Recover.{recovered_text}
+use Rattle.rename_files.specs.Answer.{Checks, Shows, Renames}
 use Rattle.rename_files.proofs.One.{one_check, one_footprint, one_renaming}
 use Rattle.rename_batch.specs.declared.error.BatchError.{BatchError}
 use Rattle.rename_batch.specs.declared.error.BatchError.TheVariants.{At}
@@ -36,18 +38,20 @@ use Rattle.rename_verify.specs.declared.verdict.Verdict.{Verdict}
 use Rattle.rename_verify.specs.declared.verdict.Verdict.TheVariants.{Yes, No}
 use Rattle.rename_verify.specs.Changed.{Changed}
 use Rattle.rename_verify.specs.Laws.{AreSameAnswers}
-use Rattle.rename_verify.specs.Text.{change_line}
+use Rattle.rename_verify.specs.Text.{yes_text}
 use Rattle.rename_verify.proofs.One.{verdicts_are_one}
 use Rattle.sample_project.specs.Sample.{Samples, report_of, sample_target}
 use Rattle.sample_project.specs.Sources.{sample_files}
-use Rattle.rotor_app.specs.Words.{batch_file}
 use Rattle.rotor_app.specs.declared.status.Status.TheVariants.{Done}
 use Rattle.rotor_app.specs.declared.reply.Reply.{Reply}
 use Rattle.rotor_app.specs.Laws.{RepliesAreOne}
-use Rattle.rotor_app.specs.Said.{reply_by, reply_of, as_outcome, Answers, IsAnswer, not_loaded, answered, IsPending, batch_in, bad_batch}
-use Rattle.rotor_app.specs.Said.{stopped_batch, batched_reply, SaysSteps, stopped, batched, SaysBatch, lacks, large, unread, runs}
-use Rattle.rotor_app.specs.Said.{SaysTo, answers, pends, batches, SaysRecovery, idle, finished, lost, recovered_text, RefusesList}
-use Rattle.rotor_app.specs.Said.{judged_reply, IsJudged, SaysAgainst, unlisted, judged, SaysVerify, no_list, listed, SaysSample, Says}
+use Rattle.rotor_app.specs.declared.writing.Writing.{Writing}
+use Rattle.rotor_app.specs.Writing.{is_writing, writing_of}
+use Rattle.rotor_app.specs.Said.{reply_of, silent_reply, unloaded_reply, renaming_reply, bad_batch, stopped_batch, batched_reply, judged_reply}
+use Rattle.rotor_app.specs.Said.{as_outcome, SaysLoaded, not_loaded, over, SaysPermitted, pends, permitted, SaysChecked, SaysCheck, SaysShown}
+use Rattle.rotor_app.specs.Said.{SaysShape, SaysRenaming, SaysRename, batch_in, SaysSteps, stopped, batched, SaysFound, lacks, large, unread, runs, SaysBatch}
+use Rattle.rotor_app.specs.Said.{SaysRecovery, idle, finished, lost, RefusesList, IsJudged, SaysAgainst, unlisted, judged}
+use Rattle.rotor_app.specs.Said.{SaysVerify, no_list, listed, SaysSample, Says}
 
 -- ---- answers of two kinds
 
@@ -66,119 +70,107 @@ same_some {A} x a b h k = let same : ◌≡◌ {A = Option A} (Some a) (Some b) 
 none_or_some : {A : Type 0} (x : Option A) (a : A) → x ≡ None → x ≡ Some a → ⊥
 none_or_some {A} x a h k = let wrong : ◌≡◌ {A = Option A} None (Some a) = sym h ∙ k in cc
 
--- ---- commands over the files that a folder loads as
+-- ---- answers, and folders that load or do not
 
-one_answer : (c : Command) (files : FileSet) (o p : Outcome) → Answers c files o → Answers c files p → o ≡ p
-one_answer command.Check files o p (a, h, e) (b, k, f) = e ∙ ap (as_outcome outcome.Checked) (one_check files a b h k) ∙ sym f
-one_answer (command.Shape target) files o p (a, h, e) (b, k, f) =
-    e ∙ ap (as_outcome outcome.Shown) (one_footprint files target a b h k) ∙ sym f
-one_answer (command.Rename target name write safe json) files o p (a, h, e) (b, k, f) =
-    e ∙ ap (as_outcome outcome.Done) (one_renaming files target name a b h k) ∙ sym f
-one_answer (command.Sample units) files o p h k = absurd h
-one_answer (command.Verify old new) files o p h k = absurd h
-one_answer (command.Batch file write) files o p h k = absurd h
-one_answer command.Recover files o p h k = absurd h
+one_made : {A : Type 0} (P : Result A Refusal → Type 0) (f : Result A Refusal → Reply) → ((a b : Result A Refusal) → P a → P b → a ≡ b)
+    → (one other : Reply) → ((r : Result A Refusal) × P r × (one ≡ f r)) → ((r : Result A Refusal) × P r × (other ≡ f r)) → one ≡ other
+one_made P f same one other (a, h, e) (b, k, g) = e ∙ ap f (same a b h k) ∙ sym g
 
-no_answer_to_batch : (c : Command) (file : List ℕ) (files : FileSet) (o : Outcome) → batch_file c ≡ Some file → Answers c files o → ⊥
-no_answer_to_batch command.Check file files o b h = cc
-no_answer_to_batch (command.Shape target) file files o b h = cc
-no_answer_to_batch (command.Rename target name write safe json) file files o b h = cc
-no_answer_to_batch (command.Sample units) file files o b h = h
-no_answer_to_batch (command.Verify old new) file files o b h = h
-no_answer_to_batch (command.Batch other write) file files o b h = h
-no_answer_to_batch command.Recover file files o b h = h
+one_loaded : (json : Bool) (P : FileSet → Reply → Type 0) (held : FileMap) → ((files : FileSet) (a b : Reply) → P files a → P files b → a ≡ b)
+    → (one other : Reply) → SaysLoaded json P held one → SaysLoaded json P held other → one ≡ other
+one_loaded json P held same one other (not_loaded error l e) (not_loaded why m f) =
+    e ∙ ap (unloaded_reply json) (same_err (loaded held) error why l m) ∙ sym f
+one_loaded json P held same one other (not_loaded error l e) (over files m q) = absurd (ok_or_err (loaded held) files error m l)
+one_loaded json P held same one other (over files l p) (not_loaded error m f) = absurd (ok_or_err (loaded held) files error l m)
+one_loaded json P held same one other (over files l p) (over others m q) =
+    same others one other (subst (λ (f : FileSet). P f one) (same_ok (loaded held) files others l m) p) q
 
-module _ (c : Command) (held : FileMap) where
-  one_said : (ns ms : List (List ℕ)) (o p : Outcome) → IsAnswer held c ns o → IsAnswer held c ms p → reply_by c ns o ≡ reply_by c ms p
-  one_said ns ms o p (not_loaded error l) (not_loaded other m) =
-      ap (λ (e : LoadError). reply_by c [] (outcome.NotLoaded e)) (same_err (loaded held) error other l m)
-  one_said ns ms o p (not_loaded error l) (answered files _ m may b) = absurd (ok_or_err (loaded held) files error m l)
-  one_said ns ms o p (answered files _ l may a) (not_loaded error m) = absurd (ok_or_err (loaded held) files error l m)
-  one_said ns ms o p (answered files _ l may a) (answered others _ m might b) =
-      let same : files ≡ others = same_ok (loaded held) files others l m in
-      let outs : o ≡ p = one_answer c others o p (subst (λ (f : FileSet). Answers c f o) same a) b in
-      λ i. reply_by c (names_of (same i).entries) (outs i)
+one_permitted : (writes json : Bool) (held : FileMap) (P : Reply → Type 0) → ((a b : Reply) → P a → P b → a ≡ b)
+    → (one other : Reply) → SaysPermitted writes json held P one → SaysPermitted writes json held P other → one ≡ other
+one_permitted writes json held P same one other (pends q e) (pends r f) = e ∙ sym f
+one_permitted writes json held P same one other (pends q e) (permitted may p) = absurd (may q.asked q.opened)
+one_permitted writes json held P same one other (permitted may p) (pends q f) = absurd (may q.asked q.opened)
+one_permitted writes json held P same one other (permitted may p) (permitted might q) = same one other p q
 
-  said_or_pending : (ns : List (List ℕ)) (o : Outcome) → IsAnswer held c ns o → IsPending c held → ⊥
-  said_or_pending ns o (not_loaded error l) q = ok_or_err (loaded held) q.files error q.loads l
-  said_or_pending ns o (answered files _ l may a) q = may q.asked q.opened
+-- ---- check, footprint, rename
 
-  said_or_batch : (ns : List (List ℕ)) (o : Outcome) (file : List ℕ) (files : FileSet) → IsAnswer held c ns o → batch_file c ≡ Some file
-      → loaded held ≡ Ok files → ⊥
-  said_or_batch ns o file files (not_loaded error l) b m = ok_or_err (loaded held) files error m l
-  said_or_batch ns o file files (answered others _ l may a) b m = no_answer_to_batch c file others o b a
+pub one_to_check : (held : FileMap) (one other : Reply) → SaysCheck held one → SaysCheck held other → one ≡ other
+one_to_check held = one_loaded false SaysChecked held (λ files.
+    one_made (Checks files) (λ (r : Result Counts Refusal). silent_reply false (names_of files.entries) (as_outcome outcome.Checked r))
+    (one_check files))
 
-  -- ---- batches
+pub one_to_shape : (target : Target) (held : FileMap) (one other : Reply) → SaysShape target held one → SaysShape target held other → one ≡ other
+one_to_shape target held = one_loaded false (SaysShown target) held (λ files.
+    one_made (Shows files target) (λ (r : Result FootReport Refusal). silent_reply false (names_of files.entries) (as_outcome outcome.Shown r))
+    (one_footprint files target))
 
-  module _ (files : FileSet) where
-    one_steps : (steps : List Step) (one other : Reply) → SaysSteps c files steps one → SaysSteps c files steps other → one ≡ other
-    one_steps steps one other (stopped n why h e) (stopped m reason k f) =
-        let same : ◌≡◌ {A = Result Batched BatchError} (Err (At n why)) (Err (At m reason)) =
-        batches_are_one one_renaming files steps (Err (At n why)) (Err (At m reason)) h k in
-        let number : n ≡ m = cc in
-        let refusal : why ≡ reason = cc in
-        e ∙ (λ i. stopped_batch (names_of files.entries) (number i) (refusal i)) ∙ sym f
-    one_steps steps one other (stopped n why h e) (batched done k f) =
-        absurd (let wrong : ◌≡◌ {A = Result Batched BatchError} (Err (At n why)) (Ok done) =
-        batches_are_one one_renaming files steps (Err (At n why)) (Ok done) h k in cc)
-    one_steps steps one other (batched done h e) (stopped n why k f) =
-        absurd (let wrong : ◌≡◌ {A = Result Batched BatchError} (Ok done) (Err (At n why)) =
-        batches_are_one one_renaming files steps (Ok done) (Err (At n why)) h k in cc)
-    one_steps steps one other (batched done h e) (batched last k f) =
-        let same : done ≡ last = same_ok (Ok done) done last refl (batches_are_one one_renaming files steps (Ok done) (Ok last) h k) in
-        e ∙ ap (batched_reply c (names_of files.entries)) same ∙ sym f
+pub one_to_rename : (target : Target) (name : List ℕ) (writing : Writing) (json : Bool) (held : FileMap) (one other : Reply)
+    → SaysRename target name writing json held one → SaysRename target name writing json held other → one ≡ other
+one_to_rename target name writing json held =
+    one_loaded json (λ (files : FileSet). SaysPermitted (is_writing writing) json held (SaysRenaming target name writing json files)) held (λ files.
+    one_permitted (is_writing writing) json held (SaysRenaming target name writing json files)
+    (one_made (Renames files target name) (renaming_reply writing json (names_of files.entries)) (one_renaming files target name)))
 
-    module _ (file : List ℕ) (found : Option (List ℕ)) where
-      few_or_many : (b d : List ℕ) → found ≡ Some b → found ≡ Some d → max_file_bytes < length b → length d ≤ max_file_bytes → ⊥
-      few_or_many b d h k many few =
-          let same = same_some found b d h k in
-          let short = subst (λ (l : List ℕ). length l ≤ max_file_bytes) (sym same) few in
-          omega (arith, many, short)
+-- ---- batch
 
-      one_batched : (one other : Reply) → SaysBatch c file found files one → SaysBatch c file found files other → one ≡ other
-      one_batched one other (lacks n e) (lacks m f) = e ∙ sym f
-      one_batched one other (lacks n e) (large d k l f) = absurd (none_or_some found d n k)
-      one_batched one other (lacks n e) (unread d number k l b f) = absurd (none_or_some found d n k)
-      one_batched one other (lacks n e) (runs d steps k l b s) = absurd (none_or_some found d n k)
-      one_batched one other (large d k l e) (lacks n f) = absurd (none_or_some found d n k)
-      one_batched one other (large d k l e) (large b h m f) = e ∙ sym f
-      one_batched one other (large d k l e) (unread b number h m w f) = absurd (few_or_many d b k h l m)
-      one_batched one other (large d k l e) (runs b steps h m w s) = absurd (few_or_many d b k h l m)
-      one_batched one other (unread d number k l b e) (lacks n f) = absurd (none_or_some found d n k)
-      one_batched one other (unread d number k l b e) (large a h m f) = absurd (few_or_many a d h k m l)
-      one_batched one other (unread d number k l b e) (unread a count h m w f) =
-          let same = same_some found d a k h in
-          let bad = subst (λ (bytes : List ℕ). IsBadLine (feed_lines bytes) number) same b in
-          e ∙ ap bad_batch (one_bad_line (feed_lines a) number count bad w) ∙ sym f
-      one_batched one other (unread d number k l b e) (runs a steps h m w s) =
-          let same = same_some found d a k h in
-          absurd (batch_or_bad_line (feed_lines a) steps number w (subst (λ (bytes : List ℕ). IsBadLine (feed_lines bytes) number) same b))
-      one_batched one other (runs d steps k l b s) (lacks n f) = absurd (none_or_some found d n k)
-      one_batched one other (runs d steps k l b s) (large a h m f) = absurd (few_or_many a d h k m l)
-      one_batched one other (runs d steps k l b s) (unread a number h m w f) =
-          let same = same_some found a d h k in
-          absurd (batch_or_bad_line (feed_lines d) steps number b (subst (λ (bytes : List ℕ). IsBadLine (feed_lines bytes) number) same w))
-      one_batched one other (runs d steps k l b s) (runs a others h m w t) =
-          let same = same_some found d a k h in
-          let read = subst (λ (bytes : List ℕ). IsBatch (feed_lines bytes) steps) same b in
-          one_steps others one other (subst (λ (list : List Step). SaysSteps c files list one) (one_batch (feed_lines a) steps others read w) s) t
+module _ (write : Bool) (files : FileSet) where
+  one_steps : (steps : List Step) (one other : Reply) → SaysSteps write files steps one → SaysSteps write files steps other → one ≡ other
+  one_steps steps one other (stopped n why h e) (stopped m reason k f) =
+      let same : ◌≡◌ {A = Result Batched BatchError} (Err (At n why)) (Err (At m reason)) =
+      batches_are_one one_renaming files steps (Err (At n why)) (Err (At m reason)) h k in
+      let number : n ≡ m = cc in
+      let refusal : why ≡ reason = cc in
+      e ∙ (λ i. stopped_batch (names_of files.entries) (number i) (refusal i)) ∙ sym f
+  one_steps steps one other (stopped n why h e) (batched done k f) =
+      absurd (let wrong : ◌≡◌ {A = Result Batched BatchError} (Err (At n why)) (Ok done) =
+      batches_are_one one_renaming files steps (Err (At n why)) (Ok done) h k in cc)
+  one_steps steps one other (batched done h e) (stopped n why k f) =
+      absurd (let wrong : ◌≡◌ {A = Result Batched BatchError} (Ok done) (Err (At n why)) =
+      batches_are_one one_renaming files steps (Ok done) (Err (At n why)) h k in cc)
+  one_steps steps one other (batched done h e) (batched last k f) =
+      let same : done ≡ last = same_ok (Ok done) done last refl (batches_are_one one_renaming files steps (Ok done) (Ok last) h k) in
+      e ∙ ap (batched_reply write (names_of files.entries)) same ∙ sym f
 
-  pub one_to : (one other : Reply) → SaysTo c held one → SaysTo c held other → one ≡ other
-  one_to one other (answers ns o a e) (answers ms p b f) = e ∙ one_said ns ms o p a b ∙ sym f
-  one_to one other (answers ns o a e) (pends q f) = absurd (said_or_pending ns o a q)
-  one_to one other (answers ns o a e) (batches file files b l may s) = absurd (said_or_batch ns o file files a b l)
-  one_to one other (pends q e) (answers ns o a f) = absurd (said_or_pending ns o a q)
-  one_to one other (pends q e) (pends r f) = e ∙ sym f
-  one_to one other (pends q e) (batches file files b l may s) = absurd (may q.asked q.opened)
-  one_to one other (batches file files b l may s) (answers ns o a f) = absurd (said_or_batch ns o file files a b l)
-  one_to one other (batches file files b l may s) (pends q f) = absurd (may q.asked q.opened)
-  one_to one other (batches file files b l may s) (batches again others d m might t) =
-      let name : file ≡ again = same_some (batch_file c) file again b d in
-      let same : files ≡ others = same_ok (loaded held) files others l m in
-      let first : SaysBatch c again (batch_in held again) others one =
-      subst (λ (f : FileSet). SaysBatch c again (batch_in held again) f one) same
-      (subst (λ (n : List ℕ). SaysBatch c n (batch_in held n) files one) name s) in
-      one_batched others again (batch_in held again) one other first t
+  module _ (file : List ℕ) (found : Option (List ℕ)) where
+    few_or_many : (b d : List ℕ) → found ≡ Some b → found ≡ Some d → max_file_bytes < length b → length d ≤ max_file_bytes → ⊥
+    few_or_many b d h k many few =
+        let same = same_some found b d h k in
+        let short = subst (λ (l : List ℕ). length l ≤ max_file_bytes) (sym same) few in
+        omega (arith, many, short)
+
+    pub one_found : (one other : Reply) → SaysFound file write found files one → SaysFound file write found files other → one ≡ other
+    one_found one other (lacks n e) (lacks m f) = e ∙ sym f
+    one_found one other (lacks n e) (large d k l f) = absurd (none_or_some found d n k)
+    one_found one other (lacks n e) (unread d number k l b f) = absurd (none_or_some found d n k)
+    one_found one other (lacks n e) (runs d steps k l b s) = absurd (none_or_some found d n k)
+    one_found one other (large d k l e) (lacks n f) = absurd (none_or_some found d n k)
+    one_found one other (large d k l e) (large b h m f) = e ∙ sym f
+    one_found one other (large d k l e) (unread b number h m w f) = absurd (few_or_many d b k h l m)
+    one_found one other (large d k l e) (runs b steps h m w s) = absurd (few_or_many d b k h l m)
+    one_found one other (unread d number k l b e) (lacks n f) = absurd (none_or_some found d n k)
+    one_found one other (unread d number k l b e) (large a h m f) = absurd (few_or_many a d h k m l)
+    one_found one other (unread d number k l b e) (unread a count h m w f) =
+        let same = same_some found d a k h in
+        let bad = subst (λ (bytes : List ℕ). IsBadLine (feed_lines bytes) number) same b in
+        e ∙ ap bad_batch (one_bad_line (feed_lines a) number count bad w) ∙ sym f
+    one_found one other (unread d number k l b e) (runs a steps h m w s) =
+        let same = same_some found d a k h in
+        absurd (batch_or_bad_line (feed_lines a) steps number w (subst (λ (bytes : List ℕ). IsBadLine (feed_lines bytes) number) same b))
+    one_found one other (runs d steps k l b s) (lacks n f) = absurd (none_or_some found d n k)
+    one_found one other (runs d steps k l b s) (large a h m f) = absurd (few_or_many a d h k m l)
+    one_found one other (runs d steps k l b s) (unread a number h m w f) =
+        let same = same_some found a d h k in
+        absurd (batch_or_bad_line (feed_lines d) steps number b (subst (λ (bytes : List ℕ). IsBadLine (feed_lines bytes) number) same w))
+    one_found one other (runs d steps k l b s) (runs a others h m w t) =
+        let same = same_some found d a k h in
+        let read = subst (λ (bytes : List ℕ). IsBatch (feed_lines bytes) steps) same b in
+        one_steps others one other (subst (λ (list : List Step). SaysSteps write files list one) (one_batch (feed_lines a) steps others read w) s) t
+
+pub one_to_batch : (file : List ℕ) (write : Bool) (held : FileMap) (one other : Reply) → SaysBatch file write held one
+    → SaysBatch file write held other → one ≡ other
+one_to_batch file write held =
+    one_loaded false (λ (files : FileSet). SaysPermitted write false held (SaysFound file write (batch_in held file) files)) held (λ files.
+    one_permitted write false held (SaysFound file write (batch_in held file) files) (one_found write files file (batch_in held file)))
 
 -- ---- a recovery
 
@@ -208,7 +200,7 @@ one_refused_list name error other a b e h k = by other (subst (λ (x : ListError
 
 one_judged : (names : List (List ℕ)) (a b : Result Verdict Refusal) → AreSameAnswers a b → judged_reply names a ≡ judged_reply names b
 one_judged names (Ok (Yes a)) (Ok (Yes b)) h =
-    ap (λ (list : List Changed). reply_of Done [] (flat_map ended (number_line (codes "verified") (length list) ∷ map (change_line names) list))) h
+    ap (λ (list : List Changed). reply_of Done [] (yes_text names list)) h
 one_judged names (Ok (Yes a)) (Ok (No b)) h = absurd h
 one_judged names (Ok (Yes a)) (Err b) h = absurd h
 one_judged names (Ok (No a)) (Ok (Yes b)) h = absurd h
@@ -256,18 +248,18 @@ one_sample n (Err a) (Ok b) h (d, k, u, e) =
 one_sample n (Err a) (Err b) h k =
     ap Err (same_err (Err a) a b refl (one_renaming (sample_files n) sample_target (codes "renamed") (Err a) (Err b) h k))
 
-pub one_sampled : (units : ℕ) (a b : Reply) → SaysSample units a → SaysSample units b → a ≡ b
-one_sampled units a b (o, (r, h, s), e) (p, (t, k, u), f) =
-    e ∙ ap (reply_by (command.Sample units) []) (s ∙ ap (as_outcome outcome.Sampled) (one_sample units r t h k) ∙ sym u) ∙ sym f
+pub one_to_sample : (units : ℕ) (one other : Reply) → SaysSample units one → SaysSample units other → one ≡ other
+one_to_sample units =
+    one_made (Samples units) (λ (r : Result SampleReport Refusal). silent_reply false [] (as_outcome outcome.Sampled r)) (one_sample units)
 
 pub replies_are_one : RepliesAreOne
 unfolding Says
 replies_are_one None held one other h k = h ∙ sym k
-replies_are_one (Some command.Check) held one other h k = one_to command.Check held one other h k
-replies_are_one (Some (command.Shape target)) held one other h k = one_to (command.Shape target) held one other h k
+replies_are_one (Some command.Check) held one other h k = one_to_check held one other h k
+replies_are_one (Some (command.Shape target)) held one other h k = one_to_shape target held one other h k
 replies_are_one (Some (command.Rename target name write safe json)) held one other h k =
-    one_to (command.Rename target name write safe json) held one other h k
-replies_are_one (Some (command.Sample units)) held one other h k = one_sampled units one other h k
+    one_to_rename target name (writing_of write safe) json held one other h k
+replies_are_one (Some (command.Sample units)) held one other h k = one_to_sample units one other h k
 replies_are_one (Some (command.Verify old new)) held one other h k = one_verify held old new one other h k
-replies_are_one (Some (command.Batch file write)) held one other h k = one_to (command.Batch file write) held one other h k
+replies_are_one (Some (command.Batch file write)) held one other h k = one_to_batch file write held one other h k
 replies_are_one (Some command.Recover) held one other h k = one_recovery held one other h k

@@ -1,8 +1,8 @@
--- The reply to a command is said, and has a status that a reply has.
-use Rattle.std.proofs.Common.{◌≡◌, ◌&&◌, not, is_none, ◌⊎◌, ℕ, ◌+◌, ◌-◌, length, arith, List, [], ◌∷◌, ◌++◌, Bool, true, false, Option, Some}
+-- The reply to a command is said, and has a status that a reply to a command has.
+use Rattle.std.proofs.Common.{◌≡◌, ◌⊎◌, ℕ, ◌+◌, ◌-◌, length, arith, List, [], ◌∷◌, ◌++◌, Bool, true, false, Option, Some}
 use Rattle.std.proofs.Common.{None, Result, Ok, Err, IfSome, IfOk, IfErr, OnOk, ◌≢◌, refl, sym, ap, subst, ◌∙◌, inl, inr}
 use Rattle.std.specs.List.{cons_option}
-use Rattle.rotor_base.specs.Files.{FileSet, IsProject, names_of}
+use Rattle.rotor_base.specs.Files.{FileSet, names_of}
 use Rattle.rotor_base.specs.declared.fault.Memory.{Memory}
 use Rattle.rotor_base.specs.declared.source.SourceFile.{SourceFile}
 use Rattle.rotor_base.specs.declared.refusal.LoadError.{LoadError}
@@ -11,28 +11,27 @@ use Rattle.rotor_base.specs.declared.refusal.Refusal.TheVariants as refusal
 use Rattle.rotor_base.specs.declared.report.Outcome.{Outcome}
 use Rattle.rotor_base.specs.declared.report.Outcome.TheVariants as outcome
 use Rattle.rotor_base.specs.declared.report.Renamed.{Renamed}
-use Rattle.rotor_base.specs.declared.report.Counts.{Counts}
-use Rattle.rotor_base.specs.declared.report.FootReport.{FootReport}
-use Rattle.rotor_base.specs.declared.report.SampleReport.{SampleReport}
 use Rattle.rotor_base.specs.declared.target.Target.{Target}
 use Rattle.tree_io.specs.Outside.{FileMap}
 use Rattle.tree_io.specs.declared.outside.TreeError.{TreeError}
 use Rattle.project_load.specs.Load.{loaded, IsLoad, IsOutside}
 use Rattle.apply_journal.specs.Plan.{file_of}
 use Rattle.apply_journal.specs.Recovered.{gate_name, plan_writes, IsDue, rests, due}
+use Rattle.report.specs.Recover.{recovered_text}
 use Rattle.cli_words.specs.declared.command.Command.{Command}
 use Rattle.cli_words.specs.declared.command.Command.TheVariants as command
-use Rattle.rename_files.specs.Answer.{Renames}
 use Rattle.rename_project.specs.Steps.{IsRefusedFor}
-use Rattle.rename_laws.specs.Laws.{ChangesAreListed}
-use Rattle.rotor_app.specs.Words.{sampled_units, verified_lists, is_recovery, asks_folder}
 use Rattle.rotor_app.specs.declared.status.Status.{Status}
-use Rattle.rotor_app.specs.declared.status.Status.TheVariants.{Done, Refused, Usage, Project}
+use Rattle.rotor_app.specs.declared.status.Status.TheVariants.{Done, Refused, Usage, Project, TreeFault, SinkFault, Memory as NoMemory}
 use Rattle.rotor_app.specs.declared.reply.Reply.{Reply}
+use Rattle.rotor_app.specs.declared.writing.Writing.{Writing}
+use Rattle.rotor_app.specs.declared.folder.Opened.{Opened}
+use Rattle.rotor_app.specs.declared.folder.Opened.TheVariants as opening
 use Rattle.tree_writes.specs.Writes.{HasRoom}
-use Rattle.rotor_app.specs.Said.{SaysVerify, status_of_refusal, status_of, writes_of, reply_by, usage_reply, as_outcome, Answers, not_loaded}
-use Rattle.rotor_app.specs.Said.{answered, Permits, pending_reply, SaysTo, answers, pends, SaysRecovery, finished, reply_of, recovered_text}
-use Rattle.rotor_app.specs.Said.{ListsDone, IsSampled, SaysSample, Says, SaysAlone, AsksNothing, IsReply}
+use Rattle.rotor_app.specs.Said.{status_of_refusal, status_of, silent_reply, unloaded_reply, usage_reply, pending_reply, renaming_reply, as_outcome}
+use Rattle.rotor_app.specs.Said.{Permits, Finds, SaysLoaded, not_loaded, over, SaysPermitted, pends, permitted, SaysChecked, SaysShown, SaysRenaming}
+use Rattle.rotor_app.specs.Said.{SaysRecovery, finished, reply_of, SaysSample, Says, SaysAlone, AsksNothing}
+use Rattle.rotor_app.specs.Said.{IsReply, IsCommandStatus, IsCommandReply}
 
 -- ---- the status of a reply
 
@@ -59,17 +58,11 @@ refusal_status (refusal.Capture at was would) = inl refl
 refusal_status (refusal.Mislink item was would) = inl refl
 refusal_status refusal.Memory = inr refl
 
-pub refusal_kind : (r : Refusal) → IsReply (status_of_refusal r) []
+pub refusal_kind : (r : Refusal) → IsCommandStatus (status_of_refusal r) []
 refusal_kind r = by (status_of_refusal r) (refusal_status r) where
-  by : (s : Status) → (s ≡ Refused) ⊎ (s ≡ Project) → IsReply s []
-  by s (inl e) = subst (λ (t : Status). IsReply t []) (sym e) refl
-  by s (inr e) = subst (λ (t : Status). IsReply t []) (sym e) refl
-
-pub no_usage_refusal : (r : Refusal) → status_of_refusal r ≡ Usage → ⊥
-no_usage_refusal r u = by (status_of_refusal r) (refusal_status r) u where
-  by : (s : Status) → (s ≡ Refused) ⊎ (s ≡ Project) → s ≡ Usage → ⊥
-  by s (inl e) u = let no : Refused ≡ Usage = sym e ∙ u in cc
-  by s (inr e) u = let no : Project ≡ Usage = sym e ∙ u in cc
+  by : (s : Status) → (s ≡ Refused) ⊎ (s ≡ Project) → IsCommandStatus s []
+  by s (inl e) = subst (λ (t : Status). IsCommandStatus t []) (sym e) refl
+  by s (inr e) = subst (λ (t : Status). IsCommandStatus t []) (sym e) refl
 
 pub no_done_refusal : (r : Refusal) → status_of_refusal r ≡ Done → ⊥
 no_done_refusal r d = by (status_of_refusal r) (refusal_status r) d where
@@ -77,105 +70,198 @@ no_done_refusal r d = by (status_of_refusal r) (refusal_status r) d where
   by s (inl e) d = let no : Refused ≡ Done = sym e ∙ d in cc
   by s (inr e) d = let no : Project ≡ Done = sym e ∙ d in cc
 
-outcome_kind : (c : Command) (o : Outcome) → IsReply (status_of o) (writes_of c o)
-outcome_kind c (outcome.Done done) = tt
-outcome_kind c (outcome.Checked counts) = tt
-outcome_kind c (outcome.Shown shown) = tt
-outcome_kind c (outcome.Sampled sampled) = tt
-outcome_kind c (outcome.Refused r) = refusal_kind r
-outcome_kind c (outcome.NotLoaded error) = refl
-outcome_kind c outcome.BadWords = refl
+-- a reply that writes nothing and has an answer's status and text
+silent_kind : {A : Type 0} (f : A → Outcome) → ((a : A) → IsCommandStatus (status_of (f a)) []) → (json : Bool) (names : List (List ℕ))
+    (r : Result A Refusal) (reply : Reply) → reply ≡ silent_reply json names (as_outcome f r) → IsCommandReply reply
+silent_kind {A} f done json names r reply e = subst IsCommandReply (sym e) (by r) where
+  by : (r : Result A Refusal) → IsCommandStatus (status_of (as_outcome f r)) []
+  by (Ok a) = done a
+  by (Err why) = refusal_kind why
 
-pub reply_kind : (c : Command) (names : List (List ℕ)) (o : Outcome) (reply : Reply) → reply ≡ reply_by c names o → IsReply reply.status reply.writes
-reply_kind c names o reply e = subst (λ (r : Reply). IsReply r.status r.writes) (sym e) (outcome_kind c o)
+pub checked_kind : (files : FileSet) (reply : Reply) → SaysChecked files reply → IsCommandReply reply
+checked_kind files reply (r, h, e) = silent_kind outcome.Checked (λ a. tt) false (names_of files.entries) r reply e
 
-outcome_usage : {A : Type 0} (f : A → Outcome) (r : Result A Refusal) (o : Outcome) → ((a : A) → status_of (f a) ≡ Usage → ⊥) → o ≡ as_outcome f r
-    → status_of o ≡ Usage → ⊥
-outcome_usage f (Ok a) o h e u = h a (sym (ap status_of e) ∙ u)
-outcome_usage f (Err r) o h e u = no_usage_refusal r (sym (ap status_of e) ∙ u)
+pub checked_writes : (files : FileSet) (reply : Reply) → SaysChecked files reply → reply.writes ≡ []
+checked_writes files reply (r, h, e) = ap (λ (x : Reply). x.writes) e
 
-answer_usage : (c : Command) (files : FileSet) (o : Outcome) → Answers c files o → status_of o ≡ Usage → ⊥
-answer_usage command.Check files o (r, h, e) u = outcome_usage outcome.Checked r o (λ a u. let no : Done ≡ Usage = u in cc) e u
-answer_usage (command.Shape target) files o (r, h, e) u = outcome_usage outcome.Shown r o (λ a u. let no : Done ≡ Usage = u in cc) e u
-answer_usage (command.Rename target name write safe json) files o (r, h, e) u =
-    outcome_usage outcome.Done r o (λ a u. let no : Done ≡ Usage = u in cc) e u
-answer_usage (command.Sample units) files o h u = h
-answer_usage (command.Verify old new) files o h u = h
-answer_usage (command.Batch file write) files o h u = h
-answer_usage command.Recover files o h u = h
+pub shown_kind : (target : Target) (files : FileSet) (reply : Reply) → SaysShown target files reply → IsCommandReply reply
+shown_kind target files reply (r, h, e) = silent_kind outcome.Shown (λ a. tt) false (names_of files.entries) r reply e
 
--- a reply over loaded files
-abbrev pub IsOver : Command → FileSet → Reply → Type 0
-IsOver c files reply = (o : Outcome) × Answers c files o × (reply ≡ reply_by c (names_of files.entries) o)
+pub shown_writes : (target : Target) (files : FileSet) (reply : Reply) → SaysShown target files reply → reply.writes ≡ []
+shown_writes target files reply (r, h, e) = ap (λ (x : Reply). x.writes) e
 
-pub over_kind : (c : Command) (files : FileSet) (reply : Reply) → IsOver c files reply → IsReply reply.status reply.writes
-over_kind c files reply (o, h, e) = reply_kind c (names_of files.entries) o reply e
+pub sample_kind : (units : ℕ) (reply : Reply) → SaysSample units reply → IsCommandReply reply
+sample_kind units reply (r, h, e) = silent_kind outcome.Sampled (λ a. tt) false [] r reply e
 
-pub over_usage : (c : Command) (files : FileSet) (reply : Reply) → IsOver c files reply → reply.status ≡ Usage → ⊥
-over_usage c files reply (o, h, e) u = answer_usage c files o h (sym (ap (λ (r : Reply). r.status) e) ∙ u)
+pub sample_writes : (units : ℕ) (reply : Reply) → SaysSample units reply → reply.writes ≡ []
+sample_writes units reply (r, h, e) = ap (λ (x : Reply). x.writes) e
 
-pub refused_usage : (c : Command) (error : LoadError) (reply : Reply) → reply ≡ reply_by c [] (outcome.NotLoaded error) → reply.status ≡ Usage → ⊥
-refused_usage c error reply e u = let no : Project ≡ Usage = sym (ap (λ (r : Reply). r.status) e) ∙ u in cc
+pub renaming_kind : (target : Target) (name : List ℕ) (writing : Writing) (json : Bool) (files : FileSet) (reply : Reply)
+    → SaysRenaming target name writing json files reply → IsCommandReply reply
+renaming_kind target name writing json files reply (r, h, e) = subst IsCommandReply (sym e) (by r) where
+  by : (r : Result Renamed Refusal) → IsCommandReply (renaming_reply writing json (names_of files.entries) r)
+  by (Ok done) = tt
+  by (Err why) = refusal_kind why
 
--- ---- what is said
+-- the kind of a reply to a command is that of a reply, and its status is not Usage
+pub command_kind : (result : Result Reply TreeError) → IfOk result IsCommandReply → IfOk result (λ reply. IsReply reply.status reply.writes)
+command_kind (Err fault) h = tt
+command_kind (Ok reply) h = by reply.status reply.writes h where
+  by : (s : Status) (writes : List SourceFile) → IsCommandStatus s writes → IsReply s writes
+  by Done writes h = tt
+  by Refused writes h = h
+  by Project writes h = h
+  by Usage writes h = absurd h
+  by TreeFault writes h = h
+  by SinkFault writes h = h
+  by NoMemory writes h = h
 
--- the files are those that the folder loads as
-pub loads_by : (content now : Option FileMap) (result : Result FileSet LoadError) (files : FileSet) → now ≡ content → result ≡ Ok files
-    → IfSome content (λ held. IsLoad held result)
-    → IfSome now (λ held. loaded held ≡ Ok files)
-loads_by content now result files c e h = subst (λ (o : Option FileMap). IfSome o (λ held. loaded held ≡ Ok files)) (sym c) (by content h) where
-  by : (content : Option FileMap) → IfSome content (λ held. IsLoad held result) → IfSome content (λ held. loaded held ≡ Ok files)
-  by None h = tt
-  by (Some held) h = subst (λ (x : Result FileSet LoadError). IsLoad held x) e h
+pub command_usage : (request : Option Command) (result : Result Reply TreeError) → IfOk result IsCommandReply
+    → IfOk result (λ reply. reply.status ≡ Usage → request ≡ None)
+command_usage request (Err fault) h = tt
+command_usage request (Ok reply) h = λ u. absurd (subst (λ (s : Status). IsCommandStatus s reply.writes) u h)
 
--- the folder is as it was
-pub said_before : (content now : Option FileMap) (c : Command) (answer : Result Reply TreeError) → now ≡ content
-    → IfOk answer (λ reply. IfSome now (λ held. SaysTo c held reply)) → IfOk answer (λ reply. IfSome content (λ held. SaysTo c held reply))
-said_before content now c answer e h = subst (λ (o : Option FileMap). IfOk answer (λ reply. IfSome o (λ held. SaysTo c held reply))) e h
+-- a reply that writes nothing has its room
+pub silent_room : (room : List ℕ → ℕ) (result : Result Reply TreeError) → IfOk result (λ reply. reply.writes ≡ [])
+    → IfOk result (λ reply. HasRoom room reply.writes)
+silent_room room (Err fault) h = tt
+silent_room room (Ok reply) h = subst (HasRoom room) (sym h) tt
 
--- over the files that the folder loads as
-pub said_over : (content : Option FileMap) (files : FileSet) (c : Command) (may : Bool) (reply : Reply) → may ≡ true
-    → IfSome content (λ held. loaded held ≡ Ok files)
-    → IfSome content (λ held. Permits c held may) → IsOver c files reply → IfSome content (λ held. SaysTo c held reply)
-said_over None files c may reply t l p over = tt
-said_over (Some held) files c true reply t l p (o, a, r) = answers (names_of files.entries) o (answered files o l p a) r
-said_over (Some held) files c false reply t l p over = cc
+pub sample_room : (room : List ℕ → ℕ) (units : ℕ) (reply : Reply) → SaysSample units reply → HasRoom room reply.writes
+sample_room room units reply h = subst (HasRoom room) (sym (sample_writes units reply h)) tt
 
--- over a folder whose gate is open
-pub said_pending : (content : Option FileMap) (files : FileSet) (c : Command) (may : Bool) (reply : Reply) → may ≡ false
-    → IfSome content (λ held. loaded held ≡ Ok files)
-    → IfSome content (λ held. Permits c held may) → reply ≡ pending_reply c → IfSome content (λ held. SaysTo c held reply)
-said_pending None files c may reply t l p r = tt
-said_pending (Some held) files c true reply t l p r = cc
-said_pending (Some held) files c false reply t l p r = pends (record { files = files; loads = l; asked = p.0; opened = p.1 }) r
+-- ---- the reply to an answer, in files of these names
 
--- over a folder that is not taken
-pub said_refused : (content : Option FileMap) (result : Result FileSet LoadError) (error : LoadError) (c : Command) (reply : Reply)
-    → result ≡ Err error → IfSome content (λ held. IsLoad held result)
-    → (IsOutside error → ⊥) → reply ≡ reply_by c [] (outcome.NotLoaded error) → IfSome content (λ held. SaysTo c held reply)
-said_refused None result error c reply e h inside r = tt
-said_refused (Some held) result error c reply e h inside r = by (subst (λ (x : Result FileSet LoadError). IsLoad held x) e h) where
-  by : IsOutside error ⊎ (loaded held ≡ Err error) → SaysTo c held reply
-  by (inl out) = absurd (inside out)
-  by (inr is) = answers [] (outcome.NotLoaded error) (not_loaded error is) r
+-- an Ok
+pub answer_made : {A : Type 0} (P : Result A Refusal → Type 0) (f : List (List ℕ) → Result A Refusal → Reply) (names sources : List (List ℕ)) (a : A)
+    (result : Result Reply Memory) → names ≡ sources → P (Ok a) → IfOk result (λ reply. reply ≡ f names (Ok a))
+    → IfOk result (λ reply. (r : Result A Refusal) × P r × (reply ≡ f sources r))
+answer_made P f names sources a (Err m) same p e = tt
+answer_made P f names sources a (Ok reply) same p e = (Ok a, p, e ∙ ap (λ (ns : List (List ℕ)). f ns (Ok a)) same)
 
--- the same of a call that may have found no memory
-pub refused_answer : (content : Option FileMap) (result : Result FileSet LoadError) (error : LoadError) (c : Command)
-    (answer : Result Reply TreeError) → result ≡ Err error → IfSome content (λ held. IsLoad held result)
-    → IfOk answer (λ reply. reply ≡ reply_by c [] (outcome.NotLoaded error)) → OnOk answer (IsOutside error → ⊥)
-    → IfOk answer (λ reply. IfSome content (λ held. SaysTo c held reply))
-refused_answer content result error c (Ok reply) e h r inside = said_refused content result error c reply e h inside r
-refused_answer content result error c (Err fault) e h r inside = tt
+-- a refusal other than want of memory
+pub refusal_made : {A : Type 0} (P : Result A Refusal → Type 0) (f : List (List ℕ) → Result A Refusal → Reply) (names sources : List (List ℕ))
+    (why : Refusal) (answer : Result A Refusal) (result : Result Reply Memory) → names ≡ sources → answer ≡ Err why
+    → IfErr answer (IsRefusedFor (λ w. P (Err w))) → OnOk result (why ≢ refusal.Memory) → IfOk result (λ reply. reply ≡ f names (Err why))
+    → IfOk result (λ reply. (r : Result A Refusal) × P r × (reply ≡ f sources r))
+refusal_made {A} P f names sources why answer (Err m) same a refused other e = tt
+refusal_made {A} P f names sources why answer (Ok reply) same a refused other e =
+    by (subst (λ (r : Result A Refusal). IfErr r (IsRefusedFor (λ w. P (Err w)))) a refused)
+  where
+    by : P (Err why) ⊎ (why ≡ refusal.Memory) → (r : Result A Refusal) × P r × (reply ≡ f sources r)
+    by (inl p) = (Err why, p, e ∙ ap (λ (ns : List (List ℕ)). f ns (Err why)) same)
+    by (inr m) = absurd (other m)
 
-pub refused_kind : (c : Command) (error : LoadError) (answer : Result Reply TreeError)
-    → IfOk answer (λ reply. reply ≡ reply_by c [] (outcome.NotLoaded error)) → IfOk answer (λ reply. IsReply reply.status reply.writes)
-refused_kind c error (Ok reply) r = reply_kind c [] (outcome.NotLoaded error) reply r
-refused_kind c error (Err fault) r = tt
+-- ---- what a folder loads as
 
-pub refused_no_usage : (c : Command) (error : LoadError) (answer : Result Reply TreeError)
-    → IfOk answer (λ reply. reply ≡ reply_by c [] (outcome.NotLoaded error)) → IfOk answer (λ reply. reply.status ≡ Usage → ⊥)
-refused_no_usage c error (Ok reply) r = refused_usage c error reply r
-refused_no_usage c error (Err fault) r = tt
+pub loads_by : (content : Option FileMap) (result : Result FileSet LoadError) (files : FileSet) → result ≡ Ok files
+    → IfSome content (λ held. IsLoad held result) → IfSome content (λ held. loaded held ≡ Ok files)
+loads_by None result files e h = tt
+loads_by (Some held) result files e h = subst (λ (x : Result FileSet LoadError). IsLoad held x) e h
+
+-- a folder that is not taken, if neither it nor memory failed
+pub refused_load : (content : Option FileMap) (result : Result FileSet LoadError) (error : LoadError)
+    (answer : Result (Result FileSet LoadError) TreeError) → result ≡ Err error → IfSome content (λ held. IsLoad held result)
+    → IfOk answer (λ a. a ≡ Err error) → OnOk answer (IsOutside error → ⊥) → IfOk answer (λ a. IfSome content (λ held. loaded held ≡ a))
+refused_load content result error (Err fault) e h r inside = tt
+refused_load None result error (Ok a) e h r inside = tt
+refused_load (Some held) result error (Ok a) e h r inside =
+    by (subst (λ (x : Result FileSet LoadError). IsLoad held x) e h) ∙ sym r
+  where
+    by : IsOutside error ⊎ (loaded held ≡ Err error) → loaded held ≡ Err error
+    by (inl out) = absurd (inside out)
+    by (inr is) = is
+
+module _ (content : Option FileMap) (writes : Bool) (answer : Result FileSet LoadError) (l : IfSome content (λ held. loaded held ≡ answer)) where
+  pub not_loaded_found : (error : LoadError) → answer ≡ Err error → IfSome content (λ held. Finds writes held (opening.NotLoaded error))
+  not_loaded_found error e = by content l where
+    by : (c : Option FileMap) → IfSome c (λ held. loaded held ≡ answer) → IfSome c (λ held. Finds writes held (opening.NotLoaded error))
+    by None l = tt
+    by (Some held) l = l ∙ e
+
+  pub project_found : (now : Option FileMap) (may : Bool) (files : FileSet) → answer ≡ Ok files → now ≡ content → may ≡ true
+      → IfSome now (λ held. Permits writes held may) → IfSome content (λ held. Finds writes held (opening.Project files))
+  project_found now may files e same t p =
+      by content may t l (subst (λ (o : Option FileMap). IfSome o (λ held. Permits writes held may)) same p)
+    where
+      by : (c : Option FileMap) (may : Bool) → may ≡ true → IfSome c (λ held. loaded held ≡ answer) → IfSome c (λ held. Permits writes held may)
+          → IfSome c (λ held. Finds writes held (opening.Project files))
+      by None may t l p = tt
+      by (Some held) true t l p = (l ∙ e, p)
+      by (Some held) false t l p = absurd (let no : false ≡ true = t in cc)
+
+  pub pending_found : (now : Option FileMap) (may : Bool) (files : FileSet) → answer ≡ Ok files → now ≡ content → may ≡ false
+      → IfSome now (λ held. Permits writes held may) → IfSome content (λ held. Finds writes held opening.Pending)
+  pending_found now may files e same t p =
+      by content may t l (subst (λ (o : Option FileMap). IfSome o (λ held. Permits writes held may)) same p)
+    where
+      by : (c : Option FileMap) (may : Bool) → may ≡ false → IfSome c (λ held. loaded held ≡ answer) → IfSome c (λ held. Permits writes held may)
+          → IfSome c (λ held. Finds writes held opening.Pending)
+      by None may t l p = tt
+      by (Some held) true t l p = absurd (let no : true ≡ false = t in cc)
+      by (Some held) false t l p = (files, l ∙ e, p)
+
+-- ---- what is said of a folder that loads, or does not
+
+module _ (json : Bool) (P : FileSet → Reply → Type 0) (content : Option FileMap) (answer : Result FileSet LoadError) (reply : Reply)
+    (l : IfSome content (λ held. loaded held ≡ answer)) where
+  pub said_over : (files : FileSet) → answer ≡ Ok files → P files reply → IfSome content (λ held. SaysLoaded json P held reply)
+  said_over files e p = by content l where
+    by : (c : Option FileMap) → IfSome c (λ held. loaded held ≡ answer) → IfSome c (λ held. SaysLoaded json P held reply)
+    by None l = tt
+    by (Some held) l = over files (l ∙ e) p
+
+  pub said_not_loaded : (error : LoadError) → answer ≡ Err error → reply ≡ unloaded_reply json error
+      → IfSome content (λ held. SaysLoaded json P held reply)
+  said_not_loaded error e r = by content l where
+    by : (c : Option FileMap) → IfSome c (λ held. loaded held ≡ answer) → IfSome c (λ held. SaysLoaded json P held reply)
+    by None l = tt
+    by (Some held) l = not_loaded error (l ∙ e) r
+
+-- and of what a command finds that may write
+module _ (json asked writes : Bool) (P : FileMap → FileSet → Reply → Type 0) (content : Option FileMap) (found : Opened) (reply : Reply)
+    (same : asked ≡ writes) (f : IfSome content (λ held. Finds asked held found)) where
+  abbrev IsSaid : FileMap → Type 0
+  IsSaid held = SaysLoaded json (λ files. SaysPermitted writes json held (P held files)) held reply
+
+  finds : (o : Opened) → found ≡ o → IfSome content (λ held. Finds writes held o)
+  finds o e =
+      subst (λ (w : Bool). IfSome content (λ held. Finds w held o)) same (subst (λ (x : Opened). IfSome content (λ held. Finds asked held x)) e f)
+
+  pub said_written : (files : FileSet) → found ≡ opening.Project files → IfSome content (λ held. P held files reply) → IfSome content IsSaid
+  said_written files e p = by content (finds (opening.Project files) e) p where
+    by : (c : Option FileMap) → IfSome c (λ held. Finds writes held (opening.Project files)) → IfSome c (λ held. P held files reply) → IfSome c IsSaid
+    by None f p = tt
+    by (Some held) f p = over files f.0 (permitted f.1 p)
+
+  pub said_pending : found ≡ opening.Pending → reply ≡ pending_reply json → IfSome content IsSaid
+  said_pending e r = by content (finds opening.Pending e) where
+    by : (c : Option FileMap) → IfSome c (λ held. Finds writes held opening.Pending) → IfSome c IsSaid
+    by None f = tt
+    by (Some held) f = over f.0 f.1 (pends f.2 r)
+
+  pub said_unloaded : (error : LoadError) → found ≡ opening.NotLoaded error → reply ≡ unloaded_reply json error → IfSome content IsSaid
+  said_unloaded error e r = by content (finds (opening.NotLoaded error) e) where
+    by : (c : Option FileMap) → IfSome c (λ held. Finds writes held (opening.NotLoaded error)) → IfSome c IsSaid
+    by None f = tt
+    by (Some held) f = not_loaded error f r
+
+-- the same of a call over the folder, which is as it was
+pub said_result : (json writes : Bool) (P : FileMap → FileSet → Reply → Type 0) (content now : Option FileMap) (found : Opened)
+    (result : Result Reply TreeError) → now ≡ content → IfSome content (λ held. Finds writes held found) → (files : FileSet)
+    → found ≡ opening.Project files → IfOk result (λ reply. IfSome now (λ held. P held files reply))
+    → IfOk result (λ reply. IfSome content (λ held. SaysLoaded json (λ fs. SaysPermitted writes json held (P held fs)) held reply))
+said_result json writes P content now found (Err fault) same f files e p = tt
+said_result json writes P content now found (Ok reply) same f files e p =
+    said_written json writes writes P content found reply refl f files e
+    (subst (λ (o : Option FileMap). IfSome o (λ held. P held files reply)) same p)
+
+-- what holds over each folder
+pub always : (content : Option FileMap) (P : FileMap → Type 0) → ((held : FileMap) → P held) → IfSome content P
+always None P h = tt
+always (Some held) P h = h held
+
+-- ---- the reply to the words
 
 -- the usage is said to words of no form
 pub usage_said : (request : Option Command) (content : Option FileMap) (reply : Reply) → request ≡ None → reply ≡ usage_reply
@@ -188,84 +274,39 @@ pub usage_alone : (request : Option Command) (reply : Reply) → request ≡ Non
 unfolding SaysAlone
 usage_alone request reply e r = subst (λ (q : Option Command). SaysAlone q reply) (sym e) r
 
--- a command over the folder's files
-all_true : (a b c : Bool) → a ≡ true → b ≡ true → c ≡ true → (a && b && c) ≡ true
-all_true true true true p q r = refl
-all_true true true false p q r = cc
-all_true true false c p q r = cc
-all_true false b c p q r = cc
-
-pub asks_no_other : (c : Command) → sampled_units c ≡ None → verified_lists c ≡ None → is_recovery c ≡ false → asks_folder c ≡ true
-asks_no_other c no_sample no_lists other =
-    all_true (is_none (sampled_units c)) (is_none (verified_lists c)) (not (is_recovery c)) (ap is_none no_sample) (ap is_none no_lists)
-    (ap not other)
-
--- a command over the files of the folder
-says_to : (c : Command) (held : FileMap) (reply : Reply) → asks_folder c ≡ true → SaysTo c held reply → Says (Some c) held reply
-unfolding Says
-says_to command.Check held reply e h = h
-says_to (command.Shape target) held reply e h = h
-says_to (command.Rename target name write safe json) held reply e h = h
-says_to (command.Sample units) held reply e h = let no : false ≡ true = e in absurd cc
-says_to (command.Verify old new) held reply e h = let no : false ≡ true = e in absurd cc
-says_to (command.Batch file write) held reply e h = h
-says_to command.Recover held reply e h = let no : false ≡ true = e in absurd cc
-
-pub folder_said : (c : Command) (content : Option FileMap) (result : Result Reply TreeError) → asks_folder c ≡ true
-    → IfOk result (λ reply. IfSome content (λ held. SaysTo c held reply)) → IfOk result (λ reply. IfSome content (λ held. Says (Some c) held reply))
-folder_said c content (Err fault) e h = tt
-folder_said c None (Ok reply) e h = tt
-folder_said c (Some held) (Ok reply) e h = says_to c held reply e h
-
--- `verify`
-lists_are : (c : Command) (lists : List ℕ × List ℕ) → verified_lists c ≡ Some lists → c ≡ command.Verify lists.0 lists.1
-lists_are command.Check lists e = absurd cc
-lists_are (command.Shape target) lists e = absurd cc
-lists_are (command.Rename target name write safe json) lists e = absurd cc
-lists_are (command.Sample n) lists e = absurd cc
-lists_are (command.Verify old new) lists e = ap (λ (l : List ℕ × List ℕ). command.Verify l.0 l.1) (one e) where
-  one : ◌≡◌ {A = Option (List ℕ × List ℕ)} (Some (old, new)) (Some lists) → (old, new) ≡ lists
-  one e = cc
-lists_are (command.Batch file write) lists e = absurd cc
-lists_are command.Recover lists e = absurd cc
-
-pub verify_said : (c : Command) (lists : List ℕ × List ℕ) (content : Option FileMap) (result : Result Reply TreeError) → verified_lists c ≡ Some lists
-    → IfOk result (λ reply. IfSome content (λ held. SaysVerify lists.0 lists.1 held reply))
+-- what is said to a command, by what the command is
+pub says_as : (content : Option FileMap) (result : Result Reply TreeError) (c k : Command) → c ≡ k
+    → IfOk result (λ reply. IfSome content (λ held. Says (Some k) held reply))
     → IfOk result (λ reply. IfSome content (λ held. Says (Some c) held reply))
+says_as content result c k e = subst (λ (x : Command). IfOk result (λ reply. IfSome content (λ held. Says (Some x) held reply))) (sym e)
+
+-- `sample`, with a folder and without
+pub sample_said : (content : Option FileMap) (c : Command) (units : ℕ) (reply : Reply) → c ≡ command.Sample units → SaysSample units reply
+    → IfSome content (λ held. Says (Some c) held reply)
 unfolding Says
-verify_said c lists content (Err fault) e h = tt
-verify_said c lists None (Ok reply) e h = tt
-verify_said c lists (Some held) (Ok reply) e h = subst (λ (k : Command). Says (Some k) held reply) (sym (lists_are c lists e)) h
+sample_said None c units reply e h = tt
+sample_said (Some held) c units reply e h = subst (λ (x : Command). Says (Some x) held reply) (sym e) h
 
--- a reply that writes nothing has its room
-pub silent_room : (room : List ℕ → ℕ) (result : Result Reply TreeError) → IfOk result (λ reply. reply.writes ≡ [])
-    → IfOk result (λ reply. HasRoom room reply.writes)
-silent_room room (Err fault) h = tt
-silent_room room (Ok reply) h = subst (HasRoom room) (sym h) tt
+pub sample_alone : (c : Command) (units : ℕ) (reply : Reply) → c ≡ command.Sample units → SaysSample units reply → SaysAlone (Some c) reply
+unfolding SaysAlone
+sample_alone c units reply e h = subst (λ (x : Command). SaysAlone (Some x) reply) (sym e) h
 
--- a recovery
-says_recovery : (c : Command) (held : FileMap) (reply : Reply) → is_recovery c ≡ true → SaysRecovery held reply → Says (Some c) held reply
-unfolding Says
-says_recovery command.Check held reply e h = cc
-says_recovery (command.Shape target) held reply e h = cc
-says_recovery (command.Rename target name write safe json) held reply e h = cc
-says_recovery (command.Sample units) held reply e h = cc
-says_recovery (command.Verify old new) held reply e h = cc
-says_recovery (command.Batch file write) held reply e h = cc
-says_recovery command.Recover held reply e h = h
+-- the answer to the words is that to their command
+module _ (request : Option Command) (c : Command) (same : request ≡ Some c) where
+  pub command_said : (content : Option FileMap) (result : Result Reply TreeError)
+      → IfOk result (λ reply. IfSome content (λ held. Says (Some c) held reply))
+      → IfOk result (λ reply. IfSome content (λ held. Says request held reply))
+  command_said content result =
+      subst (λ (q : Option Command). IfOk result (λ reply. IfSome content (λ held. Says q held reply))) (sym same)
 
-pub recovery_said : (c : Command) (content : Option FileMap) (result : Result Reply TreeError) → is_recovery c ≡ true
-    → IfOk result (λ reply. IfSome content (λ held. SaysRecovery held reply))
-    → IfOk result (λ reply. IfSome content (λ held. Says (Some c) held reply))
-recovery_said c content (Err fault) e h = tt
-recovery_said c None (Ok reply) e h = tt
-recovery_said c (Some held) (Ok reply) e h = says_recovery c held reply e h
+  pub command_alone : (result : Result Reply TreeError) → IfOk result (λ reply. AsksNothing (Some c) → SaysAlone (Some c) reply)
+      → IfOk result (λ reply. AsksNothing request → SaysAlone request reply)
+  command_alone result = subst (λ (q : Option Command). IfOk result (λ reply. AsksNothing q → SaysAlone q reply)) (sym same)
 
-pub command_said : (request : Option Command) (c : Command) (content : Option FileMap) (result : Result Reply TreeError) → request ≡ Some c
-    → IfOk result (λ reply. IfSome content (λ held. Says (Some c) held reply))
-    → IfOk result (λ reply. IfSome content (λ held. Says request held reply))
-command_said request c content result e h = subst (λ (q : Option Command). IfOk result (λ reply. IfSome content (λ held. Says q held reply)))
-    (sym e) h
+  pub command_asks : (P : Type 0) → (AsksNothing (Some c) → P) → AsksNothing request → P
+  command_asks P = subst (λ (q : Option Command). AsksNothing q → P) (sym same)
+
+-- ---- recover
 
 -- a recovery with something to write
 due_writes : (held : FileMap) (found : Option (List SourceFile)) (writes : List SourceFile) (reply : Reply) → found ≡ Some writes → IsDue held found
@@ -290,102 +331,10 @@ pub due_said : (content : Option FileMap) (found : Option (List SourceFile)) (wr
 due_said None found writes reply e d r = tt
 due_said (Some held) found writes reply e d r = due_writes held found writes reply e d r
 
--- `sample`
-sample_is : (c : Command) (units : ℕ) → sampled_units c ≡ Some units → c ≡ command.Sample units
-sample_is command.Check units e = absurd cc
-sample_is (command.Shape target) units e = absurd cc
-sample_is (command.Rename target name write safe json) units e = absurd cc
-sample_is (command.Sample n) units e = cc
-sample_is (command.Verify old new) units e = absurd cc
-sample_is (command.Batch file write) units e = absurd cc
-sample_is command.Recover units e = absurd cc
-
-pub sample_said : (request : Option Command) (c : Command) (units : ℕ) (content : Option FileMap) (reply : Reply) → request ≡ Some c
-    → sampled_units c ≡ Some units → SaysSample units reply
-    → IfSome content (λ held. Says request held reply)
-unfolding Says
-sample_said request c units None reply e is h = tt
-sample_said request c units (Some held) reply e is h = subst (λ (q : Option Command). Says q held reply) (sym (e ∙ ap Some (sample_is c units is))) h
-
-pub sample_alone : (request : Option Command) (c : Command) (units : ℕ) (reply : Reply) → request ≡ Some c → sampled_units c ≡ Some units
-    → SaysSample units reply → SaysAlone request reply
-unfolding SaysAlone
-sample_alone request c units reply e is h = subst (λ (q : Option Command). SaysAlone q reply) (sym (e ∙ ap Some (sample_is c units is))) h
-
-pub sample_kind : (units : ℕ) (reply : Reply) → SaysSample units reply → IsReply reply.status reply.writes
-sample_kind units reply (o, h, e) = reply_kind (command.Sample units) [] o reply e
-
-pub sample_usage : (units : ℕ) (reply : Reply) → SaysSample units reply → reply.status ≡ Usage → ⊥
-sample_usage units reply (o, (r, h, t), e) u =
-    outcome_usage outcome.Sampled r o (λ a v. let no : Done ≡ Usage = v in cc) t (sym (ap (λ (x : Reply). x.status) e) ∙ u)
-
-pub sample_writes : (units : ℕ) (reply : Reply) → SaysSample units reply → reply.writes ≡ []
-sample_writes units reply (o, (r, h, t), e) = ap (λ (x : Reply). x.writes) e ∙ ap (writes_of (command.Sample units)) t ∙ by r where
-  by : (r : Result SampleReport Refusal) → writes_of (command.Sample units) (as_outcome outcome.Sampled r) ≡ []
-  by (Ok report) = refl
-  by (Err why) = refl
-
--- its outcome is no renaming
-pub sample_lists : (units : ℕ) (o : Outcome) → IsSampled units o → ListsDone o
-sample_lists units o (r, h, t) = subst ListsDone (sym t) (by r) where
-  by : (r : Result SampleReport Refusal) → ListsDone (as_outcome outcome.Sampled r)
-  by (Ok report) = tt
-  by (Err why) = tt
-
--- a reply that is made without a folder
-pub sample_made : (c : Command) (units : ℕ) (o : Outcome) (result : Result Reply Memory) → sampled_units c ≡ Some units → IsSampled units o
-    → IfOk result (λ reply. reply ≡ reply_by c [] o) → IfOk result (SaysSample units)
-sample_made c units o (Err e) is h r = tt
-sample_made c units o (Ok reply) is h r = (o, h, r ∙ ap (λ (k : Command). reply_by k [] o) (sample_is c units is))
-
-pub asks_something : (request : Option Command) (c : Command) → request ≡ Some c → sampled_units c ≡ None → AsksNothing request → ⊥
-asks_something request c e none asks = subst AsksNothing e asks none
-
--- a reply that is made over loaded files
-pub over_made : (c : Command) (files : FileSet) (names : List (List ℕ)) (o : Outcome) (result : Result Reply Memory) → names ≡ names_of files.entries
-    → Answers c files o
-    → IfOk result (λ reply. reply ≡ reply_by c names o) → IfOk result (IsOver c files)
-over_made c files names o (Err e) n a h = tt
-over_made c files names o (Ok reply) n a h = (o, a, h ∙ ap (λ (ns : List (List ℕ)). reply_by c ns o) n)
-
--- a renaming that is done lists what it changed
-pub lists_done : ChangesAreListed → (c : Command) (files : FileSet) (o : Outcome) → IsProject files → Answers c files o → ListsDone o
-lists_done law command.Check files o p (r, h, e) = subst ListsDone (sym e) (by r) where
-  by : (r : Result Counts Refusal) → ListsDone (as_outcome outcome.Checked r)
-  by (Ok a) = tt
-  by (Err w) = tt
-lists_done law (command.Shape target) files o p (r, h, e) = subst ListsDone (sym e) (by r) where
-  by : (r : Result FootReport Refusal) → ListsDone (as_outcome outcome.Shown r)
-  by (Ok a) = tt
-  by (Err w) = tt
-lists_done law (command.Rename target name write safe json) files o p (r, h, e) = subst ListsDone (sym e) (by r h) where
-  by : (r : Result Renamed Refusal) → Renames files target name r → ListsDone (as_outcome outcome.Done r)
-  by (Ok done) h = law files target name done p h
-  by (Err w) h = tt
-lists_done law (command.Sample units) files o p h = absurd h
-lists_done law (command.Verify old new) files o p h = absurd h
-lists_done law (command.Batch file write) files o p h = absurd h
-lists_done law command.Recover files o p h = absurd h
+-- ---- the files of some numbers
 
 -- a file added, if there is one
 pub pushed : (o : Option SourceFile) (found rest : List SourceFile) → (found ++ cons_option o []) ++ rest ≡ found ++ cons_option o rest
 pushed None [] rest = refl
 pushed (Some f) [] rest = refl
 pushed o (g ∷ found) rest = ap (λ (gs : List SourceFile). g ∷ gs) (pushed o found rest)
-
--- ---- the outcome of a refused renaming
-
--- a refusal other than want of memory is an answer to the command, whose name has these bytes
-pub refused_renaming :
-    (files : FileSet) (target : Target) (new bytes : List ℕ) (write safe json : Bool) (r : Result Renamed Refusal) (why : Refusal)
-    (o : Result Outcome Memory)
-    → bytes ≡ new → r ≡ Err why → IfErr r (IsRefusedFor (λ w. Renames files target bytes (Err w)))
-    → IfOk o (λ x. (x ≡ outcome.Refused why) × (why ≢ refusal.Memory))
-    → IfOk o (λ x. Answers (command.Rename target new write safe json) files x)
-refused_renaming files target new bytes write safe json r why (Err m) same e refused said = tt
-refused_renaming files target new bytes write safe json r why (Ok x) same e refused said =
-    by_cases (subst (λ (q : Result Renamed Refusal). IfErr q (IsRefusedFor (λ w. Renames files target bytes (Err w)))) e refused)
-  where
-    by_cases : Renames files target bytes (Err why) ⊎ (why ≡ refusal.Memory) → Answers (command.Rename target new write safe json) files x
-    by_cases (inl a) = (Err why, subst (λ (name : List ℕ). Renames files target name (Err why)) same a, said.0)
-    by_cases (inr m) = absurd (said.1 m)

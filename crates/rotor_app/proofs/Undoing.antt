@@ -1,5 +1,5 @@
 -- A renaming that is done keeps facts and runs, and the words of its undo give the old files back.
-use Rattle.std.proofs.Common.{◌≡◌, ◌≢◌, ◌⊎◌, inl, inr, ◌||◌, if◌then◌else◌, ℕ, ◌<◌, ◌≤◌, ◌^◌, Bool, true, false, List, [], ◌∷◌, ◌++◌, Option, Some}
+use Rattle.std.proofs.Common.{◌≡◌, ◌≢◌, ◌⊎◌, inl, inr, if◌then◌else◌, ℕ, ◌<◌, ◌≤◌, ◌^◌, Bool, true, false, List, [], ◌∷◌, ◌++◌, Option, Some}
 use Rattle.std.proofs.Common.{None, Result, Ok, Err, Contains, slice_get, flat_map, length, unwrap_or, codes, refl, sym, ap, subst, ◌∙◌, arith}
 use Rattle.std.specs.Fmt.{decimal}
 use Rattle.std.specs.FinMap.{get}
@@ -10,7 +10,6 @@ use Rattle.rotor_base.specs.Limits.{max_file_bytes}
 use Rattle.rotor_base.specs.Lines.{feed_lines}
 use Rattle.rotor_base.specs.declared.source.SourceFile.{SourceFile}
 use Rattle.rotor_base.specs.declared.place.Place.{Place}
-use Rattle.rotor_base.specs.declared.report.Outcome.{Outcome}
 use Rattle.rotor_base.specs.declared.report.Outcome.TheVariants as outcome
 use Rattle.rotor_base.specs.declared.report.Renamed.{Renamed}
 use Rattle.rotor_base.specs.declared.target.Target.{Target}
@@ -47,20 +46,24 @@ use Rattle.rename_verify.specs.Verdict.{Verdicts}
 use Rattle.rotor_base.specs.declared.refusal.Refusal.{Refusal}
 use Rattle.rotor_app.specs.declared.status.Status.TheVariants.{Done, Refused, Project}
 use Rattle.rotor_app.specs.declared.reply.Reply.{Reply}
-use Rattle.rotor_app.specs.Said.{status_of, reply_by, outcome_text, MayWrite, IsAnswer, not_loaded, answered, SaysTo, answers, pends, batches}
-use Rattle.rotor_app.specs.Said.{batch_in, batched_reply, SaysSteps, stopped, batched, SaysBatch, lacks, large, unread, runs, SaysRecovery, idle}
-use Rattle.rotor_app.specs.Said.{finished, lost, SaysVerify, no_list, listed, SaysAgainst, unlisted, judged, RefusesList}
-use Rattle.rotor_app.specs.Said.{judged_reply, Says}
-use Rattle.rotor_app.specs.Said.{SomeReply}
+use Rattle.rotor_app.specs.declared.writing.Writing.{Writing}
+use Rattle.rotor_app.specs.declared.writing.Writing.TheVariants.{Show, Write, Safe}
+use Rattle.rotor_app.specs.Writing.{is_writing, writing_of}
+use Rattle.rotor_app.specs.Said.{status_of_refusal, outcome_text, reply_of, writes_of, renamed_reply, batched_reply, judged_reply, MayWrite}
+use Rattle.rotor_app.specs.Said.{not_loaded, over, pends, permitted, SaysShape, SaysRename, batch_in, stopped, batched, lacks, large, unread, runs}
+use Rattle.rotor_app.specs.Said.{SaysBatch, SaysRecovery, idle, finished, lost, SaysVerify, no_list, listed, SaysAgainst, unlisted, judged}
+use Rattle.rotor_app.specs.Said.{RefusesList, Says, SomeReply}
 use Rattle.rotor_app.specs.Table.{TreeStopped}
-use Rattle.rotor_app.proofs.Saying.{no_done_refusal}
 use Rattle.rotor_app.specs.Laws.{HasLaws}
 use Rattle.rotor_app.specs.Done.{rename_words, undo_of, AreSameButForPlan, GivesBack, GivesFilesBack, with_file, GivesBatchBack, IsDone, IsShown}
-use Rattle.rotor_app.specs.Done.{IsBatchDone, IsVerified}
+use Rattle.rotor_app.specs.Done.{IsBatchDone, IsVerified, IsRecoverDone, IsDoneSo, IsRenameRecoverable, IsRecoverable}
 use Rattle.rotor_app.proofs.Beside.{beside, same_beside, no_source}
-use Rattle.rotor_app.specs.Done.{IsDoneSo, IsRecoverable}
+use Rattle.rotor_app.proofs.Saying.{no_done_refusal}
 
 -- ---- the last line of the report
+
+abbrev last_of : List (List ℕ) → Renamed → List ℕ
+last_of names done = undo_line names done.undo_at done.old
 
 flat_last : (xs : List (List ℕ)) (x : List ℕ) → flat_map ended (xs ++ x ∷ []) ≡ flat_map ended xs ++ ended x
 flat_last [] x = no_more (ended x) where
@@ -72,23 +75,23 @@ flat_last (y ∷ xs) x = ap (λ (zs : List ℕ). ended y ++ zs) (flat_last xs x)
   joined [] b c = refl
   joined (z ∷ a) b c = ap (λ (zs : List ℕ). z ∷ zs) (joined a b c)
 
-line_last : (names : List (List ℕ)) (done : Renamed) → (front : List (List ℕ)) × (done_lines names done ≡ front ++ undo_line names done ∷ [])
+line_last : (names : List (List ℕ)) (done : Renamed) → (front : List (List ℕ)) × (done_lines names done ≡ front ++ last_of names done ∷ [])
 line_last names done = (
-  rename_line done ∷ (declaration_lines names done.foot.decls
+  rename_line done.old done.new ∷ (declaration_lines names done.foot.decls
       ++ (number_line (codes "references") done.refs ∷ number_line (codes "files") (length done.changed) ∷ [])),
-  ap (λ (ls : List (List ℕ)). rename_line done ∷ ls)
+  ap (λ (ls : List (List ℕ)). rename_line done.old done.new ∷ ls)
       (sym (joined (declaration_lines names done.foot.decls)
-      (number_line (codes "references") done.refs ∷ number_line (codes "files") (length done.changed) ∷ []) (undo_line names done ∷ []))),
+      (number_line (codes "references") done.refs ∷ number_line (codes "files") (length done.changed) ∷ []) (last_of names done ∷ []))),
 )
   where
     joined : (a b c : List (List ℕ)) → (a ++ b) ++ c ≡ a ++ (b ++ c)
     joined [] b c = refl
     joined (z ∷ a) b c = ap (λ (zs : List (List ℕ)). z ∷ zs) (joined a b c)
 
-text_ends : (names : List (List ℕ)) (done : Renamed) → (front : List ℕ) × (text_of names (outcome.Done done) ≡ front ++ ended (undo_line names done))
+text_ends : (names : List (List ℕ)) (done : Renamed) → (front : List ℕ) × (text_of names (outcome.Done done) ≡ front ++ ended (last_of names done))
 text_ends names done =
     let l = line_last names done in
-    (flat_map ended l.0, ap (flat_map ended) l.1 ∙ flat_last l.0 (undo_line names done))
+    (flat_map ended l.0, ap (flat_map ended) l.1 ∙ flat_last l.0 (last_of names done))
 
 -- ---- the words of the undo request the renaming back
 
@@ -112,8 +115,8 @@ differs q name h = by (bytes_eq q name) refl where
   by false e = e
 
 module _ (laws : HasLaws) where
-  module _ (held : FileMap) (target : Target) (new : List ℕ) (write safe json : Bool) (old : FileSet) (done : Renamed) (loads : loaded held ≡ Ok old)
-      (may : MayWrite (command.Rename target new write safe json) held) (renames : Renames old target new (Ok done)) where
+  module _ (held : FileMap) (target : Target) (new : List ℕ) (writing : Writing) (json : Bool) (old : FileSet) (done : Renamed)
+      (loads : loaded held ≡ Ok old) (may : MayWrite (is_writing writing) held) (renames : Renames old target new (Ok done)) where
     abbrev names : List (List ℕ)
     names = names_of old.entries
 
@@ -155,18 +158,14 @@ module _ (laws : HasLaws) where
     there = laws.project (after files held) done.files load
 
     -- the words of the undo over a folder that loads as the new files, and whose gate is not open
-    abbrev undo : Command
-    undo = command.Rename (At place.source done.undo_at.token) done.old true false false
-
     abbrev undo_reply : Reply
-    undo_reply = reply_by undo (names_of done.files.entries) (outcome.Done undone.0)
+    undo_reply = renamed_reply Write false (names_of done.files.entries) undone.0
 
     undo_said : (now : FileMap) → loaded now ≡ Ok done.files → (IsOpen now → ⊥) → Says (command_of (undo_of names done)) now undo_reply
     unfolding Says
     undo_said now l shut =
-        let a : SaysTo undo now undo_reply =
-        answers (names_of done.files.entries) (outcome.Done undone.0)
-        (answered done.files (outcome.Done undone.0) l (λ t. shut) (Ok undone.0, undone.1, refl)) refl in
+        let a : SaysRename (At place.source done.undo_at.token) done.old Write false now undo_reply =
+        over done.files l (permitted (λ t. shut) (Ok undone.0, undone.1, refl)) in
         subst (λ (q : Option Command). Says q now undo_reply) (sym asked) a
 
     home : after undo_reply.writes (after files held) ≡ held
@@ -213,103 +212,85 @@ module _ (laws : HasLaws) where
         subst G (sym w) (undo_reply, undo_said (after (safe_writes files) held) safe_load (whole_safe held files plan).0, (refl, leaves))
 
     -- the writes of the reply
-    abbrev writes_so : Bool → Bool → List SourceFile
-    writes_so w s = if s then safe_writes files else (if w then files else [])
+    loads_so : (w : Writing) → is_writing w ≡ true → loaded (after (writes_of w files) held) ≡ Ok done.files
+    loads_so Show t = cc
+    loads_so Write t = load
+    loads_so Safe t = safe_load
 
-    writes : (reply : Reply) → reply ≡ reply_by (command.Rename target new write safe json) names (outcome.Done done)
-        → reply.writes ≡ writes_so write safe
-    writes reply e = ap (λ (r : Reply). r.writes) e
+    module _ (reply : Reply) (replied : reply ≡ renamed_reply writing json names done) where
+      writes : reply.writes ≡ writes_of writing files
+      writes = ap (λ (r : Reply). r.writes) replied
 
-    safe_files : (reply : Reply) → reply ≡ reply_by (command.Rename target new write safe json) names (outcome.Done done) → safe ≡ true
-        → reply.writes ≡ safe_writes files
-    safe_files reply e s = writes reply e ∙ ap (λ (b : Bool). writes_so write b) s
+      writes_as : (w : Writing) → writing ≡ w → reply.writes ≡ writes_of w files
+      writes_as w e = writes ∙ ap (λ (v : Writing). writes_of v files) e
 
-    all_files : (reply : Reply) → reply ≡ reply_by (command.Rename target new write safe json) names (outcome.Done done) → write ≡ true → safe ≡ false
-        → reply.writes ≡ files
-    all_files reply e w s = writes reply e ∙ ap (λ (b : Bool). writes_so write b) s ∙ ap (λ (b : Bool). writes_so b false) w
+      is_done : IsDone held target new writing json reply
+      is_done = record {
+        old = old;
+        done = done;
+        loads = loads;
+        renames = renames;
+        replied = replied;
+        written = λ t. subst (λ (ws : List SourceFile). loaded (after ws held) ≡ Ok done.files) (sym writes) (loads_so writing t);
+        valid = laws.valid old target new done project renames;
+        facts = laws.facts old target new done project renames;
+        runs = laws.runs old target new done project renames;
+        least = laws.least old target new done project renames;
+        line = λ j. let t = text_ends names done in
+            (t.0, ap (λ (r : Reply). r.text) replied ∙ (ap (λ (b : Bool). outcome_text b names (outcome.Done done)) j ∙ t.1));
+        back = λ w. gives_back reply (writes_as Write w) (may (ap is_writing w));
+        safe_back = λ s. gives_files_back reply (writes_as Safe s);
+      }
 
-    loads_so : (w s : Bool) → (w || s) ≡ true → loaded (after (writes_so w s) held) ≡ Ok done.files
-    loads_so true true t = safe_load
-    loads_so false true t = safe_load
-    loads_so true false t = load
-    loads_so false false t = cc
-
-    is_done : (reply : Reply) → reply ≡ reply_by (command.Rename target new write safe json) names (outcome.Done done)
-        → IsDone held target new write safe json reply
-    is_done reply e = record {
-      old = old;
-      done = done;
-      loads = loads;
-      renames = renames;
-      replied = e;
-      written = λ t. subst (λ (ws : List SourceFile). loaded (after ws held) ≡ Ok done.files) (sym (writes reply e)) (loads_so write safe t);
-      valid = laws.valid old target new done project renames;
-      facts = laws.facts old target new done project renames;
-      runs = laws.runs old target new done project renames;
-      least = laws.least old target new done project renames;
-      line = λ j. let t = text_ends names done in
-          (t.0, ap (λ (r : Reply). r.text) e ∙ (ap (λ (b : Bool). outcome_text b names (outcome.Done done)) j ∙ t.1));
-      back = λ w s. gives_back reply (all_files reply e w s) (may (ap (λ (b : Bool). b || safe) w));
-      safe_back = λ s. gives_files_back reply (safe_files reply e s);
-    }
-
-    -- a write of `--safe` failed
-    stopped_safely : (reply : Reply) → reply ≡ reply_by (command.Rename target new write safe json) names (outcome.Done done) → safe ≡ true
-        → (IsOpen held → ⊥) → (now : FileMap)
-        → StoppedWriting reply.writes (Some held) (Some now) → Recovers now (project_in held) ⊎ Recovers now (project_in (after reply.writes held))
-    stopped_safely reply e s shut now halt =
-        let w : reply.writes ≡ safe_writes files = safe_files reply e s in
-        let R : List SourceFile → Type 0 = λ ws. Recovers now (project_in held) ⊎ Recovers now (project_in (after ws held)) in
-        subst R (sym w) (by (stopped_safe held now files plan shut
-        (subst (λ (ws : List SourceFile). StoppedWriting ws (Some held) (Some now)) w halt)))
-      where
-        by : Recovers now (project_in held) ⊎ Recovers now (project_in (after files held)) → Recovers now (project_in held)
-            ⊎ Recovers now (project_in (after (safe_writes files) held))
-        by (inl r) = inl r
-        by (inr r) = inr (subst (Recovers now) (sym (whole_safe held files plan).1) r)
+      -- a write of `--safe` failed
+      stopped_safely : writing ≡ Safe → (IsOpen held → ⊥) → (now : FileMap) → StoppedWriting reply.writes (Some held) (Some now)
+          → Recovers now (project_in held) ⊎ Recovers now (project_in (after reply.writes held))
+      stopped_safely e shut now halt =
+          let w : reply.writes ≡ safe_writes files = writes_as Safe e in
+          let R : List SourceFile → Type 0 = λ ws. Recovers now (project_in held) ⊎ Recovers now (project_in (after ws held)) in
+          subst R (sym w) (by (stopped_safe held now files plan shut
+          (subst (λ (ws : List SourceFile). StoppedWriting ws (Some held) (Some now)) w halt)))
+        where
+          by : Recovers now (project_in held) ⊎ Recovers now (project_in (after files held)) → Recovers now (project_in held)
+              ⊎ Recovers now (project_in (after (safe_writes files) held))
+          by (inl r) = inl r
+          by (inr r) = inr (subst (Recovers now) (sym (whole_safe held files plan).1) r)
 
   -- ---- a reply that is done
 
-  -- a reply that is done has done the renaming
-  module _ (held : FileMap) (target : Target) (new : List ℕ) (write safe json : Bool) (P : Reply → Type 0)
-      (h : (old : FileSet) (done : Renamed) → loaded held ≡ Ok old → MayWrite (command.Rename target new write safe json) held
-      → Renames old target new (Ok done)
-      → (reply : Reply) → reply ≡ reply_by (command.Rename target new write safe json) (names_of old.entries) (outcome.Done done) → P reply) where
-    by_answer : (sources : List (List ℕ)) (o : Outcome) (reply : Reply) → IsAnswer held (command.Rename target new write safe json) sources o
-        → reply ≡ reply_by (command.Rename target new write safe json) sources o → reply.status ≡ Done → P reply
-    by_answer sources o reply (not_loaded error l) e d = absurd (let no : Project ≡ Done = sym (ap (λ (r : Reply). r.status) e) ∙ d in cc)
-    by_answer sources o reply (answered files _ l may (Err r, a, t)) e d =
-        absurd (no_done_refusal r (sym (ap status_of t) ∙ (sym (ap (λ (x : Reply). x.status) e) ∙ d)))
-    by_answer sources o reply (answered files _ l may (Ok done, a, t)) e d =
-        h files done l may a reply (e ∙ ap (λ (x : Outcome). reply_by (command.Rename target new write safe json) (names_of files.entries) x) t)
+  no_project : (reply : Reply) (text : List ℕ) → reply ≡ reply_of Project [] text → reply.status ≡ Done → ⊥
+  no_project reply text e d = let no : Project ≡ Done = sym (ap (λ (r : Reply). r.status) e) ∙ d in cc
 
-    by_reply : (reply : Reply) → SaysTo (command.Rename target new write safe json) held reply → reply.status ≡ Done → P reply
-    by_reply reply (answers sources o a e) d = by_answer sources o reply a e d
-    by_reply reply (batches file files b l may s) d = cc
-    by_reply reply (pends p e) d = absurd (let no : Project ≡ Done = sym (ap (λ (r : Reply). r.status) e) ∙ d in cc)
+  no_refused : (why : Refusal) (reply : Reply) (text : List ℕ) → reply ≡ reply_of (status_of_refusal why) [] text → reply.status ≡ Done → ⊥
+  no_refused why reply text e d = no_done_refusal why (sym (ap (λ (r : Reply). r.status) e) ∙ d)
+
+  -- a reply that is done has done the renaming
+  module _ (held : FileMap) (target : Target) (new : List ℕ) (writing : Writing) (json : Bool) (P : Reply → Type 0)
+      (h : (old : FileSet) (done : Renamed) → loaded held ≡ Ok old → MayWrite (is_writing writing) held → Renames old target new (Ok done)
+      → (reply : Reply) → reply ≡ renamed_reply writing json (names_of old.entries) done → P reply) where
+    by_reply : (reply : Reply) → SaysRename target new writing json held reply → reply.status ≡ Done → P reply
+    by_reply reply (not_loaded error l e) d = absurd (no_project reply _ e d)
+    by_reply reply (over files l (pends q e)) d = absurd (no_project reply _ e d)
+    by_reply reply (over files l (permitted may (Err why, a, e))) d = absurd (no_refused why reply _ e d)
+    by_reply reply (over files l (permitted may (Ok done, a, e))) d = h files done l may a reply e
 
   -- a footprint that is shown
-  shown_so : (held : FileMap) (target : Target) (reply : Reply) → SaysTo (command.Shape target) held reply → reply.status ≡ Done
-      → IsShown held target reply
-  shown_so held target reply (answers sources o (not_loaded error l) e) d =
-      absurd (let no : Project ≡ Done = sym (ap (λ (r : Reply). r.status) e) ∙ d in cc)
-  shown_so held target reply (answers sources o (answered files _ l may (Err r, a, t)) e) d =
-      absurd (no_done_refusal r (sym (ap status_of t) ∙ (sym (ap (λ (x : Reply). x.status) e) ∙ d)))
-  shown_so held target reply (answers sources o (answered files _ l may (Ok shown, a, t)) e) d = record {
+  shown_so : (held : FileMap) (target : Target) (reply : Reply) → SaysShape target held reply → reply.status ≡ Done → IsShown held target reply
+  shown_so held target reply (not_loaded error l e) d = absurd (no_project reply _ e d)
+  shown_so held target reply (over files l (Err why, a, e)) d = absurd (no_refused why reply _ e d)
+  shown_so held target reply (over files l (Ok shown, a, e)) d = record {
     old = files;
     shown = shown;
     loads = l;
     shows = a;
-    replied = e ∙ ap (λ (x : Outcome). reply_by (command.Shape target) (names_of files.entries) x) t;
+    replied = e;
     least = laws.shown_least files target shown (laws.project held files l) a;
     outside = laws.shown_kept files target shown (laws.project held files l) a;
   }
-  shown_so held target reply (pends p e) d = absurd (let no : Project ≡ Done = sym (ap (λ (r : Reply). r.status) e) ∙ d in cc)
-  shown_so held target reply (batches file files b l may s) d = cc
 
   -- a batch that is done
   module _ (held : FileMap) (file : List ℕ) (write : Bool) (old : FileSet) (bytes : List ℕ) (steps : List Step) (done : Batched)
-      (loads : loaded held ≡ Ok old) (may : MayWrite (command.Batch file write) held) (found : batch_in held file ≡ Some bytes)
+      (loads : loaded held ≡ Ok old) (may : MayWrite write held) (found : batch_in held file ≡ Some bytes)
       (reads : IsBatch (feed_lines bytes) steps) (accepted : Batches old steps (Ok done)) where
     project_of : IsProject old
     project_of = laws.project held old loads
@@ -357,7 +338,7 @@ module _ (laws : HasLaws) where
       shut_beside o = by write wanted may
           (sym (get_after_other batch_files held gate_name (not_named gate_name batch_files gate_no_source batch_plan.sources.named))
           ∙ sym (get_other (after batch_files held) undo undo_lines gate_name (differs gate_name undo (λ e. no_gate (sym e)))) ∙ o) where
-            by : (w : Bool) → w ≡ true → MayWrite (command.Batch file w) held → IsOpen held → ⊥
+            by : (w : Bool) → w ≡ true → MayWrite w held → IsOpen held → ⊥
             by true t m = m refl
             by false t m = cc
 
@@ -366,14 +347,14 @@ module _ (laws : HasLaws) where
           ap (λ (b : Bool). if b then None else get new_folder undo) unlisted_name ∙ get_here (after batch_files held) undo undo_lines
 
       abbrev back_reply : Reply
-      back_reply = batched_reply (command.Batch undo true) (names_of done.files.entries) batch_undone.0
+      back_reply = batched_reply true (names_of done.files.entries) batch_undone.0
 
       back_said : Says (Some (command.Batch undo true)) new_folder back_reply
       unfolding Says
       back_said =
-          batches undo done.files refl loads_beside (λ t. shut_beside)
+          over done.files loads_beside (permitted (λ t. shut_beside)
           (runs undo_lines (undo_steps (names_of done.files.entries) done.undo) lines_beside short batch_asked
-          (batched batch_undone.0 batch_undone.1 refl))
+          (batched batch_undone.0 batch_undone.1 refl)))
 
       batch_home : after back_reply.writes new_folder ≡ with_file undo undo_lines held
       batch_home =
@@ -399,7 +380,7 @@ module _ (laws : HasLaws) where
           (λ back. (back.status ≡ Done) × (after back.writes (with_file undo undo_lines (after ws held)) ≡ with_file undo undo_lines held)) in
           subst G (sym (e ∙ ap batch_writes wanted)) (back_reply, back_said, (refl, batch_home))
 
-    batch_is_done : (reply : Reply) → reply ≡ batched_reply (command.Batch file write) (names_of old.entries) done → IsBatchDone held file write reply
+    batch_is_done : (reply : Reply) → reply ≡ batched_reply write (names_of old.entries) done → IsBatchDone held file write reply
     batch_is_done reply e = record {
       old = old;
       bytes = bytes;
@@ -418,34 +399,24 @@ module _ (laws : HasLaws) where
       runs = λ some. laws.batch_runs old steps done project_of some accepted;
     }
 
-  batch_so : (held : FileMap) (file : List ℕ) (write : Bool) (reply : Reply) → SaysTo (command.Batch file write) held reply → reply.status ≡ Done
+  batch_so : (held : FileMap) (file : List ℕ) (write : Bool) (reply : Reply) → SaysBatch file write held reply → reply.status ≡ Done
       → IsBatchDone held file write reply
-  batch_so held file write reply (answers sources o (not_loaded error l) e) d =
-      absurd (let no : Project ≡ Done = sym (ap (λ (r : Reply). r.status) e) ∙ d in cc)
-  batch_so held file write reply (answers sources o (answered files _ l may a) e) d = absurd a
-  batch_so held file write reply (pends p e) d = absurd (let no : Project ≡ Done = sym (ap (λ (r : Reply). r.status) e) ∙ d in cc)
-  batch_so held file write reply (batches other files b l may s) d = by (one b) s where
-    one : Some file ≡ Some other → other ≡ file
-    one b = cc
-
-    in_steps : (bytes : List ℕ) (steps : List Step) → batch_in held file ≡ Some bytes → IsBatch (feed_lines bytes) steps
-        → SaysSteps (command.Batch file write) files steps reply → IsBatchDone held file write reply
-    in_steps bytes steps f is (stopped k why a e) = absurd (no_done_refusal why (sym (ap (λ (r : Reply). r.status) e) ∙ d))
-    in_steps bytes steps f is (batched done a e) = batch_is_done held file write files bytes steps done l may f is a reply e
-
-    by : other ≡ file → SaysBatch (command.Batch file write) other (batch_in held other) files reply → IsBatchDone held file write reply
-    by same (lacks f e) = absurd (let no : Project ≡ Done = sym (ap (λ (r : Reply). r.status) e) ∙ d in cc)
-    by same (large bytes f long e) = absurd (let no : Project ≡ Done = sym (ap (λ (r : Reply). r.status) e) ∙ d in cc)
-    by same (unread bytes n f short bad e) = absurd (let no : Project ≡ Done = sym (ap (λ (r : Reply). r.status) e) ∙ d in cc)
-    by same (runs bytes steps f short is s) = in_steps bytes steps (subst (λ (name : List ℕ). batch_in held name ≡ Some bytes) same f) is s
+  batch_so held file write reply (not_loaded error l e) d = absurd (no_project reply _ e d)
+  batch_so held file write reply (over files l (pends q e)) d = absurd (no_project reply _ e d)
+  batch_so held file write reply (over files l (permitted may (lacks f e))) d = absurd (no_project reply _ e d)
+  batch_so held file write reply (over files l (permitted may (large bytes f long e))) d = absurd (no_project reply _ e d)
+  batch_so held file write reply (over files l (permitted may (unread bytes n f short bad e))) d = absurd (no_project reply _ e d)
+  batch_so held file write reply (over files l (permitted may (runs bytes steps f short is (stopped k why a e)))) d =
+      absurd (no_refused why reply _ e d)
+  batch_so held file write reply (over files l (permitted may (runs bytes steps f short is (batched done a e)))) d =
+      batch_is_done held file write files bytes steps done l may f is a reply e
 
   -- a recovery that is done leaves what is recovered
-  recovered_so : (held : FileMap) (reply : Reply) → SaysRecovery held reply → reply.status ≡ Done
-      → Recovers held (project_in (after reply.writes held))
+  recovered_so : (held : FileMap) (reply : Reply) → SaysRecovery held reply → reply.status ≡ Done → IsRecoverDone held reply
   recovered_so held reply (idle shut e) d = subst (λ (r : Reply). Recovers held (project_in (after r.writes held))) (sym e) (closed shut)
   recovered_so held reply (finished files o p e) d = subst (λ (r : Reply). Recovers held (project_in (after r.writes held))) (sym e)
       (whole_again held files o p).1
-  recovered_so held reply (lost l e) d = absurd (let no : Project ≡ Done = sym (ap (λ (r : Reply). r.status) e) ∙ d in cc)
+  recovered_so held reply (lost l e) d = absurd (no_project reply _ e d)
 
   -- the files that a list gives are a project
   pub list_project : (held : FileMap) (name : List ℕ) (files : FileSet) → Lists held name (Ok files) → IsProject files
@@ -461,8 +432,8 @@ module _ (laws : HasLaws) where
 
   no_done_list : (name : List ℕ) (error : ListError) (reply : Reply) → RefusesList name error reply → reply.status ≡ Done → ⊥
   no_done_list name list_error.Read reply h d = h
-  no_done_list name (list_error.BadList number) reply h d = let no : Project ≡ Done = sym (ap (λ (r : Reply). r.status) h) ∙ d in cc
-  no_done_list name (list_error.Load why) reply h d = let no : Project ≡ Done = sym (ap (λ (r : Reply). r.status) h) ∙ d in cc
+  no_done_list name (list_error.BadList number) reply h d = no_project reply _ h d
+  no_done_list name (list_error.Load why) reply h d = no_project reply _ h d
 
   -- a `verify` that is done says yes
   verified_so : (held : FileMap) (old new : List ℕ) (reply : Reply) → SaysVerify old new held reply → reply.status ≡ Done
@@ -483,7 +454,7 @@ module _ (laws : HasLaws) where
       runs = laws.verified_runs files other changes (list_project held old files l) (list_project held new other m) v;
     }
     yes other (Ok (No why)) m v e = let no : Refused ≡ Done = sym (ap (λ (r : Reply). r.status) e) ∙ d in cc
-    yes other (Err why) m v e = absurd (no_done_refusal why (sym (ap (λ (r : Reply). r.status) e) ∙ d))
+    yes other (Err why) m v e = absurd (no_refused why reply _ e d)
 
     by : SaysAgainst files new held reply → IsVerified held old new reply
     by (unlisted error m h) = absurd (no_done_list new error reply h d)
@@ -495,8 +466,8 @@ module _ (laws : HasLaws) where
   by_says (Some command.Check) held reply s d = tt
   by_says (Some (command.Shape target)) held reply s d = shown_so held target reply s d
   by_says (Some (command.Rename target new write safe json)) held reply s d =
-      by_reply held target new write safe json (IsDone held target new write safe json)
-      (λ old done l may a r e. is_done held target new write safe json old done l may a r e) reply s d
+      by_reply held target new (writing_of write safe) json (IsDone held target new (writing_of write safe) json)
+      (λ old done l may a r e. is_done held target new (writing_of write safe) json old done l may a r e) reply s d
   by_says (Some (command.Sample units)) held reply s d = tt
   by_says (Some (command.Verify old new)) held reply s d = verified_so held old new reply s d
   by_says (Some (command.Batch file write)) held reply s d = batch_so held file write reply s d
@@ -517,39 +488,39 @@ module _ (laws : HasLaws) where
       absurd (nothing_left none.0 none.2 none.1 none.4)
   stopped_recovery held now reply (finished files o p e) d halt found r =
       stopped_again held now files found o p (subst (λ (x : Reply). StoppedWriting x.writes (Some held) (Some now)) e halt) r
-  stopped_recovery held now reply (lost l e) d halt found r = absurd (let no : Project ≡ Done = sym (ap (λ (x : Reply). x.status) e) ∙ d in cc)
+  stopped_recovery held now reply (lost l e) d halt found r = absurd (no_project reply _ e d)
 
-  stopped_renaming : (held now : FileMap) (target : Target) (new : List ℕ) (write safe json : Bool) → safe ≡ true → (IsOpen held → ⊥)
-      → (reply : Reply) → SaysTo (command.Rename target new write safe json) held reply → reply.status ≡ Done
-      → StoppedWriting reply.writes (Some held) (Some now)
-      → Recovers now (project_in held) ⊎ Recovers now (project_in (after reply.writes held))
-  stopped_renaming held now target new write safe json s shut reply said d halt =
-      by_reply held target new write safe json
-      (λ r. StoppedWriting r.writes (Some held) (Some now) → Recovers now (project_in held) ⊎ Recovers now (project_in (after r.writes held)))
-      (λ old done l may a r e halted. stopped_safely held target new write safe json old done l may a r e s shut now halted) reply said d halt
+  one_of : (held now : FileMap) → Some now ≡ Some held → now ≡ held
+  one_of held now e = cc
+
+  renaming_recoverable : (held now : FileMap) (target : Target) (new : List ℕ) (writing : Writing) (json : Bool)
+      → (Some now ≡ Some held) ⊎ ((reply : Reply) × SaysRename target new writing json held reply
+      × ((reply.status ≡ Done) × StoppedWriting reply.writes (Some held) (Some now)))
+      → IsRenameRecoverable target new writing json held now
+  renaming_recoverable held now target new writing json (inl e) =
+      λ s shut. inl (subst (λ (m : FileMap). Recovers m (project_in held)) (sym (one_of held now e)) (closed shut))
+  renaming_recoverable held now target new writing json (inr (reply, said, (d, halt))) = λ s shut. by (either s shut) where
+    either : writing ≡ Safe → (IsOpen held → ⊥) → Recovers now (project_in held) ⊎ Recovers now (project_in (after reply.writes held))
+    either s shut =
+        by_reply held target new writing json
+        (λ r. StoppedWriting r.writes (Some held) (Some now) → Recovers now (project_in held) ⊎ Recovers now (project_in (after r.writes held)))
+        (λ old done l may a r e halted. stopped_safely held target new writing json old done l may a r e s shut now halted) reply said d halt
+
+    by : Recovers now (project_in held) ⊎ Recovers now (project_in (after reply.writes held)) → Recovers now (project_in held)
+        ⊎ ((r : Reply) × SaysRename target new writing json held r × ((r.status ≡ Done) × Recovers now (project_in (after r.writes held))))
+    by (inl r) = inl r
+    by (inr r) = inr (reply, said, (d, r))
 
   pub recoverable : (request : Option Command) (held now : FileMap) → TreeStopped request held (Some now) → IsRecoverable request held now
   unfolding Says
   recoverable None held now t = tt
   recoverable (Some command.Check) held now t = tt
   recoverable (Some (command.Shape target)) held now t = tt
-  recoverable (Some (command.Rename target new write safe json)) held now (inl e) =
-      λ s shut. inl (subst (λ (m : FileMap). Recovers m (project_in held)) (sym (one_of e)) (closed shut)) where
-        one_of : Some now ≡ Some held → now ≡ held
-        one_of e = cc
-  recoverable (Some (command.Rename target new write safe json)) held now (inr (reply, said, (d, halt))) =
-      λ s shut. by (stopped_renaming held now target new write safe json s shut reply said d halt) where
-        by : Recovers now (project_in held) ⊎ Recovers now (project_in (after reply.writes held)) → Recovers now (project_in held)
-            ⊎ SomeReply (Some (command.Rename target new write safe json)) held
-            (λ r. (r.status ≡ Done) × Recovers now (project_in (after r.writes held)))
-        by (inl r) = inl r
-        by (inr r) = inr (reply, said, (d, r))
+  recoverable (Some (command.Rename target new write safe json)) held now t = renaming_recoverable held now target new (writing_of write safe) json t
   recoverable (Some (command.Sample units)) held now t = tt
   recoverable (Some (command.Verify old new)) held now t = tt
   recoverable (Some (command.Batch file write)) held now t = tt
-  recoverable (Some command.Recover) held now (inl e) = λ found r. subst (λ (m : FileMap). Recovers m found) (sym (one_of e)) r where
-    one_of : Some now ≡ Some held → now ≡ held
-    one_of e = cc
+  recoverable (Some command.Recover) held now (inl e) = λ found r. subst (λ (m : FileMap). Recovers m found) (sym (one_of held now e)) r
   recoverable (Some command.Recover) held now (inr (reply, said, (d, halt))) = λ found r. stopped_recovery held now reply said d halt found r
 
   pub done_so : (request : Option Command) (held : FileMap) (P : Reply → Type 0) → SomeReply request held (λ reply. P reply × (reply.status ≡ Done))

@@ -1,6 +1,6 @@
 pub mod Said
 pub mod Status
 pub mod Table
-pub mod Words
+pub mod Writing
 pub mod Done
 pub mod Laws

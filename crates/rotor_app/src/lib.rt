@@ -2,13 +2,20 @@
 #![tactic(auto)]
 
 mod batch;
+mod check;
+mod decide;
+mod folder;
 mod laws;
-mod outcome;
+mod recover;
+mod rename;
 mod reply;
+mod sample;
+mod shape;
 mod status;
 mod top;
 mod verify;
-mod words;
+mod writes;
+mod writing;
 
 pub use laws::replies_are_one;
 pub use reply::Reply;

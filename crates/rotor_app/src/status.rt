@@ -58,7 +58,7 @@ pub fn status_of(outcome: &Outcome) -> Status
 }
 
 /// The status of a refusal: of a renaming, or of a project.
-fn status_of_refusal(refusal: &Refusal) -> Status
+pub fn status_of_refusal(refusal: &Refusal) -> Status
     ensures { result ≡ status_of_refusal refusal.now }
 {
     match refusal {

@@ -9,7 +9,8 @@ ghost use Rattle.rotor_app.specs.Laws.{HasLaws};
 ghost use Rattle.rotor_app.specs.Table.{Ending, seen, IsComplete, Carried, Put, IsQuiet, IsAsSaid, IsFault, TreeStopped, SinkStopped, IsRefusal, AnsweredAlone, CutAlone};
 ghost use Rattle.tree_writes.specs.Writes.{HasRoom};
 
-use crate::reply::{Reply, decide};
+use crate::decide::decide;
+use crate::reply::Reply;
 use crate::status::Status;
 use cli_words::undos_are_read;
 use project_load::{

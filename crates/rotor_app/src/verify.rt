@@ -1,28 +1,26 @@
 //! The reply to `verify`.
-ghost use Rattle.std.specs.Prelude.{◌≡◌, ◌≢◌, ◌↔◌, [], Err, IfOk, IfSome, IsErrOf, Ok, OnOk, map, string_bytes};
+ghost use Rattle.std.specs.Prelude.{◌≡◌, ◌↔◌, [], IfOk, IfSome, IsErrOf, Ok, OnOk, map, string_bytes};
 ghost use Rattle.tree_io.specs.Outside.{HasCause, StaysSteady};
 ghost use Rattle.project_load.specs.Listed.{IsOutsideList};
-ghost use Rattle.rotor_app.specs.Said.{IsJudged, IsReply, RefusesList, SaysAgainst, SaysVerify, bad_list, judged_reply, status_of_verdict, unloaded_list};
+ghost use Rattle.rotor_app.specs.Said.{IsCommandReply, IsJudged, RefusesList, SaysAgainst, SaysVerify, bad_list, judged_reply, status_of_verdict};
 
-use crate::outcome::{refused, source_names};
-use crate::reply::{Reply, reply_of};
-use crate::status::{Status, status_of};
+use crate::reply::{Reply, refused_reply, reply_of, source_names, unloaded_reply};
+use crate::status::Status;
 use project_load::{ListError, load_list};
 use rename_verify::{Verdict, verdict_text, verify};
-use report::text;
-use rotor_base::{Files, LoadError, Memory, Outcome, Refusal};
+use report::bad_list_text;
+use rotor_base::{Files, LoadError, Memory};
 use std::alloc::Global;
 use tree_io::{Tree, TreeError};
 
 /// The reply to `verify` of a list of the old project and a list of the new one. The call reads the old list first.
-pub fn verify_reply<T: Tree>(
+pub fn reply_to_verify<T: Tree>(
     alloc: Global,
     old: &str,
     new: &str,
     tree: &mut T,
 ) -> Result<Reply, TreeError>
-    ensures kind { IfOk result (λ reply. IsReply reply.status reply.writes) }
-    ensures no_usage { IfOk result (λ reply. reply.status ≡ Status.Usage → ⊥) }
+    ensures kind { IfOk result IsCommandReply }
     ensures silent { IfOk result (λ reply. reply.writes ≡ []) }
     ensures said { IfOk result (λ reply. IfSome (T.content tree.old) (λ held. SaysVerify old.now new.now held reply)) }
     ensures content { T.content tree.new ≡ T.content tree.old }
@@ -42,8 +40,7 @@ fn reply_against<T: Tree>(
     list: &str,
     tree: &mut T,
 ) -> Result<Reply, TreeError>
-    ensures kind { IfOk result (λ reply. IsReply reply.status reply.writes) }
-    ensures no_usage { IfOk result (λ reply. reply.status ≡ Status.Usage → ⊥) }
+    ensures kind { IfOk result IsCommandReply }
     ensures silent { IfOk result (λ reply. reply.writes ≡ []) }
     ensures said { IfOk result (λ reply. IfSome (T.content tree.old) (λ held. SaysAgainst old.now list.now held reply)) }
     ensures content { T.content tree.new ≡ T.content tree.old }
@@ -65,28 +62,17 @@ fn list_reply(alloc: Global, list: &str, error: ListError) -> Result<Reply, Tree
     match error {
         ListError::Read => Err(TreeError::Failed),
         ListError::Load(LoadError::Memory) => Err(TreeError::Memory),
-        ListError::Load(error) => Ok(unloaded_reply(alloc, error)?),
+        ListError::Load(error) => Ok(unloaded_reply(alloc, false, error)?),
         ListError::BadList { line } => Ok(bad_list(alloc, list, line)?),
     }
-}
-
-/// The reply to a list whose files are not taken as a project's.
-fn unloaded_reply(alloc: Global, error: LoadError) -> Result<Reply, Memory>
-    ensures { IfOk result (λ reply. reply ≡ unloaded_list error) }
-{
-    let line = text(alloc, &[], &Outcome::NotLoaded(error))?;
-    Ok(reply_of(alloc, Status::Project, line))
 }
 
 /// The reply to a list whose line of this number is bad.
 fn bad_list(alloc: Global, list: &str, number: u32) -> Result<Reply, Memory>
     ensures { IfOk result (λ reply. reply ≡ bad_list list.now number) }
 {
-    let number = format!(in alloc; " {number}\n")?;
-    let mut line = b"project: badlist ".to_vec(alloc)?;
-    line.extend_from_slice(list.as_bytes())?;
-    line.extend_from_slice(number.as_bytes())?;
-    Ok(reply_of(alloc, Status::Project, line))
+    let text = bad_list_text(alloc, list, number)?;
+    Ok(reply_of(alloc, Status::Project, text))
 }
 
 /// The reply to the verdict on two projects.
@@ -96,7 +82,7 @@ fn judge(alloc: Global, old: &Files, new: &Files) -> Result<Reply, Memory>
     let names = source_names(alloc, old.entries())?;
     match verify(alloc, old, new) {
         Ok(verdict) => verdict_reply(alloc, &names, &verdict),
-        Err(refusal) => refused_reply(alloc, &names, refusal),
+        Err(refusal) => refused_reply(alloc, false, &names, refusal),
     }
 }
 
@@ -116,14 +102,4 @@ fn status_of_verdict(verdict: &Verdict) -> Status
         Verdict::Yes(_) => Status::Done,
         Verdict::No(_) => Status::Refused,
     }
-}
-
-/// The reply to a refusal of the old project, whose files have these names. Want of memory has none.
-fn refused_reply(alloc: Global, names: &[String], refusal: Refusal) -> Result<Reply, Memory>
-    ensures reply { IfOk result (λ reply. reply ≡ judged_reply (map string_bytes names.now) (Err refusal)) }
-    ensures other { OnOk result (refusal ≢ Refusal.Memory) }
-{
-    let outcome = refused(refusal)?;
-    let line = text(alloc, names, &outcome)?;
-    Ok(reply_of(alloc, status_of(&outcome), line))
 }

@@ -1,13 +1,16 @@
 //! Reads words and outcomes from its input, one a line, and prints the answer to each. The words `a b` are the line
-//! `words|a|b`, and print the command that they are. `target|a` prints the target of the word `a`. Every other line is
-//! an outcome, and prints its report as text and as JSON.
+//! `words|a|b`, and print the command that they are. `target|a` prints the target of the word `a`. `batch|..`,
+//! `verify|..` and `recover|..` print a line of that command. Every other line is an outcome, and prints its report as
+//! text and as JSON.
 #![tactic(auto)]
 
 mod asked;
+mod line;
 mod outcome;
 mod refusal;
 
 use asked::{target_answer, words_answer};
+use line::{batch_text, recover_text, verify_text};
 use outcome::outcome;
 use report::{json, text};
 use rotor_base::Memory;
@@ -39,20 +42,37 @@ fn answer(alloc: Global, line: &str) -> Result<String, Memory> {
     match pieces.as_slice() {
         ["words", words @ ..] => words_answer(alloc, words),
         ["target", word] => target_answer(alloc, word),
-        pieces => report_of(alloc, pieces),
+        pieces => match report_of(alloc, pieces)? {
+            Some(bytes) => Ok(String::from_utf8_lossy(alloc, &bytes)?),
+            None => Ok(String::from_str(alloc, "no outcome\n")?),
+        },
     }
 }
 
-/// The report of an outcome, with the names `a.ml` and `b.mli`.
-fn report_of(alloc: Global, pieces: &[&str]) -> Result<String, Memory> {
-    let Some(outcome) = outcome(alloc, pieces)? else {
-        return Ok(String::from_str(alloc, "no outcome\n")?);
-    };
+/// The report of some pieces, if they are one, with the names `a.ml` and `b.mli`.
+fn report_of(alloc: Global, pieces: &[&str]) -> Result<Option<Vec<u8>>, Memory> {
     let names = vec![in alloc;
         String::from_str(alloc, "a.ml")?,
         String::from_str(alloc, "b.mli")?,
     ]?;
-    let mut bytes = text(alloc, &names, &outcome)?;
-    bytes.extend_from_slice(&json(alloc, &names, &outcome)?)?;
-    Ok(String::from_utf8_lossy(alloc, &bytes)?)
+    match pieces {
+        ["batch", pieces @ ..] => batch_text(alloc, &names, pieces),
+        ["verify", pieces @ ..] => verify_text(alloc, &names, pieces),
+        ["recover", pieces @ ..] => recover_text(alloc, pieces),
+        pieces => outcome_text(alloc, &names, pieces),
+    }
+}
+
+/// The report of an outcome, as text and as JSON.
+fn outcome_text(
+    alloc: Global,
+    names: &[String],
+    pieces: &[&str],
+) -> Result<Option<Vec<u8>>, Memory> {
+    let Some(outcome) = outcome(alloc, pieces)? else {
+        return Ok(None);
+    };
+    let mut bytes = text(alloc, names, &outcome)?;
+    bytes.extend_from_slice(&json(alloc, names, &outcome)?)?;
+    Ok(Some(bytes))
 }

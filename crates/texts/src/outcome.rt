@@ -87,6 +87,6 @@ fn no_files(alloc: Global) -> Result<Files, Memory> {
     }
 }
 
-fn long(text: &str) -> u64 {
+pub fn long(text: &str) -> u64 {
     text.parse::<u64>().unwrap_or(0)
 }

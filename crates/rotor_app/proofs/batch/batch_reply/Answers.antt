@@ -1,18 +1,13 @@
-use Rattle.std.proofs.Common.{List, ℕ, Some, option_map, ap, subst}
-use Rattle.rotor_app.specs.Said.{SaysBatch}
-use Rattle.rotor_app.proofs.Batching.{said_lacking, said_found}
+use Rattle.std.proofs.Common.{option_map}
+use Rattle.rotor_app.proofs.Batching.{found_kind, said_found}
 use Rattle.rotor_app.proofs.batch.batch_reply.Goals as goal
 
-pub returns-in_ok-bad_batch-in-None-clause-said : goal.returns-in_ok-bad_batch-in-None-clause-said
-returns-in_ok-bad_batch-in-None-clause-said g c =
-    said_lacking c.args.command.now c.args.file.now c.args.files.now c.in_ok-bad_batch-in-None.field-0
-    (g.T.Tree.content c.args.tree.now) _ (ap (option_map (λ bytes. bytes.items)) c.in-None.is)
-    c.in_ok-read_batch_file.ensures.read c.in_ok-bad_batch-in-None.ensures
+pub returns-clause-kind : goal.returns-clause-kind
+returns-clause-kind g c =
+    found_kind c.args.file.now c.args.write (option_map (λ bytes. bytes.items) c.in_ok-found.found) c.args.files.now c.in_ok-reply.reply
+    c.in_ok-reply.ensures
 
-pub returns-in_ok-bytes_reply-in-Some-clause-said : goal.returns-in_ok-bytes_reply-in-Some-clause-said
-returns-in_ok-bytes_reply-in-Some-clause-said g c =
-    said_found c.args.command.now c.args.file.now c.args.files.now c.in_ok-bytes_reply-in-Some.field-0
-    (g.T.Tree.content c.args.tree.now) _ c.in-Some.bytes.items
-    (ap (option_map (λ bytes. bytes.items)) c.in-Some.is) c.in_ok-read_batch_file.ensures.read
-    (subst (λ (bytes : List ℕ). SaysBatch c.args.command.now c.args.file.now (Some bytes) c.args.files.now c.in_ok-bytes_reply-in-Some.field-0)
-    c.deref.ensures.value c.in_ok-bytes_reply-in-Some.ensures.said)
+pub returns-clause-said : goal.returns-clause-said
+returns-clause-said g c =
+    said_found c.args.file.now c.args.write c.args.files.now c.in_ok-reply.reply (g.T.Tree.content c.args.tree.now)
+    (option_map (λ bytes. bytes.items) c.in_ok-found.found) c.in_ok-found.ensures.read c.in_ok-reply.ensures
