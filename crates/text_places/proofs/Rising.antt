@@ -174,7 +174,7 @@ comes_back c (b ∷ bs) o has =
 
 -- ---- as people count
 
-one_byte : (b : ℕ) (bs : List ℕ) → (front_of People (b ∷ bs)).len ≡ 1
+pub one_byte : (b : ℕ) (bs : List ℕ) → (front_of People (b ∷ bs)).len ≡ 1
 one_byte b bs = elim (b == 10) as (λ t. (cond t (line_end 1) (character People 1)).len ≡ 1) [ true ↦ refl | false ↦ refl ]
 
 abbrev Offsets : List Mark → List ℕ

@@ -24,7 +24,7 @@ marks_skip c (suc k) at here (b ∷ bs) le =
     marks_skip c k (suc at) here bs (omega arith) ∙ ap (λ n. marks_from c 0 n here (drop k bs)) sum
 
 -- what begins at an offset is a mark, and the others are those behind it
-abbrev mark_of : ℕ → Position → Front → Mark
+abbrev pub mark_of : ℕ → Position → Front → Mark
 mark_of at here front = record { offset = at; position = here; ends_line = front.ends_line }
 
 pub marks_next : (c : Counting) (at : ℕ) (here : Position) (bs : List ℕ) (front : Front) → front ≡ front_of c bs → 0 < front.len → front.len ≤ length bs
@@ -64,7 +64,7 @@ find_on p m ms other = ap (λ b. cond b (Some m) (find (names p) ms)) other
 -- ---- looking for an offset
 
 -- the first mark of a stop is its own
-front_mark : (c : Counting) (at : ℕ) (here : Position) (bs : List ℕ)
+pub front_mark : (c : Counting) (at : ℕ) (here : Position) (bs : List ℕ)
     → (m : Mark) × (ms : List Mark) × (marks_from c 0 at here bs ≡ m ∷ ms) × (m.offset ≡ at) × (m.position ≡ here)
 front_mark c at here [] = (record { offset = at; position = here; ends_line = true }, [], refl, refl, refl)
 front_mark c at here (b ∷ bs) = (
@@ -75,10 +75,10 @@ front_mark c at here (b ∷ bs) = (
   refl,
 )
 
-last_with : (o : ℕ) (p : Position) (m : Mark) (ms : List Mark) → m.offset ≤ o → last_upto o p (m ∷ ms) ≡ last_upto o m.position ms
+pub last_with : (o : ℕ) (p : Position) (m : Mark) (ms : List Mark) → m.offset ≤ o → last_upto o p (m ∷ ms) ≡ last_upto o m.position ms
 last_with o p m ms le = let yes : nat_le m.offset o ≡ true = grind (arith, nat_tests) in ap (λ b. cond b (last_upto o m.position ms) p) yes
 
-last_before : (o : ℕ) (p : Position) (m : Mark) (ms : List Mark) → o < m.offset → last_upto o p (m ∷ ms) ≡ p
+pub last_before : (o : ℕ) (p : Position) (m : Mark) (ms : List Mark) → o < m.offset → last_upto o p (m ∷ ms) ≡ p
 last_before o p m ms lt = let none : nat_le m.offset o ≡ false = grind (arith, nat_tests) in ap (λ b. cond b (last_upto o m.position ms) p) none
 
 -- a stop at the offset or before it: its position counts, whatever came before

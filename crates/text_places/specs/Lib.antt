@@ -1,4 +1,5 @@
 pub mod Fronts
 pub mod Marks
+pub mod People
 pub mod Stops
 pub mod Laws

@@ -4,6 +4,7 @@
 mod counting;
 mod front;
 mod laws;
+mod people;
 mod walk;
 
 pub use counting::{Counting, Position};

@@ -8,6 +8,7 @@ ghost use Rattle.text_places.specs.Stops.{IsWithin, marks_at, start_of, stop_beh
 
 use crate::counting::{Counting, Position, origin_of};
 use crate::front::{Front, front_of};
+use crate::people::people_position;
 use rotor_base::Memory;
 use std::alloc::Global;
 
@@ -98,12 +99,17 @@ pub fn offset_of(counting: Counting, bytes: &[u8], position: Position) -> Option
 }
 
 /// The line and the column of a byte. Inside a character or CR LF they are those of its first byte, and an offset behind
-/// the end has those of the end. It takes no memory.
+/// the end has those of the end. It takes no memory. As people count, it only counts the LFs before the byte.
 pub fn position_of(counting: Counting, bytes: &[u8], offset: u32) -> Position
     requires { length bytes.now + 1 < 2 ^ 32 }
     ensures { result ≡ position_of counting offset bytes.now }
 {
-    forward(counting, bytes, start_of(counting), offset).here
+    match counting {
+        Counting::People => people_position(bytes, offset),
+        Counting::Utf16 | Counting::Utf8 => {
+            forward(counting, bytes, start_of(counting), offset).here
+        }
+    }
 }
 
 /// The lines and columns of some bytes in order, by one walk along the text. `Memory` is the only error.
