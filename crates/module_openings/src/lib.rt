@@ -3,6 +3,7 @@
 #![tactic(auto)]
 
 mod lexemes;
+mod name_list;
 mod names;
 mod opened;
 mod opening;
@@ -10,6 +11,5 @@ mod openings;
 mod sources;
 
 pub use lexemes::{is_lower, is_upper, is_word};
-pub use names::is_among;
 pub use opened::{OpenedUse, opened_uses};
 pub use sources::file_number;

@@ -8,9 +8,8 @@ ghost use Rattle.module_openings.specs.Sources.{lexemes_of};
 ghost use Rattle.module_openings.specs.Opened.{depth_behind as depth_behind_of, is_first as is_first_of, is_head as is_head_of, linked_behind, opened_file, opened_in, opened_modules, opened_source, opened_units, part_lexemes, use_at, uses_behind, uses_of};
 
 use crate::lexemes::{begins_nest, ends_nest, is_upper, is_word};
-use crate::names::{
-    Linked, Meant, Names, is_among, is_meant, push_declared, push_modules, push_types,
-};
+use crate::name_list::NameList;
+use crate::names::{Linked, Meant, Names, is_meant, push_declared, push_modules, push_types};
 use crate::opening::{Opening, Site};
 use crate::openings::{behind_head, brings, ends, opening_at, opens_outside, skipped};
 use crate::sources::file_number;
@@ -39,8 +38,8 @@ pub fn opened_uses(
 {
     let mut found = Vec::new(alloc);
     let mut linked = Linked {
-        units: Vec::new(alloc),
-        nested: Vec::new(alloc),
+        units: NameList::new(alloc),
+        nested: NameList::new(alloc),
     };
     let mut rest = units;
     while let [unit, behind @ ..] = rest {
@@ -109,7 +108,7 @@ fn pass_unit(
 {
     let body = part_tokens(sources, &unit.body);
     let face = part_tokens(sources, &unit.face);
-    linked.units.push(Name::new(alloc, unit.name.as_bytes())?)?;
+    linked.units.push(alloc, unit.name.as_bytes())?;
     push_modules(alloc, &mut linked.nested, body)?;
     push_modules(alloc, &mut linked.nested, face)
 }
@@ -125,7 +124,7 @@ fn add_source(
     requires { length tokens.now ≤ max_file_bytes }
     ensures { OnOk result (found.new.items ≡ found.old.items ++ opened_source (view_linked linked.now) file (view_tokens tokens.now)) }
 {
-    let mut types = Vec::new(alloc);
+    let mut types = NameList::new(alloc);
     push_types(alloc, &mut types, tokens)?;
     add_openings(alloc, found, &Names { linked, types }, file, tokens)
 }
@@ -141,7 +140,7 @@ fn add_openings(
     requires { length tokens.now ≤ max_file_bytes }
     ensures { OnOk result (found.new.items ≡ found.old.items ++ opened_in (view_names names.now) file [] false [] 1 (view_tokens tokens.now)) }
 {
-    let mut locals = Vec::new(alloc);
+    let mut locals = NameList::new(alloc);
     let mut brought = false;
     let mut before: &[u8] = b"";
     let mut number: u32 = 1;
@@ -200,8 +199,8 @@ fn add_uses_of<'a, 'b>(
     requires { site.at.token + length behind.now ≤ max_file_bytes }
     ensures { OnOk result (found.new.items ≡ found.old.items ++ uses_of (view_meant meant.now) site (view_token token.now) (view_tokens behind.now)) }
 {
-    let mut inner = Vec::new(alloc);
-    let mut seen = Vec::new(alloc);
+    let mut inner = NameList::new(alloc);
+    let mut seen = NameList::new(alloc);
     let mut depth = 0;
     let mut last = token;
     let mut number = site.at.token + 1 + skipped(site.opening, behind);
@@ -232,10 +231,10 @@ fn is_head(last: &Token<'_>, token: &Token<'_>) -> bool
 }
 
 /// Whether it is the first of its name.
-fn is_first(seen: &[Name], last: &Token<'_>, token: &Token<'_>) -> bool
+fn is_first(seen: &NameList, last: &Token<'_>, token: &Token<'_>) -> bool
     ensures { result ≡ is_first_of seen.now (view_token last.now) (view_token token.now) }
 {
-    is_head(last, token) && !is_among(seen, token.bytes)
+    is_head(last, token) && !seen.contains(token.bytes)
 }
 
 /// Adds a use at a token of this number, if it is one.
@@ -265,11 +264,11 @@ fn push_use(
 }
 
 /// Adds a name, if it is the first one.
-fn push_seen(alloc: Global, seen: &mut Vec<Name>, name: &[u8], is_first: bool) -> Result<(), Memory>
-    ensures { OnOk result (seen.new.items ≡ cond is_first (seen.old.items ++ name.now ∷ []) seen.old.items) }
+fn push_seen(alloc: Global, seen: &mut NameList, name: &[u8], is_first: bool) -> Result<(), Memory>
+    ensures { OnOk result (seen.new ≡ cond is_first (seen.old ++ name.now ∷ []) seen.old) }
 {
     if is_first {
-        seen.push(Name::new(alloc, name)?)?;
+        seen.push(alloc, name)?;
     }
     Ok(())
 }

@@ -5,9 +5,10 @@ ghost use Rattle.module_openings.specs.Named.{view_meant, view_names};
 ghost use Rattle.module_openings.specs.Opened.{begins_among as begins_among_of, begins_bang as begins_bang_of, begins_item as begins_item_of, behind_bang as behind_bang_of, behind_first as behind_first_of, behind_head as behind_head_of, brings as brings_of, ends as ends_of, ends_at as ends_at_of, floor as floor_of, heads_bracket as heads_bracket_of, open_behind as open_behind_of, opening_at as opening_at_of, opens_bracket as opens_bracket_of, opens_nearer as opens_nearer_of, opens_outside as opens_outside_of, path_is_outside as path_is_outside_of, skipped as skipped_of};
 
 use crate::lexemes::{begins_nest, ends_nest, ends_value, is_upper, is_word};
-use crate::names::{Meant, Names, is_among, is_outside};
+use crate::name_list::NameList;
+use crate::names::{Meant, Names, is_outside};
 use crate::opening::Opening;
-use rotor_base::{Name, Token};
+use rotor_base::Token;
 
 /// The tokens behind a `!`, if they begin with one.
 fn behind_bang<'a, 'b>(tokens: &'a [Token<'b>]) -> &'a [Token<'b>]
@@ -20,7 +21,7 @@ fn behind_bang<'a, 'b>(tokens: &'a [Token<'b>]) -> &'a [Token<'b>]
 }
 
 /// Whether a path from outside begins here.
-fn path_is_outside(names: &Names<'_>, locals: &[Name], tokens: &[Token<'_>]) -> bool
+fn path_is_outside(names: &Names<'_>, locals: &NameList, tokens: &[Token<'_>]) -> bool
     ensures { result ≡ path_is_outside_of (view_names names.now) locals.now (view_tokens tokens.now) }
 {
     match tokens {
@@ -30,11 +31,11 @@ fn path_is_outside(names: &Names<'_>, locals: &[Name], tokens: &[Token<'_>]) -> 
 }
 
 /// Whether tokens begin with one of these names.
-fn begins_among(names: &[Name], tokens: &[Token<'_>]) -> bool
+fn begins_among(names: &NameList, tokens: &[Token<'_>]) -> bool
     ensures { result ≡ begins_among_of names.now (view_tokens tokens.now) }
 {
     match tokens {
-        [token, ..] => is_among(names, token.bytes),
+        [token, ..] => names.contains(token.bytes),
         [] => false,
     }
 }
@@ -92,7 +93,7 @@ pub(crate) fn opening_at(before: &[u8], token: &Token<'_>, behind: &[Token<'_>])
 /// Whether an opening at a token opens a path from outside.
 pub(crate) fn opens_outside(
     names: &Names<'_>,
-    locals: &[Name],
+    locals: &NameList,
     opening: Opening,
     token: &Token<'_>,
     behind: &[Token<'_>],
@@ -109,7 +110,7 @@ pub(crate) fn opens_outside(
 /// Whether the opening at a token, if there is one, opens another module, which may be of the project.
 pub(crate) fn brings(
     names: &Names<'_>,
-    locals: &[Name],
+    locals: &NameList,
     opening: Option<Opening>,
     token: &Token<'_>,
     behind: &[Token<'_>],
@@ -137,19 +138,19 @@ fn begins_item(last: &Token<'_>, token: &Token<'_>) -> bool
                 || is_word(token, b"external")))
 }
 
-/// Whether an item at a token behind another opens a path from outside, behind an opening and the modules that are declared
-/// behind that.
+/// Whether an item at a token behind another opens or includes a path from outside, behind an opening and the modules that
+/// are declared behind that.
 fn opens_nearer(
     meant: &Meant<'_, '_>,
-    inner: &[Name],
+    inner: &NameList,
     last: &Token<'_>,
     token: &Token<'_>,
     behind: &[Token<'_>],
 ) -> bool
     ensures { result ≡ opens_nearer_of (view_meant meant.now) inner.now (view_token last.now) (view_token token.now) (view_tokens behind.now) }
 {
-    is_word(token, b"open")
-        && !is_word(last, b"let")
+    let opens = is_word(token, b"open") && !is_word(last, b"let");
+    (opens || is_word(token, b"include"))
         && path_is_outside(meant.names, meant.locals, behind_bang(behind))
         && !begins_among(inner, behind_bang(behind))
 }
@@ -157,7 +158,7 @@ fn opens_nearer(
 /// Whether an opening ends at a token behind another, outside of brackets.
 fn ends_at(
     meant: &Meant<'_, '_>,
-    inner: &[Name],
+    inner: &NameList,
     opening: Opening,
     last: &Token<'_>,
     token: &Token<'_>,
@@ -184,7 +185,7 @@ fn floor(opening: Opening) -> usize
 /// Whether an opening ends at a token behind another, inside so many brackets.
 pub(crate) fn ends(
     meant: &Meant<'_, '_>,
-    inner: &[Name],
+    inner: &NameList,
     opening: Opening,
     depth: usize,
     last: &Token<'_>,

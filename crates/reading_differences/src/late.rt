@@ -4,13 +4,13 @@ ghost use Rattle.std.specs.Option.{option_copied};
 ghost use Rattle.rotor_base.specs.Limits.{max_file_bytes};
 ghost use Rattle.ml_lexer.specs.Lexed.{view_tokens};
 ghost use Rattle.ml_trees.specs.View.{view_part_of, view_unit};
-ghost use Rattle.unit_order.specs.Heads.{unit_heads};
+ghost use Rattle.unit_order.specs.Heads.{is_among, unit_heads};
 ghost use Rattle.module_openings.specs.Sources.{lexemes_of};
 ghost use Rattle.reading_differences.specs.Late.{first_head as first_head_of, head_in as head_in_of, late, late_behind, late_head as late_head_of, late_needs, needed_head};
 
 use crate::difference::{Difference, Parting};
 use ml_trees::{FileTree, UnitTree};
-use module_openings::{file_number, is_among, is_upper, is_word};
+use module_openings::{file_number, is_upper, is_word};
 use rotor_base::{Memory, Name, Place, Token};
 use std::alloc::Global;
 use unit_order::needs;
@@ -92,11 +92,18 @@ fn late_head(
     requires short { All (λ list. length list.items ≤ max_file_bytes) sources.now }
     ensures { result ≡ late_head_of (map (λ list. view_tokens list.items) sources.now) (view_unit unit.now) name.now }
 {
-    if is_among(heads, name) {
+    if is_head(heads, name) {
         head_of(sources, unit, name)
     } else {
         None
     }
+}
+
+/// Whether a name is one of these heads.
+fn is_head(heads: &[Name], name: &[u8]) -> bool
+    ensures { result ≡ is_among heads.now name.now }
+{
+    heads.iter().any(|head| head.as_bytes() == name)
 }
 
 /// The place of the first head of this name in the body of a unit, or else in its interface.

@@ -8,7 +8,7 @@ use Rattle.module_openings.proofs.opened.add_openings.Given as goal
 abbrev pub invariant-loop-rest : goal.invariant-loop-rest
 invariant-loop-rest l = record {
   count : l.number + length l.rest ≡ 1 + length l.tokens;
-  left : l.found.items ++ opened_in (view_names l.names) l.file l.locals.items l.brought l.before l.number (map view_token l.rest)
+  left : l.found.items ++ opened_in (view_names l.names) l.file l.locals l.brought l.before l.number (map view_token l.rest)
       ≡ l.fn.found.items ++ opened_in (view_names l.names) l.file [] false [] 1 (map view_token l.tokens);
 }
 

@@ -9,7 +9,7 @@ abbrev pub invariant-loop-rest : goal.invariant-loop-rest
 invariant-loop-rest l = record {
   count : l.number + length l.rest ≤ 1048579;
   inside : l.depth + length l.rest ≤ 1048576;
-  left : l.found.items ++ uses (view_meant l.meant) l.site l.inner.items l.seen.items l.depth (view_token l.last) l.number (map view_token l.rest)
+  left : l.found.items ++ uses (view_meant l.meant) l.site l.inner l.seen l.depth (view_token l.last) l.number (map view_token l.rest)
       ≡ l.fn.found.items ++ uses_of (view_meant l.meant) l.site (view_token l.token) (map view_token l.behind);
 }
 
