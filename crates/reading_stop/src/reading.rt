@@ -3,7 +3,7 @@
 use crate::edge::Edge;
 use crate::names_table::names;
 use crate::rule::Rule;
-use crate::step::{Step, Want};
+use crate::step::{Step, Trait, Want};
 use crate::wants::is_wanted;
 use rotor_base::{Memory, Token};
 use std::alloc::Global;
@@ -41,7 +41,8 @@ enum Frame {
 }
 
 /// A reading: its tokens, where it is, the number of tokens up to the furthest one that it looked at, the steps that
-/// come next, and what it does behind them.
+/// come next, what it does behind them, and for each token whether the next expression of a sequence was tried there and
+/// cannot be read.
 #[derive(Drop)]
 pub(crate) struct Reading<'a> {
     tokens: &'a [Token<'a>],
@@ -49,11 +50,14 @@ pub(crate) struct Reading<'a> {
     pub seen: usize,
     steps: &'static [Step],
     frames: Vec<Frame>,
+    without_next: Vec<bool>,
 }
 
 impl<'a> Reading<'a> {
     /// A reading from the first token.
     pub fn new(alloc: Global, tokens: &'a [Token<'a>], rule: Rule) -> Result<Self, Memory> {
+        let mut without_next = Vec::new(alloc);
+        without_next.resize(tokens.len(), false)?;
         let mut reading = Reading {
             tokens,
             spot: Spot {
@@ -63,6 +67,7 @@ impl<'a> Reading<'a> {
             seen: 0,
             steps: &[],
             frames: Vec::new(alloc),
+            without_next,
         };
         reading.enter(names(rule))?;
         Ok(reading)
@@ -121,8 +126,8 @@ impl<'a> Reading<'a> {
                 self.call(Frame::Maybe { spot, steps }, rule)
             }
             Step::Many(rule) => {
-                let (spot, steps) = (self.spot, self.steps);
-                self.call(Frame::Many { rule, spot, steps }, rule)
+                let steps = self.steps;
+                self.repeat(rule, steps)
             }
             Step::Or => self.leave(),
         }
@@ -159,6 +164,26 @@ impl<'a> Reading<'a> {
         if is_right { Ok(true) } else { self.fail() }
     }
 
+    /// Reads a rule as often as it can be, and then takes these steps. What cannot be read is not read again.
+    fn repeat(&mut self, rule: Rule, steps: &'static [Step]) -> Result<bool, Memory> {
+        let spot = self.spot;
+        if rule == Rule::NextExpression && matches!(self.without_next.get(spot.at), Some(true)) {
+            self.steps = steps;
+            return Ok(true);
+        }
+        self.call(Frame::Many { rule, spot, steps }, rule)
+    }
+
+    /// Keeps in mind that the next expression of a sequence cannot be read at this place. Behind an expression that takes
+    /// all that follows, it was not tried.
+    fn rule_out(&mut self, rule: Rule, spot: Spot) {
+        if rule == Rule::NextExpression && !spot.edge.has(Trait::Low) {
+            if let Some(cannot) = self.without_next.get_mut(spot.at) {
+                *cannot = true;
+            }
+        }
+    }
+
     /// Reads a rule, and then does this.
     fn call(&mut self, frame: Frame, rule: Rule) -> Result<bool, Memory> {
         self.frames.push(frame)?;
@@ -187,10 +212,7 @@ impl<'a> Reading<'a> {
                 self.steps = steps;
                 Ok(true)
             }
-            Some(Frame::Many { rule, steps, .. }) => {
-                let spot = self.spot;
-                self.call(Frame::Many { rule, spot, steps }, rule)
-            }
+            Some(Frame::Many { rule, steps, .. }) => self.repeat(rule, steps),
         }
     }
 
@@ -203,7 +225,13 @@ impl<'a> Reading<'a> {
                     self.spot = spot;
                     return self.enter(others);
                 }
-                Frame::Maybe { spot, steps } | Frame::Many { spot, steps, .. } => {
+                Frame::Maybe { spot, steps } => {
+                    self.spot = spot;
+                    self.steps = steps;
+                    return Ok(true);
+                }
+                Frame::Many { rule, spot, steps } => {
+                    self.rule_out(rule, spot);
                     self.spot = spot;
                     self.steps = steps;
                     return Ok(true);
