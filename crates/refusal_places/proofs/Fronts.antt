@@ -12,7 +12,7 @@ use Rattle.parse_module.specs.declared.files.FileKind.{FileKind}
 use Rattle.parse_module.specs.declared.files.FileKind.TheVariants as kind
 use Rattle.parse_module.specs.ModReading.{body_start, face_start}
 use Rattle.ml_trees.specs.Tree.{Items, SigItems}
-use Rattle.refusal_places.specs.Front.{behind_items, front_of}
+use Rattle.refusal_places.specs.Front.{behind_items, items_end}
 
 pairs : (ts : List Token) → map (λ (x : Lexeme). (x.class, x.bytes)) (view_tokens ts) ≡ map lexeme ts
 pairs [] = refl
@@ -49,14 +49,14 @@ face_rest ts is end h =
     ∙ ap (λ (l : List Tok). (face_start (length ts + 1) l).1) (toks_same ts) ∙ ap (λ (x : SigItems × List Tok). x.1) (some_is h)
 
 pub front_inside : (k : FileKind) (ts : List Token) (end : ℕ) → behind_items k (view_tokens ts) ≡ from ts end → end < length ts
-    → end ≡ front_of k (view_tokens ts)
+    → end ≡ items_end k (view_tokens ts)
 front_inside k ts end h lt =
     let all = viewed ts in
     let left : length (behind_items k (view_tokens ts)) ≡ length ts - end = ap (λ (l : List Tok). length l) h ∙ rest_length ts end in
     omega (arith, all, left, lt)
 
 pub front_at_end : (k : FileKind) (ts : List Token) (end : ℕ) → behind_items k (view_tokens ts) ≡ from ts end → length ts ≤ end
-    → length ts ≡ front_of k (view_tokens ts)
+    → length ts ≡ items_end k (view_tokens ts)
 front_at_end k ts end h le =
     let all = viewed ts in
     let left : length (behind_items k (view_tokens ts)) ≡ length ts - end = ap (λ (l : List Tok). length l) h ∙ rest_length ts end in

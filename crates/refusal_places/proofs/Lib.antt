@@ -1,4 +1,5 @@
 pub mod Fronts
+pub mod Lets
 pub mod Ending
 pub mod Reading
 pub mod Telling

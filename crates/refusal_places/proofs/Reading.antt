@@ -1,6 +1,7 @@
 -- Of a source that is read the front is the end.
-use Rattle.std.proofs.Common.{◌≡◌, ◌≤◌, ◌↔◌, ℕ, ◌+◌, ◌-◌, List, [], ◌∷◌, Option, Some, None, length, refl, ap, sym, ◌∙◌, arith}
+use Rattle.std.proofs.Common.{◌≡◌, ◌≤◌, ◌↔◌, ℕ, ◌+◌, ◌-◌, List, [], ◌∷◌, Option, Some, None, cond, length, take, refl, ap, sym, ◌∙◌, arith}
 use Rattle.std.proofs.lemmas.List.{length-map}
+use Rattle.std.proofs.lemmas.Option.{slice_get_past}
 use Rattle.rotor_base.specs.declared.token.Class.{Class}
 use Rattle.ml_lexer.specs.Lexed.{Lexeme}
 use Rattle.ml_syntax.specs.RespelledFile.{lexeme_toks}
@@ -13,7 +14,7 @@ use Rattle.parse_module.specs.Parts.{read_file}
 use Rattle.parse_module.specs.Whole.{HasNoTree, IsTreeOf}
 use Rattle.parse_module.proofs.LongerMod.{items_more, sig_items_more}
 use Rattle.parse_module.proofs.Whole.{no_tree, tree_of}
-use Rattle.refusal_places.specs.Front.{behind_items, front_of}
+use Rattle.refusal_places.specs.Front.{behind_items, front_of, is_in, items_end, last_let}
 use Rattle.refusal_places.specs.Laws.{AreRead, FrontsTellReading}
 use Rattle.refusal_places.proofs.Ending.{fronts_end_items}
 use Rattle.refusal_places.proofs.Fronts.{toks_length}
@@ -75,7 +76,11 @@ behind_none kind.Body file xs t h = ends file (body_start (length xs + 1) (lexem
 behind_none kind.Face file xs t h = ends_face file (face_start (length xs + 1) (lexeme_toks 1 xs)) t h
 
 front_by : (k : FileKind) (xs : List Lexeme) → behind_items k xs ≡ [] → front_of k xs ≡ length xs
-front_by k xs h = let e = ap (λ (l : List Tok). length l) h in omega (arith, e)
+front_by k xs h =
+    let e = ap (λ (l : List Tok). length l) h in
+    ap (λ (o : Option Lexeme). items_end k xs - cond (is_in o) (last_let (take (items_end k xs) xs)) 0)
+    (slice_get_past xs (items_end k xs) (omega (arith, e)))
+    ∙ omega (arith, e)
 
 read_some : (k : FileKind) (file : ℕ) (xs : List Lexeme) (r : Option FileTree) → read_file k file (length xs + 1) (lexeme_toks 1 xs) ≡ r
     → AreRead k file xs → front_of k xs ≡ length xs
