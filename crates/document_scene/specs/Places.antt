@@ -19,18 +19,23 @@ use Rattle.document_scene.specs.Scene.{Telling, uri_at}
 abbrev pub span_of : ℕ → ℕ → Span
 span_of start end = record { start = start; end = end }
 
--- the range of the word of a lexeme: of a label, its name alone
-abbrev pub word_range : Counting → List ℕ → Lexeme → TextRange
-word_range counting bytes x = range_of counting bytes (span_of (word_start x) (word_end x))
+-- the span of the word of a lexeme: of a label, its name alone; without a lexeme, the end of the source
+abbrev pub found_span : Cut → Option Lexeme → Span
+found_span cut (Some x) = span_of (word_start x) (word_end x)
+found_span cut None = span_of (length cut.bytes) (length cut.bytes)
 
--- of a lexeme of a source, or of the end of the source
-abbrev pub found_range : Counting → Cut → Option Lexeme → TextRange
-found_range counting cut (Some x) = word_range counting cut.bytes x
-found_range counting cut None = range_of counting cut.bytes (span_of (length cut.bytes) (length cut.bytes))
+-- the bytes of a source; without one, none
+abbrev pub bytes_among : Option Cut → List ℕ
+bytes_among None = []
+bytes_among (Some cut) = cut.bytes
+
+-- the span of a word of a source, by the number of its lexeme
+abbrev pub span_among : Option Cut → ℕ → Span
+span_among None number = span_of 0 0
+span_among (Some cut) number = found_span cut (slice_get cut.lexemes (number - 1))
 
 abbrev pub range_among : Counting → Option Cut → ℕ → TextRange
-range_among counting (Some cut) number = found_range counting cut (slice_get cut.lexemes (number - 1))
-range_among counting None number = range_of counting [] (span_of 0 0)
+range_among counting cut number = range_of counting (bytes_among cut) (span_among cut number)
 
 -- the range of the word at a place
 abbrev pub range_at : Telling → Place → TextRange

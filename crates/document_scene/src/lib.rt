@@ -3,6 +3,7 @@
 
 mod changes;
 mod places;
+mod ranges;
 mod scene;
 mod uri;
 
