@@ -168,7 +168,9 @@ def facts(tree, factors):
         if parts[0] == "placed" and not isinstance(parts[1], str):
             return [f"{PLACED[parts[1][1][0]]} {parts[1][1][1]} {parts[2]} {behind}"] + rest
         if parts[0] == "fixed" and not (isinstance(parts[1], str) and parts[1].startswith("key.")):
-            return [f"fixed_leaves {shown(parts[1], True)} {behind}"] + rest
+            if isinstance(parts[1], str):
+                return [f"fixed_leaves {parts[1]} {behind} plain"] + rest
+            return [f"{parts[1][1][0]}_leaves {parts[1][1][1]} {behind}"] + rest
         return rest
     name, args, tail = tree[1][0], tree[1][1:-1], tree[1][-1]
     rest = facts(tail, factors)
@@ -176,6 +178,8 @@ def facts(tree, factors):
     lemma = name.replace("_then", "_leaves")
     if name in SMALL:
         told = "" if SMALL[name] is None else " " + find(factors, [SMALL[name]], args[-1])[0]
+        if name == "optional_then":
+            told = " refl"
         return [f"{lemma} {' '.join(shown(arg, True) for arg in args)} {behind}{told}"] + rest
     if name == "links_then":
         where, predicate, told = find(factors, ["WfSeq", "WfChain"], args[0])
@@ -184,7 +188,8 @@ def facts(tree, factors):
         return [f"chain_leaves {' '.join(told)} {behind} (omega (arith, w.0)) {where}"] + rest
     where, predicate, told = find(factors, [PARTS[name][2]], args[-1])
     before = [shown(arg, True) for arg in args[:-1]]
-    return [f"{lemma} {' '.join(before + told)} {behind} {where}"] + rest
+    plain = "" if name != "pats_then" else " plain" if before == ["sep"] else " refl"
+    return [f"{lemma} {' '.join(before + told)} {behind} {where}{plain}"] + rest
 
 
 def clause_text(left, found):
@@ -208,7 +213,8 @@ def lemma_text(name, written, well):
     types = dict(parameter.split(" : ") for parameter in before)
     types[part] = kind
     signature = "".join(f" ({t} : {types[t]})" for t in (["sep"] if "sep" in told else []) + order)
-    lines = [f"  pub {lemma} :{signature} (k : List Tok) → {predicate} {' '.join(order)} → open_ins k ≤ open_ins ({name}"
+    plain = " → is_apart (fixed sep) ≡ false" if "sep" in told else ""
+    lines = [f"  pub {lemma} :{signature} (k : List Tok) → {predicate} {' '.join(order)}{plain} → open_ins k ≤ open_ins ({name}"
              f" {'sep ' if 'sep' in told else ''}{part} k)"]
     for patterns, right in written[name]:
         pattern = patterns[-2]
@@ -219,7 +225,7 @@ def lemma_text(name, written, well):
                 continue
             names = dict(zip(words_of(pattern)[1:], words_of(well_patterns[at])[1:]))
             tree = renamed(parse(right), names)
-            left = f"{lemma} {'sep ' if 'sep' in told else ''}{' '.join(shown(p, True) for p in well_patterns)} k w"
+            left = f"{lemma} {'sep ' if 'sep' in told else ''}{' '.join(shown(p, True) for p in well_patterns)} k w{' plain' if plain else ''}"
             lines.append(clause_text(left, facts(tree, split_product(well_right))))
             break
         else:
@@ -281,7 +287,7 @@ def main():
                    - {name.replace("_then", "_leaves") for name in PARTS} - {"steps_leaves", "chain_leaves"})
     head = "\n".join([
         "-- The words of a tree take no `in` from behind it. Printed by scripts/print_matching.py from the clauses of Words.",
-        "use Rattle.std.proofs.Common.{ℕ, ◌≤◌, List, ◌∷◌, ◌++◌, Bool, arith}",
+        "use Rattle.std.proofs.Common.{◌≡◌, ℕ, ◌≤◌, List, ◌∷◌, ◌++◌, Bool, false, refl, arith}",
         "use Rattle.rotor_base.specs.declared.token.Class.TheVariants as class",
         "use Rattle.ml_trees.specs.declared.fixed.Fixed.{Fixed}",
         "use Rattle.ml_trees.specs.declared.fixed.Fixed.TheVariants as key",
@@ -289,7 +295,7 @@ def main():
         imports("Rattle.ml_trees.specs.Words", used("Words.antt")),
         imports("Rattle.ml_trees.specs.WellFormed", [n for n in used("WellFormed.antt")]),
         imports("Rattle.ml_trees.specs.Tree", trees),
-        "use Rattle.matched_lets.specs.Matching.{open_ins}",
+        "use Rattle.matched_lets.specs.Matching.{is_apart, open_ins}",
         imports("Rattle.matched_lets.proofs.SmallParts", small),
     ])
     print(head + "\n\n" + body)

@@ -30,7 +30,7 @@ lets_have_their_in (Seq e es last) k w = lets_have_their_in e (links_then es (op
 lets_have_their_in (Let at rec b bs e) k w =
     some_left (open_ins (optional_then key.Rec rec (binding_then b (bindings_then bs (fixed key.In ∷ expr_then e k))))) (omega (
       arith,
-      optional_leaves key.Rec rec (binding_then b (bindings_then bs (fixed key.In ∷ expr_then e k))),
+      optional_leaves key.Rec rec (binding_then b (bindings_then bs (fixed key.In ∷ expr_then e k))) refl,
       binding_leaves b (bindings_then bs (fixed key.In ∷ expr_then e k)) w.0,
       bindings_leaves bs (fixed key.In ∷ expr_then e k) w.1,
     ))

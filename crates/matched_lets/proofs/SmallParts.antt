@@ -1,4 +1,4 @@
--- Words that are no `let`, and small parts made of such words: the `in` behind them stay open.
+-- Words of expressions other than `let`, and small parts made of such words: the `in` behind them stay open.
 use Rattle.std.proofs.Common.{◌≡◌, ℕ, ◌≤◌, List, [], ◌∷◌, ◌++◌, Bool, true, false, Option, Some, None, refl, arith}
 use Rattle.ml_trees.specs.declared.fixed.Fixed.{Fixed}
 use Rattle.ml_trees.specs.declared.fixed.Fixed.TheVariants as key
@@ -6,27 +6,40 @@ use Rattle.ml_trees.specs.declared.word.Bracket.{Bracket}
 use Rattle.ml_trees.specs.declared.word.Bracket.TheVariants as bracket
 use Rattle.ml_trees.specs.Tok.{Name, Tok, fixed, placed}
 use Rattle.ml_trees.specs.Runs.{is_type_run, is_matched, beside_type, in_type, begins_type, after_bracket, bracketing}
-use Rattle.ml_trees.specs.Words.{dotted_then, path_then, qualified_then, name_then, names_then, type_then, optional_then, bang_then, truth, opening}
+use Rattle.ml_trees.specs.Words.{dotted_then, path_then, qualified_then, name_then, names_then, type_then, optional_then, bang_then, truth, opening, closing, direction}
 use Rattle.ml_trees.specs.Words.{open_then, variable_then, local_then, locals_then, lowers_then, wrap}
 use Rattle.ml_trees.specs.WellFormed.{is_operator, op_level, WfName, WfNames, WfType}
 use Rattle.ml_trees.specs.Tree.{ValueName, PlainName, OperatorName, Variable, PlainVariable, AnyVariable, LocalModule, LocalPath, LocalArguments}
 use Rattle.ml_trees.specs.Tree.{no_local, more_local, no_module}
-use Rattle.matched_lets.specs.Matching.{ins_before, open_ins}
+use Rattle.matched_lets.specs.Matching.{is_apart, ins_before, open_ins}
 
 -- ---- words
 
-abbrev is_let : Tok → Bool
-is_let (placed key.Let at) = true
-is_let _ = false
+-- an `in` behind it may not be open before it
+abbrev cuts : Tok → Bool
+cuts (placed key.Let at) = true
+cuts t = is_apart t
 
-word_leaves : (t : Tok) (n : ℕ) → is_let t ≡ false → n ≤ ins_before t n
+word_leaves : (t : Tok) (n : ℕ) → cuts t ≡ false → n ≤ ins_before t n
 word_leaves (placed key.Let at) n e = absurd cc
+word_leaves (placed key.Include at) n e = absurd cc
+word_leaves (placed key.Sig at) n e = absurd cc
+word_leaves (placed key.Struct at) n e = absurd cc
+word_leaves (fixed key.DoubleSemicolon) n e = absurd cc
+word_leaves (fixed key.External) n e = absurd cc
 word_leaves (fixed key.In) n e = omega arith
 word_leaves _ n e = omega arith
 
-pub fixed_leaves : (x : Fixed) (n : ℕ) → n ≤ ins_before (fixed x) n
-fixed_leaves key.In n = omega arith
-fixed_leaves _ n = omega arith
+pub fixed_leaves : (x : Fixed) (n : ℕ) → is_apart (fixed x) ≡ false → n ≤ ins_before (fixed x) n
+fixed_leaves x n e = word_leaves (fixed x) n e
+
+pub closing_leaves : (b : Bracket) (n : ℕ) → n ≤ ins_before (fixed (closing b)) n
+closing_leaves bracket.List n = omega arith
+closing_leaves bracket.Array n = omega arith
+
+pub direction_leaves : (down : Bool) (n : ℕ) → n ≤ ins_before (fixed (direction down)) n
+direction_leaves true n = omega arith
+direction_leaves false n = omega arith
 
 pub opening_leaves : (b : Bracket) (at n : ℕ) → n ≤ ins_before (placed (opening b) at) n
 opening_leaves bracket.List at n = omega arith
@@ -41,18 +54,28 @@ wrap_leaves true at n = omega arith
 wrap_leaves false at n = omega arith
 
 pub semicolon_leaves : (t : Tok) (n : ℕ) → t ≡ fixed key.Semicolon → n ≤ ins_before t n
-semicolon_leaves t n e = rw e (fixed_leaves key.Semicolon n)
+semicolon_leaves t n e = rw e (fixed_leaves key.Semicolon n refl)
 
-leveled : (m : ℕ) (t : Tok) → 1 ≤ m → op_level t ≡ m → is_let t ≡ false
+leveled : (m : ℕ) (t : Tok) → 1 ≤ m → op_level t ≡ m → cuts t ≡ false
 leveled m (placed key.Let at) some e = absurd (omega (arith, some, e))
+leveled m (placed key.Include at) some e = absurd (omega (arith, some, e))
+leveled m (placed key.Sig at) some e = absurd (omega (arith, some, e))
+leveled m (placed key.Struct at) some e = absurd (omega (arith, some, e))
+leveled m (fixed key.DoubleSemicolon) some e = absurd (omega (arith, some, e))
+leveled m (fixed key.External) some e = absurd (omega (arith, some, e))
 leveled m _ some e = refl
 
 -- an operator between operands
 pub operator_leaves : (m : ℕ) (t : Tok) (n : ℕ) → 1 ≤ m → op_level t ≡ m → n ≤ ins_before t n
 operator_leaves m t n some e = word_leaves t n (leveled m t some e)
 
-named : (t : Tok) → is_operator t ≡ true → is_let t ≡ false
+named : (t : Tok) → is_operator t ≡ true → cuts t ≡ false
 named (placed key.Let at) e = absurd cc
+named (placed key.Include at) e = absurd cc
+named (placed key.Sig at) e = absurd cc
+named (placed key.Struct at) e = absurd cc
+named (fixed key.DoubleSemicolon) e = absurd cc
+named (fixed key.External) e = absurd cc
 named _ e = refl
 
 -- ---- types
@@ -61,30 +84,45 @@ none_matched : (ts : List Tok) → is_matched beside_type in_type None ts ≡ tr
 none_matched [] e = absurd cc
 none_matched (t ∷ ts) e = absurd cc
 
-let_matched : (t : Tok) (xs : List Fixed) (ts : List Tok) → is_let t ≡ true → is_matched beside_type in_type (Some xs) (t ∷ ts) ≡ true → ⊥
-let_matched (placed key.Let at) [] ts h e = none_matched ts e
-let_matched (placed key.Let at) (x ∷ xs) ts h e = none_matched ts e
-let_matched _ xs ts h e = absurd cc
+cut_matched : (t : Tok) (xs : List Fixed) (ts : List Tok) → cuts t ≡ true → is_matched beside_type in_type (Some xs) (t ∷ ts) ≡ true → ⊥
+cut_matched (placed key.Let at) [] ts h e = none_matched ts e
+cut_matched (placed key.Let at) (x ∷ xs) ts h e = none_matched ts e
+cut_matched (placed key.Include at) [] ts h e = none_matched ts e
+cut_matched (placed key.Include at) (x ∷ xs) ts h e = none_matched ts e
+cut_matched (placed key.Sig at) [] ts h e = none_matched ts e
+cut_matched (placed key.Sig at) (x ∷ xs) ts h e = none_matched ts e
+cut_matched (placed key.Struct at) [] ts h e = none_matched ts e
+cut_matched (placed key.Struct at) (x ∷ xs) ts h e = none_matched ts e
+cut_matched (fixed key.DoubleSemicolon) [] ts h e = none_matched ts e
+cut_matched (fixed key.DoubleSemicolon) (x ∷ xs) ts h e = none_matched ts e
+cut_matched (fixed key.External) [] ts h e = none_matched ts e
+cut_matched (fixed key.External) (x ∷ xs) ts h e = none_matched ts e
+cut_matched _ xs ts h e = absurd cc
 
-let_begins : (t : Tok) (ts : List Tok) → is_let t ≡ true → is_type_run (t ∷ ts) ≡ true → ⊥
-let_begins (placed key.Let at) ts h e = none_matched ts e
-let_begins _ ts h e = absurd cc
+cut_begins : (t : Tok) (ts : List Tok) → cuts t ≡ true → is_type_run (t ∷ ts) ≡ true → ⊥
+cut_begins (placed key.Let at) ts h e = none_matched ts e
+cut_begins (placed key.Include at) ts h e = none_matched ts e
+cut_begins (placed key.Sig at) ts h e = none_matched ts e
+cut_begins (placed key.Struct at) ts h e = none_matched ts e
+cut_begins (fixed key.DoubleSemicolon) ts h e = none_matched ts e
+cut_begins (fixed key.External) ts h e = none_matched ts e
+cut_begins _ ts h e = absurd cc
 
 matched_leaves : (o : Option (List Fixed)) (run k : List Tok) → is_matched beside_type in_type o run ≡ true → open_ins k ≤ open_ins (run ++ k)
 matched_leaves o [] k e = omega arith
 matched_leaves None (t ∷ ts) k e = absurd cc
-matched_leaves (Some xs) (t ∷ ts) k e = by (is_let t) refl (matched_leaves (after_bracket beside_type in_type t (bracketing t) xs) ts k e)
+matched_leaves (Some xs) (t ∷ ts) k e = by (cuts t) refl (matched_leaves (after_bracket beside_type in_type t (bracketing t) xs) ts k e)
   where
-    by : (b : Bool) → is_let t ≡ b → open_ins k ≤ open_ins (ts ++ k) → open_ins k ≤ open_ins (t ∷ (ts ++ k))
-    by true h n = absurd (let_matched t xs ts h e)
+    by : (b : Bool) → cuts t ≡ b → open_ins k ≤ open_ins (ts ++ k) → open_ins k ≤ open_ins (t ∷ (ts ++ k))
+    by true h n = absurd (cut_matched t xs ts h e)
     by false h n = omega (arith, word_leaves t (open_ins (ts ++ k)) h, n)
 
 pub run_leaves : (run k : List Tok) → is_type_run run ≡ true → open_ins k ≤ open_ins (run ++ k)
 run_leaves [] k e = absurd cc
-run_leaves (t ∷ ts) k e = by (is_let t) refl (matched_leaves (after_bracket begins_type in_type t (bracketing t) []) ts k e)
+run_leaves (t ∷ ts) k e = by (cuts t) refl (matched_leaves (after_bracket begins_type in_type t (bracketing t) []) ts k e)
   where
-    by : (b : Bool) → is_let t ≡ b → open_ins k ≤ open_ins (ts ++ k) → open_ins k ≤ open_ins (t ∷ (ts ++ k))
-    by true h n = absurd (let_begins t ts h e)
+    by : (b : Bool) → cuts t ≡ b → open_ins k ≤ open_ins (ts ++ k) → open_ins k ≤ open_ins (t ∷ (ts ++ k))
+    by true h n = absurd (cut_begins t ts h e)
     by false h n = omega (arith, word_leaves t (open_ins (ts ++ k)) h, n)
 
 pub type_leaves : (run : Option (List Tok)) (k : List Tok) → WfType run → open_ins k ≤ open_ins (type_then run k)
@@ -119,9 +157,9 @@ lowers_leaves (x ∷ xs) k = lowers_leaves xs k
 
 -- ---- small parts
 
-pub optional_leaves : (x : Fixed) (b : Bool) (k : List Tok) → open_ins k ≤ open_ins (optional_then x b k)
-optional_leaves x true k = fixed_leaves x (open_ins k)
-optional_leaves x false k = omega arith
+pub optional_leaves : (x : Fixed) (b : Bool) (k : List Tok) → is_apart (fixed x) ≡ false → open_ins k ≤ open_ins (optional_then x b k)
+optional_leaves x true k e = fixed_leaves x (open_ins k) e
+optional_leaves x false k e = omega arith
 
 pub bang_leaves : (x : Option Name) (k : List Tok) → open_ins k ≤ open_ins (bang_then x k)
 bang_leaves None k = omega arith
