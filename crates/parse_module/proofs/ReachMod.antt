@@ -225,7 +225,7 @@ head_is t u ts us e = cc
 tail_is : (t u : Tok) (ts us : List Tok) → t ∷ ts ≡ u ∷ us → ts ≡ us
 tail_is t u ts us e = cc
 
-not_begun : (t : Tok) (ts : List Tok) → begins_expr t ≡ false → Begun (t ∷ ts) → ⊥
+pub not_begun : (t : Tok) (ts : List Tok) → begins_expr t ≡ false → Begun (t ∷ ts) → ⊥
 not_begun t ts un b =
     let g = subst Begins (sym b.words) (expr_begins b.tree b.rest b.wf) in
     let q = head_is t g.first ts g.rest g.is in
@@ -272,7 +272,7 @@ seq_begun (Opened path e) k w = record { tree = Opened path e; rest = k; fits = 
 seq_begun (While at c e) k w = record { tree = While at c e; rest = k; fits = omega arith; wf = w; words = refl }
 seq_begun (For at x eq a down b e) k w = record { tree = For at x eq a down b e; rest = k; fits = omega arith; wf = w; words = refl }
 
-expr_none : (f : ℕ) (ts : List Tok) → (Begun ts → ⊥) → read_expr f wanted.Sequence ts ≡ None
+pub expr_none : (f : ℕ) (ts : List Tok) → (Begun ts → ⊥) → read_expr f wanted.Sequence ts ≡ None
 expr_none f ts never = by (read_expr f wanted.Sequence ts) refl
   where
     by : (o : Option (Expr × List Tok)) → read_expr f wanted.Sequence ts ≡ o → read_expr f wanted.Sequence ts ≡ None
@@ -517,12 +517,12 @@ mod_longer (ModParen at m) k w = omega (arith, mod_more m (fixed key.RightParen 
 mod_longer (Sealed at m s) k w =
     omega (arith, mod_more m (fixed key.Colon ∷ mod_type_then s (fixed key.RightParen ∷ k)), mod_type_more s (fixed key.RightParen ∷ k))
 
-param_longer : (p : FunctorParam) (k : List Tok) → length k < length (functor_param_then p k)
+pub param_longer : (p : FunctorParam) (k : List Tok) → length k < length (functor_param_then p k)
 param_longer (NamedParam at x s) k =
     omega (arith, module_name_more x (fixed key.Colon ∷ mod_type_then s (fixed key.RightParen ∷ k)), mod_type_more s (fixed key.RightParen ∷ k))
 param_longer (NoParam at) k = omega arith
 
-type_longer : (s : ModType) (k : List Tok) → WfModType s → length k < length (mod_type_then s k)
+pub type_longer : (s : ModType) (k : List Tok) → WfModType s → length k < length (mod_type_then s k)
 type_longer (TypePath path) k w = path_strict path k w
 type_longer (Sig at is) k w = omega (arith, sig_items_more is (fixed key.End ∷ k))
 type_longer (TypeOf at m) k w = omega (arith, mod_more m k)
@@ -532,7 +532,7 @@ type_longer (FunctorType at ps s) k w = omega (arith, functor_params_more ps (fi
 type_longer (ParamArrow p s) k w = omega (arith, param_longer p (fixed key.Arrow ∷ mod_type_then s k), mod_type_more s k)
 type_longer (Arrow s s') k w = omega (arith, type_longer s (fixed key.Arrow ∷ mod_type_then s' k) w.1, mod_type_more s' k)
 
-argument_longer : (a : ModArgument) (k : List Tok) → length k < length (mod_argument_then a k)
+pub argument_longer : (a : ModArgument) (k : List Tok) → length k < length (mod_argument_then a k)
 argument_longer (ModuleArgument at m) k = omega (arith, mod_more m (fixed key.RightParen ∷ k))
 argument_longer (SealedArgument at m s) k =
     omega (arith, mod_more m (fixed key.Colon ∷ mod_type_then s (fixed key.RightParen ∷ k)), mod_type_more s (fixed key.RightParen ∷ k))
@@ -571,7 +571,7 @@ item_longer fresh (ModuleTypeItem at x q s) k w = omega (arith, mod_type_more s 
 item_longer fresh (OpenItem at bang path) k w = omega (arith, bang_more bang (path_then path k), path_longer path k)
 item_longer fresh (IncludeItem at m) k w = omega (arith, mod_more m k)
 
-sig_item_longer : (i : SigItem) (k : List Tok) → length k < length (sig_item_then i k)
+pub sig_item_longer : (i : SigItem) (k : List Tok) → length k < length (sig_item_then i k)
 sig_item_longer SeparatorSig k = omega arith
 sig_item_longer (ValSig x run) k = omega (arith, name_longer x (fixed key.Colon ∷ (run ++ k)), run_longer run k)
 sig_item_longer (ExternalSig x run at texts) k = external_longer x run at texts k
@@ -607,7 +607,7 @@ sub_type t g w (suc f) r s len = g.full w f r s len
 -- ---- parameters of functors
 
 module _ (f : ℕ) where
-  name_read_module : (x : ModuleName) (k : List Tok) → module_name (module_name_then x k) ≡ Some (x, k)
+  pub name_read_module : (x : ModuleName) (k : List Tok) → module_name (module_name_then x k) ≡ Some (x, k)
   name_read_module (UpperName x) k = refl
   name_read_module (AnyName at) k = refl
 
@@ -621,7 +621,7 @@ module _ (f : ℕ) where
   unfolding functor_param
   no_param_read at k = refl
 
-  param_read : (p : FunctorParam) → GoodParam p → WfFunctorParam p → (k : List Tok) → length (functor_param_then p k) ≤ suc f
+  pub param_read : (p : FunctorParam) → GoodParam p → WfFunctorParam p → (k : List Tok) → length (functor_param_then p k) ≤ suc f
       → param_at f (functor_param_then p k) ≡ Some (p, k)
   param_read (NamedParam at x s) g w k len =
       let rest : List Tok = fixed key.Colon ∷ mod_type_then s (fixed key.RightParen ∷ k) in
@@ -635,7 +635,7 @@ module _ (f : ℕ) where
       omega (arith, ap length p.words, param_longer x.0 x.1)
 
   -- parameters end if no `(` follows
-  abbrev NoParen : List Tok → Type 0
+  abbrev pub NoParen : List Tok → Type 0
   NoParen (placed key.LeftParen at ∷ r) = ⊥
   NoParen _ = Unit {0}
 
@@ -657,7 +657,7 @@ module _ (f : ℕ) where
       (param_read p g.0 w.0 rest (omega (arith, len, le))) refl
       (params_reach ps g.1 w.1 k h n (omega (arith, len, param_longer p rest)) (omega (arith, le)))
 
-  params_exact : (ps : FunctorParams) → GoodParams ps → WfFunctorParams ps → (k : List Tok) → NoParen k → length (functor_params_then ps k) ≤ f
+  pub params_exact : (ps : FunctorParams) → GoodParams ps → WfFunctorParams ps → (k : List Tok) → NoParen k → length (functor_params_then ps k) ≤ f
       → functor_params (read_mod f) (read_type f) f (functor_params_then ps k) ≡ (ps, k)
   params_exact ps g w k h len = some_is (stop {C = ⊥} (λ c. c) (params_reach ps g w k h f len (omega arith)))
 
@@ -703,7 +703,7 @@ module _ (f : ℕ) where
       let p = path_read f path k w.1 len (no_dot k h) in
       rw (b, p) refl
 
-  opens_plain : (at : ℕ) (ts : List Tok) → Opens ts → value_rest f at ts ≡ some_bindings f false at ts
+  pub opens_plain : (at : ℕ) (ts : List Tok) → Opens ts → value_rest f at ts ≡ some_bindings f false at ts
   unfolding value_rest
   opens_plain at ts o = subst (λ k. value_rest f at k ≡ some_bindings f false at k) (sym o.is) (by o.first o.rest o.begins)
     where
@@ -735,17 +735,18 @@ module _ (f : ℕ) where
       private_first (t ∷ ts) h = absurd cc
   run_no_private (_ ∷ ts) k h = refl
 
-  sign_ends : (t : Tok) (k : List Tok) → is_constraint_sign t ≡ true → Blocked beside_type in_type (t ∷ k)
+  pub sign_ends : (t : Tok) (k : List Tok) → is_constraint_sign t ≡ true → Blocked beside_type in_type (t ∷ k)
   sign_ends (placed key.Equals at) k h = refl
   sign_ends (word class.Mark x) k h = refl
   sign_ends _ k h = absurd cc
 
-  private_run : (private : Bool) (b k : List Tok) → is_type_run b ≡ true
+  pub private_run : (private : Bool) (b k : List Tok) → is_type_run b ≡ true
       → optional_private (optional_then key.Private private (b ++ k)) ≡ (private, b ++ k)
   private_run true b k h = refl
   private_run false b k h = run_no_private b k h
 
-  constraint_read : (c : Constraint) (k : List Tok) → WfConstraint c → Blocked beside_type in_type k → constraint (constraint_then c k) ≡ Some (c, k)
+  pub constraint_read : (c : Constraint) (k : List Tok) → WfConstraint c → Blocked beside_type in_type k
+      → constraint (constraint_then c k) ≡ Some (c, k)
   unfolding constraint
   constraint_read (ConstraintOf a t private b) k w h =
       let behind : List Tok = t ∷ optional_then key.Private private (b ++ k) in
@@ -754,11 +755,11 @@ module _ (f : ℕ) where
       let second = type_run_read b k w.2 h in
       rw (first, w.1, p, second) refl
 
-  next_shorter : (ts : List Tok) (x : Constraint × List Tok) → next_constraint ts ≡ Some x → length x.1 < length ts
+  pub next_shorter : (ts : List Tok) (x : Constraint × List Tok) → next_constraint ts ≡ Some x → length x.1 < length ts
   next_shorter ts x e = let p = next_constraint_found ts x e in omega (arith, ap length p.1, ap length p.2.words, constraint_more x.0 x.1)
 
   -- what follows the constraints of a `with`
-  data EndsClause : List Tok → Type 0 where
+  pub data EndsClause : List Tok → Type 0 where
     at_with : (r : List Tok) → EndsClause (fixed key.With ∷ r)
     at_close : (r : List Tok) → Closed r → EndsClause r
 
@@ -790,7 +791,7 @@ module _ (f : ℕ) where
       (constraint_read c rest w.0 (constraints_blocked cs r h)) refl
       (constraints_reach cs r w.1 h n (omega (arith, len, constraint_more c rest)))
 
-  clause_read : (c : Constraint) (cs : List Constraint) (r : List Tok) → WfConstraint c → WfConstraints cs → EndsClause r
+  pub clause_read : (c : Constraint) (cs : List Constraint) (r : List Tok) → WfConstraint c → WfConstraints cs → EndsClause r
       → length (constraints_then cs r) ≤ f → with_clause f (withs_then (WithOf c cs ∷ []) r) ≡ Some (WithOf c cs, r)
   unfolding with_clause
   clause_read c cs r w ws h len =
@@ -798,7 +799,7 @@ module _ (f : ℕ) where
       let m = some_is (stop {C = ⊥} (λ c. c) (constraints_reach cs r ws h f len)) in
       rw (first, m) refl
 
-  clause_shorter : (ts : List Tok) (x : WithClause × List Tok) → with_clause f ts ≡ Some x → length x.1 < length ts
+  pub clause_shorter : (ts : List Tok) (x : WithClause × List Tok) → with_clause f ts ≡ Some x → length x.1 < length ts
   clause_shorter ts x e = by x.0 (clause_found f ts x e).words
     where
       by : (w : WithClause) → ts ≡ withs_then (w ∷ []) x.1 → length x.1 < length ts
@@ -823,19 +824,19 @@ module _ (f : ℕ) where
 
   -- ---- items
 
-  abbrev plain_at : Read Item
+  abbrev pub plain_at : Read Item
   plain_at = plain_item (read_mod f) (read_type f) f
 
-  signature_read : (s : MaybeType) (q : ℕ) (k : List Tok) → GoodMaybe s → WfSignature s → length (signature_then s (placed key.Equals q ∷ k)) ≤ f
+  pub signature_read : (s : MaybeType) (q : ℕ) (k : List Tok) → GoodMaybe s → WfSignature s → length (signature_then s (placed key.Equals q ∷ k)) ≤ f
       → signature_of (read_mod f) (read_type f) f (signature_then s (placed key.Equals q ∷ k)) ≡ Some (s, placed key.Equals q ∷ k)
   signature_read no_type q k g w len = refl
   signature_read (some_type s) q k g w len = rw (sub_type s g w f (placed key.Equals q ∷ k) refl (omega (arith, len))) refl
 
-  signature_no_paren : (s : MaybeType) (q : ℕ) (k : List Tok) → NoParen (signature_then s (placed key.Equals q ∷ k))
+  pub signature_no_paren : (s : MaybeType) (q : ℕ) (k : List Tok) → NoParen (signature_then s (placed key.Equals q ∷ k))
   signature_no_paren no_type q k = tt
   signature_no_paren (some_type s) q k = tt
 
-  module_is : (at : ℕ) (x : ModuleName) (k : List Tok) → plain_at (placed key.Module at ∷ module_name_then x k) ≡ module_rest (read_mod f)
+  pub module_is : (at : ℕ) (x : ModuleName) (k : List Tok) → plain_at (placed key.Module at ∷ module_name_then x k) ≡ module_rest (read_mod f)
       (read_type f) f at (module_name_then x k)
   unfolding plain_item
   module_is at (UpperName x) k = refl
@@ -883,7 +884,7 @@ module _ (f : ℕ) where
   unfolding item_of
   fresh_is ts never = rw (expr_none f ts never) refl
 
-  plain_is : (ts : List Tok) → item_at f false ts ≡ plain_at ts
+  pub plain_is : (ts : List Tok) → item_at f false ts ≡ plain_at ts
   unfolding item_of
   plain_is ts = refl
 
@@ -1015,7 +1016,7 @@ sig_items_start no_sig_item _ at_end = tt
 sig_items_start no_sig_item _ (at_word r) = refl
 sig_items_start (more_sig_item i is) r h = sig_start i (sig_items_then is r)
 
-module_sig_is : (f at : ℕ) (x : ModuleName) (ps : FunctorParams) (k : List Tok)
+pub module_sig_is : (f at : ℕ) (x : ModuleName) (ps : FunctorParams) (k : List Tok)
     → sig_item_at f (placed key.Module at ∷ module_name_then x (functor_params_then ps (fixed key.Colon ∷ k))) ≡ module_sig_rest (read_mod f)
     (read_type f) f at (module_name_then x (functor_params_then ps (fixed key.Colon ∷ k)))
 unfolding sig_item
@@ -1053,7 +1054,7 @@ sig_item_read f (OpenSig at bang path) g w k s len =
     rw (open_read f bang path k w (closed_follows k (start_closed k s)) (omega (arith, len, bang_more bang (path_then path k)))) refl
 sig_item_read f (IncludeSig at t) g w k s len = rw (sub_type t g w f k (start_closed k s) (omega (arith, len))) refl
 
-sig_shorter : (f : ℕ) (ts : List Tok) (x : SigItem × List Tok) → sig_item_at f ts ≡ Some x → length x.1 < length ts
+pub sig_shorter : (f : ℕ) (ts : List Tok) (x : SigItem × List Tok) → sig_item_at f ts ≡ Some x → length x.1 < length ts
 sig_shorter f ts x e = let p = sig_item_found (read_mod f) (read_type f) f (mod_reads f) (type_reads f) ts x e in
     omega (arith, ap length p.words, sig_item_longer x.0 x.1)
 
@@ -1081,7 +1082,7 @@ sig_items_read f is g w r h len = some_is (stop {C = ⊥} (λ c. c) (sig_items_r
 -- ---- module expressions
 
 module _ (f : ℕ) where
-  abbrev argument_at : Read ModArgument
+  abbrev pub argument_at : Read ModArgument
   argument_at = mod_argument (read_mod f) (read_type f) f
 
   -- the words of a module begin with no `)`
@@ -1111,7 +1112,7 @@ module _ (f : ℕ) where
   unfolding mod_argument
   no_argument_read at k = refl
 
-  argument_read : (a : ModArgument) → GoodArgument a → WfModArgument a → (k : List Tok) → length (mod_argument_then a k) ≤ suc f
+  pub argument_read : (a : ModArgument) → GoodArgument a → WfModArgument a → (k : List Tok) → length (mod_argument_then a k) ≤ suc f
       → argument_at (mod_argument_then a k) ≡ Some (a, k)
   argument_read (ModuleArgument at m) g w k len =
       let inside = sub_mod m g w f (fixed key.RightParen ∷ k) refl (omega (arith, len)) in
@@ -1124,7 +1125,7 @@ module _ (f : ℕ) where
       argument_is at (mod_then m rest) (mod_no_close m rest w.0) ∙ rw (inside, type) refl
   argument_read (NoArgument at) g w k len = no_argument_read at k
 
-  argument_shorter : (ts : List Tok) (x : ModArgument × List Tok) → argument_at ts ≡ Some x → length x.1 < length ts
+  pub argument_shorter : (ts : List Tok) (x : ModArgument × List Tok) → argument_at ts ≡ Some x → length x.1 < length ts
   argument_shorter ts x e = let p = mod_argument_found (read_mod f) (read_type f) f (mod_reads f) (type_reads f) ts x e in
       omega (arith, ap length p.words, argument_longer x.0 x.1)
 
@@ -1156,17 +1157,17 @@ module _ (f : ℕ) where
   path_mod_read [] r w h len = absurd (w refl)
   path_mod_read (x ∷ xs) r w h len = ap (λ (o : Option (List Name × List Tok)). o >>= λ p. Some (ModPath p.0, p.1)) (path_read f (x ∷ xs) r w len h)
 
-  struct_read : (at : ℕ) (is : Items) (r : List Tok) → GoodItems is → WfItems true is → length (mod_then (Struct at is) r) ≤ suc f
+  pub struct_read : (at : ℕ) (is : Items) (r : List Tok) → GoodItems is → WfItems true is → length (mod_then (Struct at is) r) ≤ suc f
       → simple_mod_at f (mod_then (Struct at is) r) ≡ Some (Struct at is, r)
   unfolding simple_mod
   struct_read at is r g w len = rw (items_read is g true w f (fixed key.End ∷ r) (at_word r) f (omega (arith, len)) (omega (arith, len))) refl
 
-  paren_mod_read : (at : ℕ) (m : ModExpr) (r : List Tok) → GoodMod m → WfMod m → length (mod_then (ModParen at m) r) ≤ suc f
+  pub paren_mod_read : (at : ℕ) (m : ModExpr) (r : List Tok) → GoodMod m → WfMod m → length (mod_then (ModParen at m) r) ≤ suc f
       → simple_mod_at f (mod_then (ModParen at m) r) ≡ Some (ModParen at m, r)
   unfolding simple_mod
   paren_mod_read at m r g w len = rw (sub_mod m g w f (fixed key.RightParen ∷ r) refl (omega (arith, len))) refl
 
-  sealed_read : (at : ℕ) (m : ModExpr) (s : ModType) (r : List Tok) → GoodMod m → GoodType s → WfMod m → WfModType s
+  pub sealed_read : (at : ℕ) (m : ModExpr) (s : ModType) (r : List Tok) → GoodMod m → GoodType s → WfMod m → WfModType s
       → length (mod_then (Sealed at m s) r) ≤ suc f → simple_mod_at f (mod_then (Sealed at m s) r) ≡ Some (Sealed at m s, r)
   unfolding simple_mod
   sealed_read at m s r g gs w ws len =
@@ -1204,7 +1205,7 @@ module _ (f : ℕ) where
       rw (first, inside) refl
 
   -- not a `functor`
-  mod_plain : (m : ModExpr) (k : List Tok) → is_functor m ≡ false → WfMod m → mod_expr_at f (mod_then m k) ≡ mod_apply_at f (mod_then m k)
+  pub mod_plain : (m : ModExpr) (k : List Tok) → is_functor m ≡ false → WfMod m → mod_expr_at f (mod_then m k) ≡ mod_apply_at f (mod_then m k)
   unfolding mod_expr
   mod_plain (ModPath []) k p w = absurd (w refl)
   mod_plain (ModPath (x ∷ xs)) k p w = refl
@@ -1245,7 +1246,7 @@ module _ (f : ℕ) where
   path_type_read (x ∷ xs) r w h len = ap (λ (o : Option (List Name × List Tok)). o >>= λ p. Some (TypePath p.0, p.1))
       (path_read f (x ∷ xs) r w len (no_dot r h))
 
-  sig_read : (at : ℕ) (is : SigItems) (r : List Tok) → GoodSigItems is → WfSigItems is → length (mod_type_then (Sig at is) r) ≤ suc f
+  pub sig_read : (at : ℕ) (is : SigItems) (r : List Tok) → GoodSigItems is → WfSigItems is → length (mod_type_then (Sig at is) r) ≤ suc f
       → simple_type_at f (mod_type_then (Sig at is) r) ≡ Some (Sig at is, r)
   unfolding simple_type
   sig_read at is r g w len = rw (sig_items_read f is g w (fixed key.End ∷ r) (at_word r) (omega (arith, len))) refl
@@ -1255,7 +1256,7 @@ module _ (f : ℕ) where
   unfolding simple_type
   type_of_read at m r g p w h len = rw (g.flat p w f r h (omega (arith, len))) refl
 
-  paren_type_read : (at : ℕ) (s : ModType) (r : List Tok) → GoodType s → WfModType s → length (mod_type_then (TypeParen at s) r) ≤ suc f
+  pub paren_type_read : (at : ℕ) (s : ModType) (r : List Tok) → GoodType s → WfModType s → length (mod_type_then (TypeParen at s) r) ≤ suc f
       → simple_type_at f (mod_type_then (TypeParen at s) r) ≡ Some (TypeParen at s, r)
   unfolding simple_type
   paren_type_read at s r g w len = rw (sub_type s g w f (fixed key.RightParen ∷ r) refl (omega (arith, len))) refl
@@ -1297,7 +1298,7 @@ module _ (f : ℕ) where
   paren_no_param at (placed key.Underscore at' ∷ r) h = absurd h
   paren_no_param at (placed _ at' ∷ r) h = refl
 
-  abbrev with_at : Read ModType
+  abbrev pub with_at : Read ModType
   with_at = with_type (read_mod f) (read_type f) f
 
   paren_is_with : (at : ℕ) (ts : List Tok) → NoName ts → mod_type_at f (placed key.LeftParen at ∷ ts) ≡ with_at (placed key.LeftParen at ∷ ts)
@@ -1305,7 +1306,8 @@ module _ (f : ℕ) where
   paren_is_with at ts h = rw (paren_no_param at ts h) refl
 
   -- no parameter begins a SimpleType
-  type_plain : (s : ModType) (k : List Tok) → is_simple_type s ≡ true → WfModType s → mod_type_at f (mod_type_then s k) ≡ with_at (mod_type_then s k)
+  pub type_plain : (s : ModType) (k : List Tok) → is_simple_type s ≡ true → WfModType s
+      → mod_type_at f (mod_type_then s k) ≡ with_at (mod_type_then s k)
   unfolding mod_type functor_param
   type_plain (TypePath []) k p w = absurd (w refl)
   type_plain (TypePath (x ∷ xs)) k p w = refl
@@ -1324,7 +1326,7 @@ module _ (f : ℕ) where
       let more = some_is (stop {C = ⊥} (λ c. c) (withs_reach f (WithOf c cs ∷ ws) r w.3 h f (omega (arith, len, l)) (omega arith))) in
       type_plain s rest w.0 w.1 ∙ rw (first, more) refl
 
-  no_withs : (r : List Tok) → with_clause f r ≡ None → with_clauses f r ≡ ([], r)
+  pub no_withs : (r : List Tok) → with_clause f r ≡ None → with_clauses f r ≡ ([], r)
   no_withs r h = some_is (stop {C = ⊥} (λ c. c)
       (no_turn [] ◌∷◌ always (with_clause f) (clause_shorter f) ⊥ true r (length r) f (λ _ x e. let q = sym h ∙ e in absurd cc)))
 
@@ -1332,7 +1334,7 @@ module _ (f : ℕ) where
       → Closed r → mod_type_at f (mod_type_then s r) ≡ Some (s, r)
   lone_type_read s r p w first h = type_plain s r p w ∙ rw (first, no_withs r (closed_no_with f r h), closed_no_arrow r h) refl
 
-  arrow_no_with : (k : List Tok) → with_clause f (fixed key.Arrow ∷ k) ≡ None
+  pub arrow_no_with : (k : List Tok) → with_clause f (fixed key.Arrow ∷ k) ≡ None
   unfolding with_clause
   arrow_no_with k = refl
 
@@ -1345,7 +1347,7 @@ module _ (f : ℕ) where
       let inside = sub_type s' g' w.2 f r h (omega (arith, len, l)) in
       type_plain s rest w.0 w.1 ∙ rw (first, no_withs rest (arrow_no_with (mod_type_then s' r)), inside) refl
 
-  param_arrow_is : (p : FunctorParam) (k : List Tok) → mod_type_at f (functor_param_then p k) ≡ param_or (read_mod f) (read_type f) f
+  pub param_arrow_is : (p : FunctorParam) (k : List Tok) → mod_type_at f (functor_param_then p k) ≡ param_or (read_mod f) (read_type f) f
       (functor_param_then p k) (param_at f (functor_param_then p k))
   unfolding mod_type
   param_arrow_is (NamedParam at x s) k = refl
@@ -1402,7 +1404,7 @@ mutual
   mod_good (ModParen at m) = lone_mod (ModParen at m) refl (λ w f r d len. paren_mod_read f at m r (mod_good m) w len)
   mod_good (Sealed at m s) = lone_mod (Sealed at m s) refl (λ w f r d len. sealed_read f at m s r (mod_good m) (type_good s) w.0 w.1 len)
 
-  argument_good : (a : ModArgument) → GoodArgument a
+  pub argument_good : (a : ModArgument) → GoodArgument a
   argument_good (ModuleArgument at m) = mod_good m
   argument_good (SealedArgument at m s) = (mod_good m, type_good s)
   argument_good (NoArgument at) = tt
@@ -1411,7 +1413,7 @@ mutual
   arguments_good no_mod_argument = tt
   arguments_good (more_mod_argument a ms) = (argument_good a, arguments_good ms)
 
-  param_good : (p : FunctorParam) → GoodParam p
+  pub param_good : (p : FunctorParam) → GoodParam p
   param_good (NamedParam at x s) = type_good s
   param_good (NoParam at) = tt
 
@@ -1430,7 +1432,7 @@ mutual
   type_good (ParamArrow p t) = whole_type (ParamArrow p t) refl (λ w f r s len. param_arrow_read f p t r (param_good p) (type_good t) w s len)
   type_good (Arrow t t') = whole_type (Arrow t t') refl (λ w f r s len. arrow_read f t t' r (type_good t) (type_good t') w s len)
 
-  maybe_good : (s : MaybeType) → GoodMaybe s
+  pub maybe_good : (s : MaybeType) → GoodMaybe s
   maybe_good no_type = tt
   maybe_good (some_type s) = type_good s
 
