@@ -1,5 +1,6 @@
 #!/bin/sh
-# Tests bin/rotor in scratch folders with a false kit: `rt ci` leaves a program that prints its number and its words.
+# Tests bin/rotor in scratch folders with a false kit: `rt ci` notes the files that it finds, and leaves a program that
+# prints its number and its words.
 # Usage: scripts/test_start.sh [SHELL ..]   (the shells to run bin/rotor by; without words: dash and bash, if they are there)
 unset CDPATH
 here=$(cd -- "$(dirname -- "$0")/.." && pwd -P) || exit 2
@@ -22,11 +23,13 @@ check() {
 make_repository() {
   top=$1
   kit=$scratch/kit
-  mkdir -p -- "$top/bin" "$top/.ci" "$top/crates/low/src" "$top/crates/rotor/src" "$kit/bin"
+  mkdir -p -- "$top/bin" "$top/crates/low/src" "$top/crates/low/must-fail" "$top/crates/rotor/src" "$top/crates/laws/src" \
+    "$kit/bin" "$scratch/rooms"
   cp -- "$here/bin/rotor" "$top/bin/rotor"
-  cp -- "$here/.ci/run" "$top/.ci/run"
   printf 'Handles allowed: none.\n' >"$top/HANDLES"
-  printf 'low:\nrotor: low\n' >"$top/crates.txt"
+  printf '# crates\nlow: thiserror\nlaws: low rotor\nrotor: low # the program\n' >"$top/crates.txt"
+  echo 'wrong' >"$top/crates/low/must-fail/wrong.edit"
+  echo 'law' >"$top/crates/laws/src/lib.rt"
   echo 'one' >"$top/crates/low/src/lib.rt"
   echo 'two' >"$top/crates/low/src/more.rt"
   echo 'main' >"$top/crates/rotor/src/main.rt"
@@ -41,6 +44,7 @@ rm -rf "$top/crates/rotor/out"
 if [ -e "$scratch/waits" ]; then sleep 30; fi
 run=$(($(cat "$scratch/runs") + 1))
 echo "$run" >"$scratch/runs"
+find . -type f | LC_ALL=C sort | tr '\n' ' ' >"$scratch/copied"
 echo 'rt: low proved'
 if [ -e "$scratch/fails" ]; then
   echo '1 passed, 1 failed'
@@ -58,7 +62,7 @@ RT
 start() {
   script=$1
   shift
-  found=$(PATH=$kit/bin:/usr/bin:/bin $shell "$script" "$@" 2>"$scratch/errors")
+  found=$(PATH=$kit/bin:/usr/bin:/bin TMPDIR=$scratch/rooms $shell "$script" "$@" 2>"$scratch/errors")
   printf '%s [%s]' "$found" "$?"
 }
 
@@ -66,6 +70,9 @@ run_tests() {
   make_repository "$scratch/work/top"
   cd -- "$scratch" || exit 2
   check 'a first start builds' 'program 1: check [3]' "$(start "$top/bin/rotor" check)"
+  check 'the program'\''s sources alone are copied' \
+    './HANDLES ./crates.txt ./crates/low/src/lib.rt ./crates/low/src/more.rt ./crates/rotor/src/main.rt ' "$(cat "$scratch/copied")"
+  check 'the copy is gone' '' "$(ls "$scratch/rooms")"
   check 'a second start does not' 'program 1: a b  c [3]' "$(start "$top/bin/rotor" a 'b  c')"
   ln -sf "$top/bin/rotor" "$scratch/link"
   ln -sf link "$scratch/more"
@@ -87,22 +94,24 @@ run_tests() {
   check 'a source that is gone' 'program 4: x [3]' "$(start "$top/bin/rotor" x)"
   echo 'low:' >>"$top/crates.txt"
   check 'other lines in crates.txt' 'program 5: x [3]' "$(start "$top/bin/rotor" x)"
-  mkdir -p "$top/crates/tests_low/src" && echo 'test' >"$top/crates/tests_low/src/lib.rt"
-  check 'a crate of tests' 'program 5: x [3]' "$(start "$top/bin/rotor" x)"
+  echo 'more' >>"$top/crates/laws/src/lib.rt"
+  check 'a crate that the program does not use' 'program 5: x [3]' "$(start "$top/bin/rotor" x)"
   echo 'kit 2' >"$kit/KIT-ID"
   check 'another kit' 'program 6: x [3]' "$(start "$top/bin/rotor" x)"
-  rm -rf -- "$top/crates/rotor/out"
-  check 'while a gate runs elsewhere' 'program 6: x [3]' "$(start "$top/bin/rotor" x)"
+  echo 'another' >"$top/crates/low/must-fail/more.edit"
+  check 'a wrong body' 'program 6: x [3]' "$(start "$top/bin/rotor" x)"
   : >"$scratch/fails"
   echo 'four' >"$top/crates/low/src/lib.rt"
   check 'a gate that leaves no program' ' [7]' "$(start "$top/bin/rotor" x)"
   check 'the line of that' 1 "$(grep -c 'rotor: the program was not built' "$scratch/errors")"
+  check 'the copy of that is gone' '' "$(ls "$scratch/rooms")"
   check 'the old program stays' 'program 6: x' "$("$top/out/rotor" x)"
   rm -f -- "$scratch/fails"
   : >"$scratch/waits"
-  (PATH=$kit/bin:/usr/bin:/bin timeout -s INT 2 $shell "$top/bin/rotor" x >/dev/null 2>&1)
+  (PATH=$kit/bin:/usr/bin:/bin TMPDIR=$scratch/rooms timeout -s INT 2 $shell "$top/bin/rotor" x >/dev/null 2>&1)
   rm -f -- "$scratch/waits"
   check 'the old program stays after an interrupt' 'program 6: x' "$("$top/out/rotor" x)"
+  check 'the copy is gone after an interrupt' '' "$(ls "$scratch/rooms")"
   check 'the start after an interrupt builds' 'program 8: x [3]' "$(start "$top/bin/rotor" x)"
   check 'without a kit' 'program 8: x [3]' "$(kit=$scratch/none && start "$top/bin/rotor" x)"
   echo 'five' >"$top/crates/low/src/lib.rt"
