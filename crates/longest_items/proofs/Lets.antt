@@ -1,72 +1,30 @@
 -- Items with bindings, and the expressions that begin with their words.
-use Rattle.std.proofs.Common.{◌≡◌, ℕ, zero, suc, ◌≤◌, List, [], ◌∷◌, length, Bool, true, false, Some, refl, sym, ap, subst, ◌∙◌, arith}
-use Rattle.ml_trees.specs.declared.fixed.Fixed.{Fixed}
+use Rattle.std.proofs.Common.{◌≡◌, ℕ, zero, suc, ◌≤◌, List, ◌∷◌, length, Bool, true, false, Some, refl, sym, ap, subst, ◌∙◌, arith}
 use Rattle.ml_trees.specs.declared.fixed.Fixed.TheVariants as key
 use Rattle.ml_trees.specs.Tok.{Tok, fixed, placed, word}
-use Rattle.ml_trees.specs.Words.{optional_then, expr_then, binding_then, bindings_then}
+use Rattle.ml_trees.specs.Words.{optional_then, binding_then, bindings_then}
 use Rattle.ml_trees.specs.WellFormed.{WfBinding, WfBindings}
 use Rattle.ml_trees.specs.Tree.{Expr, Binding, Bindings}
 use Rattle.parse_base.specs.Steps.{expect}
 use Rattle.parse_base.proofs.Stepping.{some_is, from_some, bind_ok, expect_ok}
-use Rattle.parse_base.proofs.Reach.{Reach, exact, farther, stop}
 use Rattle.parse_base.proofs.LongerPat.{begins_pat, Opens, optional_longer}
 use Rattle.expr_reading.specs.declared.wanted.Wanted.TheVariants as wanted
 use Rattle.expr_reading.specs.ExprReading.{bindings, let_values, let_expr, unary, tier, expr, seq, read_expr}
 use Rattle.expr_reading.proofs.AppendExpr.{expr_front}
-use Rattle.expr_reading.proofs.FirstWord.{begins_expr, Begins, expr_begins}
 use Rattle.expr_reading.proofs.FoundExpr.{expr_reads}
-use Rattle.expr_reading.proofs.GoesExpr.{Holds, Begun, Headed, Goes, clash, by_level, by_form, by_if, by_else, by_bar, by_more}
 use Rattle.expr_reading.proofs.LawsExpr.{expr_longest}
 use Rattle.expr_reading.proofs.LongerExpr.{expr_more}
-use Rattle.expr_reading.proofs.ReachExpr.{expr_reach, binding_good, bindings_good}
-use Rattle.expr_reading.proofs.ReachForms.{bindings_reach, binding_opens, last_value}
+use Rattle.expr_reading.proofs.ReachExpr.{binding_good, bindings_good}
+use Rattle.expr_reading.proofs.ReachForms.{bindings_reach, binding_opens}
 use Rattle.parse_module.specs.ModReading.{some_bindings, value_rest}
-use Rattle.parse_module.proofs.ReachMod.{starts_item, ItemStart, Follow}
-use Rattle.longest_items.proofs.Passing.{Passes, passes, start_stops}
-
--- ---- first words
-
-pub begins_not : (t : Tok) (ts : List Tok) → begins_expr t ≡ false → Begins (t ∷ ts) → ⊥
-begins_not t ts un b = clash (subst (λ u. begins_expr u ≡ true) (sym (head_is t b.first ts b.rest b.is)) b.begins) un
-  where
-    head_is : (t u : Tok) (ts us : List Tok) → t ∷ ts ≡ u ∷ us → t ≡ u
-    head_is t u ts us e = cc
-
-pub read_begins : (f : ℕ) (ts : List Tok) (x : Expr × List Tok) → read_expr f wanted.Sequence ts ≡ Some x → Begins ts
-read_begins f ts x e = let v = expr_reads f wanted.Sequence ts x e in subst Begins (sym v.words) (expr_begins x.0 x.1 v.wf)
-
-pub begun_begins : (ts : List Tok) → Begun ts → Begins ts
-begun_begins ts g = subst Begins (sym g.words) (expr_begins g.tree g.rest g.wf)
-
--- ---- what follows an item goes on with no expression
-
-holds_not : (n : ℕ) (r : List Tok) → ItemStart r → Holds n r → ⊥
-holds_not n [] s h = h
-holds_not n (t ∷ r) s h = omega (arith, h, (start_stops t s).loose)
-
-headed_not : (k : Fixed) (r : List Tok) → starts_item (fixed k) ≡ false → ItemStart r → Headed k r → ⊥
-headed_not k r un s h = let q : ItemStart (fixed k ∷ h.0) = subst ItemStart h.1 s in clash q un
-
-pub goes_not : (n : ℕ) (e : Expr) (r : List Tok) → Follow r → Goes n e r → ⊥
-goes_not n e r s (by_level h) = holds_not n r s.start h
-goes_not n e r s (by_form p h) = holds_not 0 r s.start h
-goes_not n e r s (by_if p h) = holds_not 1 r s.start h
-goes_not n e r s (by_else p h) = headed_not key.Else r refl s.start h
-goes_not n e r s (by_bar p h) = headed_not key.Bar r refl s.start h
-goes_not n e r s (by_more p q b) = s.none b
+use Rattle.parse_module.proofs.ReachMod.{opens_plain}
+use Rattle.longest_items.proofs.Passing.{Passes, passes}
 
 -- ---- bindings
 
-pub bindings_exact : (f : ℕ) (b : Binding) (bs : Bindings) (r : List Tok) → WfBinding b → WfBindings bs → Follow r
-    → length (binding_then b (bindings_then bs r)) ≤ f → bindings (read_expr f) f (binding_then b (bindings_then bs r)) ≡ Some ((b, bs), r)
-bindings_exact f b bs r w ws s len =
-    stop (λ h. h) (bindings_reach f ⊥ r (λ h. headed_not key.And r refl s.start h) b bs (binding_good b) (bindings_good bs) w ws
-    (λ h. goes_not 0 (last_value b bs) r s h) len)
-
 pub bindings_pass : (f : ℕ) (b : Binding) (bs : Bindings) (r : List Tok) → WfBinding b → WfBindings bs
     → length (binding_then b (bindings_then bs r)) ≤ f → Passes r (bindings (read_expr f) f (binding_then b (bindings_then bs r)))
-bindings_pass f b bs r w ws len =
-    passes (omega arith) (bindings_reach f (Unit {0}) r (λ h. tt) b bs (binding_good b) (bindings_good bs) w ws (λ h. tt) len)
+bindings_pass f b bs r w ws len = passes (bindings_reach f (Unit {0}) r (λ h. tt) b bs (binding_good b) (bindings_good bs) w ws (λ h. tt) len)
 
 module _ (f at : ℕ) where
   let_opens : (ts : List Tok) → Opens ts → let_expr (read_expr f) f at ts ≡ let_values (read_expr f) f at false ts
@@ -78,15 +36,6 @@ module _ (f at : ℕ) where
       by (placed key.Open at') rest b = absurd cc
       by (placed key.Module at') rest b = absurd cc
       by (placed _ at') rest b = refl
-      by (word c x) rest b = refl
-
-  value_opens : (ts : List Tok) → Opens ts → value_rest f at ts ≡ some_bindings f false at ts
-  unfolding value_rest
-  value_opens ts o = subst (λ k. value_rest f at k ≡ some_bindings f false at k) (sym o.is) (by o.first o.rest o.begins)
-    where
-      by : (t : Tok) (rest : List Tok) → begins_pat t ≡ true → value_rest f at (t ∷ rest) ≡ some_bindings f false at (t ∷ rest)
-      by (fixed x) rest b = absurd cc
-      by (placed x at') rest b = refl
       by (word c x) rest b = refl
 
   -- the words of bindings behind an optional `rec`, after a `let`
@@ -101,7 +50,7 @@ module _ (f at : ℕ) where
       → value_rest f at (optional_then key.Rec recursive (binding_then b k)) ≡ some_bindings f recursive at (binding_then b k)
   unfolding value_rest
   value_bound true b k w = refl
-  value_bound false b k w = value_opens (binding_then b k) (binding_opens b k w)
+  value_bound false b k w = opens_plain f at (binding_then b k) (binding_opens b k w)
 
 -- ---- an expression that begins with `let`
 
@@ -165,35 +114,13 @@ module _ (f at : ℕ) (recursive : Bool) (b : Binding) (bs : Bindings) (r : List
       ∙ sym (unary_let f at (optional_then key.Rec recursive bound_words)) ∙ u.1 in
       (u.0, operand_is f value_words ∙ u.1, values_in f at recursive bound_words u.0 l)
 
-  inner : length value_words ≤ suc f → length bound_words ≤ f
-  inner len = omega (arith, len, optional_longer key.Rec recursive bound_words)
-
-  -- not before an item
-  pub let_not_read : (x : Expr × List Tok) → Follow r → length value_words ≤ suc f → read_expr (suc f) wanted.Sequence value_words ≡ Some x → ⊥
-  let_not_read x s len e =
-      let p = let_inside x e in
-      let q = some_is (sym (bindings_exact f b bs r w ws s (inner len)) ∙ p.2.are) in
-      let at_in : r ≡ fixed key.In ∷ p.2.body = ap (λ (z : (Binding × Bindings) × List Tok). z.1) q ∙ p.2.inside in
-      headed_not key.In r refl s.start (p.2.body, at_in)
-
   -- and it ends no earlier than the bindings
   pub let_read_past : (x : Expr × List Tok) → length value_words ≤ suc f → read_expr (suc f) wanted.Sequence value_words ≡ Some x
       → length x.1 ≤ length r
   let_read_past x len e =
       let p = let_inside x e in
-      let m = bindings_pass f b bs r w ws (inner len) in
+      let m = bindings_pass f b bs r w ws (omega (arith, len, optional_longer key.Rec recursive bound_words)) in
       let q = ap (λ (z : (Binding × Bindings) × List Tok). length z.1) (some_is (sym m.1 ∙ p.2.are)) in
       let v = expr_reads (suc f) wanted.Operand value_words p.0 p.1 in
       let far = (expr_longest (suc f) value_words x.0 x.1 len e).longest p.0.0 p.0.1 v.wf (v.words ∙ expr_front p.0.0 p.0.1) in
       omega (arith, m.2, q, ap length p.2.inside, p.2.behind, far)
-
-  -- no expression begins with an item before another
-  pub value_begins_none : Follow r → length value_words ≤ suc f → Begun value_words → ⊥
-  value_begins_none s len g = by (expr_reach g.tree g.wf (suc f) g.rest (omega (arith, len, ap length g.words)))
-    where
-      known : (x : Expr × List Tok) → read_expr (suc f) wanted.Sequence (expr_then g.tree g.rest) ≡ Some x → ⊥
-      known x e = let_not_read x s len (subst (λ k. read_expr (suc f) wanted.Sequence k ≡ Some x) (sym g.words) e)
-
-      by : Reach (Goes 0 g.tree g.rest) g.tree g.rest (read_expr (suc f) wanted.Sequence (expr_then g.tree g.rest)) → ⊥
-      by (exact e) = known (g.tree, g.rest) e
-      by (farther c x e lt) = known x e

@@ -1,10 +1,9 @@
 mod Passing
 mod Lets
-mod Items
-mod Wholes
-mod Modules
 mod Clauses
+mod Modules
 mod Types
+mod Items
 mod Longest
 mod Appended
 pub mod Single

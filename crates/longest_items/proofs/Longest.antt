@@ -1,30 +1,23 @@
 -- An item that is read is the longest that begins there, and where none is read none begins.
 use Rattle.std.proofs.Common.{◌≡◌, ℕ, zero, suc, ◌≤◌, List, length, Bool, true, false, Option, Some, None, refl, sym, ap, subst, ◌∙◌, arith}
-use Rattle.ml_trees.specs.declared.fixed.Fixed.TheVariants as key
 use Rattle.ml_trees.specs.Tok.{Tok}
-use Rattle.ml_trees.specs.Words.{optional_then, binding_then, bindings_then, item_then, sig_item_then}
+use Rattle.ml_trees.specs.Words.{item_then, sig_item_then}
 use Rattle.ml_trees.specs.WellFormed.{is_separator, WfBinding, WfBindings, WfItem, WfSigItem}
-use Rattle.ml_trees.specs.Tree.{Expr, Binding, Bindings, Item, ExprItem, ValueItem}
-use Rattle.ml_trees.specs.Tree.{SigItem, no_sig_item, more_sig_item}
+use Rattle.ml_trees.specs.Tree.{Expr, Binding, Bindings, Item, ExprItem, ValueItem, SigItem, no_sig_item, more_sig_item}
 use Rattle.parse_base.specs.Steps.{turn, many, always}
 use Rattle.parse_base.proofs.Stepping.{from_some}
-use Rattle.parse_base.proofs.LongerPat.{optional_longer}
 use Rattle.expr_reading.specs.declared.wanted.Wanted.TheVariants as wanted
 use Rattle.expr_reading.specs.ExprReading.{read_expr}
 use Rattle.expr_reading.proofs.AppendExpr.{expr_front}
 use Rattle.expr_reading.proofs.LawsExpr.{expr_longest, expr_none}
-use Rattle.expr_reading.proofs.FirstWord.{Begins}
 use Rattle.parse_module.specs.ModReading.{body_start, face_start, item_of, items_of, item_then as read_then, read_mod, read_type}
 use Rattle.parse_module.proofs.FoundMod.{item_found, sig_item_found, mod_reads, type_reads}
-use Rattle.parse_module.proofs.ReachMod.{item_at, items_at, sig_item_at, item_longer}
+use Rattle.parse_module.proofs.ReachMod.{item_at, items_at, sig_item_at, item_longer, sig_item_longer, plain_at, plain_is, sig_shorter}
 use Rattle.longest_items.specs.Longest.{IsLongestItem, BeginsNoItem, AreLongestItems, none_begins, longest_then, IsLongestSig, BeginsNoSig}
 use Rattle.longest_items.specs.Longest.{AreLongestSigs, no_sig_begins, longest_sig_then}
-use Rattle.longest_items.proofs.Passing.{Passes, passes, pass_map}
-use Rattle.longest_items.proofs.Lets.{read_begins, bindings_pass, value_bound, let_read_past}
-use Rattle.longest_items.proofs.Items.{solid_begins_none, plain_at, solid_ends, sig_item_ends}
-use Rattle.longest_items.proofs.Wholes.{fresh_is, stale_is, value_is, sig_item_longer, sig_item_shorter}
-use Rattle.longest_items.proofs.Modules.{read_mod_pass}
-use Rattle.longest_items.proofs.Types.{read_type_pass}
+use Rattle.longest_items.proofs.Passing.{Passes}
+use Rattle.longest_items.proofs.Lets.{let_read_past}
+use Rattle.longest_items.proofs.Items.{solid_unread, plain_pass, sig_item_pass}
 
 -- what is known to be read leaves no more
 no_more_left : {A : Type 0} (r : List Tok) {o : Option (A × List Tok)} (x : A × List Tok) → o ≡ Some x → Passes r o → length x.1 ≤ length r
@@ -36,11 +29,8 @@ something {A = A} r e p = let k : ◌≡◌ {A = Option (A × List Tok)} None (S
 -- ---- items of interfaces
 
 module _ (f : ℕ) where
-  sig_pass : (i : SigItem) (r : List Tok) → WfSigItem i → length (sig_item_then i r) ≤ suc f → Passes r (sig_item_at f (sig_item_then i r))
-  sig_pass i r w len = passes (omega arith) (sig_item_ends f r (λ _ m. λ v l. read_mod_pass m v f r l) (λ _ s. λ v l. read_type_pass s v f r l) i w len)
-
   sig_pass_at : (ts : List Tok) (i : SigItem) (r : List Tok) → length ts ≤ suc f → WfSigItem i → ts ≡ sig_item_then i r → Passes r (sig_item_at f ts)
-  sig_pass_at ts i r len w q = subst (λ k. Passes r (sig_item_at f k)) (sym q) (sig_pass i r w (omega (arith, len, ap length q)))
+  sig_pass_at ts i r len w q = subst (λ k. Passes r (sig_item_at f k)) (sym q) (sig_item_pass f i r w (omega (arith, len, ap length q)))
 
   sig_longest : (ts : List Tok) (x : SigItem × List Tok) → length ts ≤ suc f → sig_item_at f ts ≡ Some x → IsLongestSig ts x.0 x.1
   sig_longest ts x len e =
@@ -50,20 +40,22 @@ module _ (f : ℕ) where
   no_sig_read : (ts : List Tok) → length ts ≤ suc f → sig_item_at f ts ≡ None → BeginsNoSig ts
   no_sig_read ts len e i r w q = something r e (sig_pass_at ts i r len w q)
 
-  sigs_longest : (n : ℕ) (ts : List Tok) → length ts ≤ n → length ts ≤ suc f → AreLongestSigs ts (many no_sig_item more_sig_item always (sig_item_at f) n ts).0
+  sigs_longest : (n : ℕ) (ts : List Tok) → length ts ≤ n → length ts ≤ suc f
+      → AreLongestSigs ts (many no_sig_item more_sig_item always (sig_item_at f) n ts).0
       (many no_sig_item more_sig_item always (sig_item_at f) n ts).1
   unfolding many
-  sigs_longest zero ts len le = no_sig_begins ts (λ i r w q. absurd (omega (arith, len, ap length q, sig_item_longer i r w)))
+  sigs_longest zero ts len le = no_sig_begins ts (λ i r w q. absurd (omega (arith, len, ap length q, sig_item_longer i r)))
   sigs_longest (suc n) ts len le = by (sig_item_at f ts) refl (λ r l l2. sigs_longest n r l l2)
     where
       by : (o : Option (SigItem × List Tok)) → sig_item_at f ts ≡ o
           → ((r : List Tok) → length r ≤ n → length r ≤ suc f
-          → AreLongestSigs r (many no_sig_item more_sig_item always (sig_item_at f) n r).0 (many no_sig_item more_sig_item always (sig_item_at f) n r).1)
+          → AreLongestSigs r (many no_sig_item more_sig_item always (sig_item_at f) n r).0
+          (many no_sig_item more_sig_item always (sig_item_at f) n r).1)
           → AreLongestSigs ts (turn no_sig_item more_sig_item always (λ r. many no_sig_item more_sig_item always (sig_item_at f) n r) o ts).0
           (turn no_sig_item more_sig_item always (λ r. many no_sig_item more_sig_item always (sig_item_at f) n r) o ts).1
       by None e more = no_sig_begins ts (no_sig_read ts le e)
       by (Some x) e more =
-          let l = sig_item_shorter f ts x e in
+          let l = sig_shorter f ts x e in
           longest_sig_then ts x.0 x.1 _ _ (sig_longest ts x le e) (more x.1 (omega (arith, len, l)) (omega (arith, le, l)))
 
 -- the items with which an interface begins
@@ -73,27 +65,16 @@ faces_begin_longest n ts len = sigs_longest n n ts len (omega (arith, len))
 -- ---- items of bodies
 
 module _ (f : ℕ) where
-  value_pass : (at : ℕ) (recursive : Bool) (b : Binding) (bs : Bindings) (r : List Tok) → WfBinding b → WfBindings bs
-      → length (item_then (ValueItem at recursive b bs) r) ≤ suc f → Passes r (plain_at f (item_then (ValueItem at recursive b bs) r))
-  value_pass at recursive b bs r w ws len =
-      let k : List Tok = binding_then b (bindings_then bs r) in
-      rw (value_is f at (optional_then key.Rec recursive k), value_bound f at recursive b (bindings_then bs r) w)
-      (pass_map r (λ (z : Binding × Bindings). ValueItem at recursive z.0 z.1)
-      (bindings_pass f b bs r w ws (omega (arith, len, optional_longer key.Rec recursive k))))
-
-  -- an item that is no expression
-  plain_pass : (i : Item) (r : List Tok) → WfItem false i → length (item_then i r) ≤ suc f → Passes r (plain_at f (item_then i r))
-  plain_pass (ExprItem e) r w len = absurd (let q = w.0 in cc)
-  plain_pass (ValueItem at recursive b bs) r w len = value_pass at recursive b bs r w.0 w.1 len
-  plain_pass i r w len =
-      passes (omega arith) (solid_ends f r (λ _ m. λ v l. read_mod_pass m v f r l) (λ _ s. λ v l. read_type_pass s v f r l) i refl w len)
-
   plain_pass_at : (ts : List Tok) (i : Item) (r : List Tok) → length ts ≤ suc f → WfItem false i → ts ≡ item_then i r → Passes r (plain_at f ts)
-  plain_pass_at ts i r len w q = subst (λ k. Passes r (plain_at f k)) (sym q) (plain_pass i r w (omega (arith, len, ap length q)))
+  plain_pass_at ts i r len w q = subst (λ k. Passes r (plain_at f k)) (sym q) (plain_pass f i r w (omega (arith, len, ap length q)))
 
   expression_is : (ts : List Tok) (e : Expr × List Tok) → read_expr f wanted.Sequence ts ≡ Some e → item_at f true ts ≡ Some (ExprItem e.0, e.1)
   unfolding item_of
   expression_is ts e h = rw h refl
+
+  fresh_is : (ts : List Tok) → read_expr f wanted.Sequence ts ≡ None → item_at f true ts ≡ plain_at f ts
+  unfolding item_of
+  fresh_is ts h = rw h refl
 
 -- a value begins where an expression is read
 value_past : (f : ℕ) (at : ℕ) (recursive : Bool) (b : Binding) (bs : Bindings) (r : List Tok) (x : Expr × List Tok) → WfBinding b → WfBindings bs
@@ -108,7 +89,10 @@ expression_past : (f : ℕ) (ts : List Tok) (x : Expr × List Tok) → length ts
 expression_past f ts x len e (ExprItem e') r w q = (expr_longest f ts x.0 x.1 len e).longest e' r w.1 (q ∙ expr_front e' r)
 expression_past f ts x len e (ValueItem at recursive b bs) r w q =
     value_past f at recursive b bs r x w.0 w.1 (omega (arith, len, ap length q)) (subst (λ k. read_expr f wanted.Sequence k ≡ Some x) q e)
-expression_past f ts x len e i r w q = absurd (solid_begins_none i r refl (subst Begins q (read_begins f ts x e)))
+expression_past f ts x len e i r w q =
+    let n = solid_unread f i r refl in
+    let k : ◌≡◌ {A = Option (Expr × List Tok)} None (Some x) = sym n ∙ ap (read_expr f wanted.Sequence) (sym q) ∙ e in
+    absurd cc
 
 -- where no expression is read, another item begins
 unfresh : (f : ℕ) (ts : List Tok) → length ts ≤ f → read_expr f wanted.Sequence ts ≡ None → (i : Item) (r : List Tok) → WfItem true i
@@ -118,7 +102,7 @@ unfresh f ts len e i r w q = w
 
 item_past : (f : ℕ) (fresh : Bool) (ts : List Tok) (x : Item × List Tok) → length ts ≤ f → item_at f fresh ts ≡ Some x → (i : Item) (r : List Tok)
     → WfItem fresh i → ts ≡ item_then i r → length x.1 ≤ length r
-item_past f false ts x len e i r w q = no_more_left r x (sym (stale_is f ts) ∙ e) (plain_pass_at f ts i r (omega (arith, len)) w q)
+item_past f false ts x len e i r w q = no_more_left r x (sym (plain_is f ts) ∙ e) (plain_pass_at f ts i r (omega (arith, len)) w q)
 item_past f true ts x len e i r w q = by (read_expr f wanted.Sequence ts) refl
   where
     by : (o : Option (Expr × List Tok)) → read_expr f wanted.Sequence ts ≡ o → length x.1 ≤ length r
@@ -133,7 +117,7 @@ item_longest f fresh ts x len e =
     record { wf = p.wf; reads = p.words; longest = item_past f fresh ts x len e }
 
 no_item_read : (f : ℕ) (fresh : Bool) (ts : List Tok) → length ts ≤ f → item_at f fresh ts ≡ None → BeginsNoItem fresh ts
-no_item_read f false ts len e i r w q = something r (sym (stale_is f ts) ∙ e) (plain_pass_at f ts i r (omega (arith, len)) w q)
+no_item_read f false ts len e i r w q = something r (sym (plain_is f ts) ∙ e) (plain_pass_at f ts i r (omega (arith, len)) w q)
 no_item_read f true ts len e i r w q = by (read_expr f wanted.Sequence ts) refl
   where
     by : (o : Option (Expr × List Tok)) → read_expr f wanted.Sequence ts ≡ o → ⊥

@@ -1,111 +1,43 @@
 -- What is read of the words of a module type and more tokens ends no earlier than they do.
 use Rattle.std.proofs.Common.{◌≡◌, ◌≢◌, ℕ, zero, suc, ◌≤◌, List, [], ◌∷◌, length, true, false, Option, Some, None, refl, ap, arith}
-use Rattle.rotor_base.specs.declared.token.Class.TheVariants as class
 use Rattle.ml_trees.specs.declared.fixed.Fixed.TheVariants as key
-use Rattle.ml_trees.specs.Tok.{Name, Tok, fixed, placed, word}
-use Rattle.ml_trees.specs.Words.{path_then, withs_then, functor_param_then, mod_type_then}
-use Rattle.ml_trees.specs.WellFormed.{is_functor, is_simple_type, WfMod, WfModType, WfSigItems}
-use Rattle.ml_trees.specs.Tree.{WithClause, WithOf, ModExpr, FunctorParam, NamedParam, NoParam, FunctorParams, no_functor_param, more_functor_param}
-use Rattle.ml_trees.specs.Tree.{ModType, TypePath, Sig, TypeOf, TypeParen, With, FunctorType, ParamArrow, Arrow, SigItems}
-use Rattle.parse_base.specs.Steps.{Read, ◌>>=◌, expect, many, always}
+use Rattle.ml_trees.specs.Tok.{Name, Tok, fixed}
+use Rattle.ml_trees.specs.Words.{path_then, withs_then, mod_type_then}
+use Rattle.ml_trees.specs.WellFormed.{is_functor, is_simple_type, WfMod, WfModType}
+use Rattle.ml_trees.specs.Tree.{WithClause, WithOf, ModExpr, FunctorParam, FunctorParams, no_functor_param, more_functor_param, ModType, TypePath}
+use Rattle.ml_trees.specs.Tree.{Sig, TypeOf, TypeParen, With, FunctorType, ParamArrow, Arrow}
+use Rattle.parse_base.specs.Steps.{◌>>=◌, expect, always}
 use Rattle.parse_base.proofs.Stepping.{bind_ok, expect_ok}
 use Rattle.parse_base.proofs.Reach.{many_shorter}
-use Rattle.parse_base.proofs.ReachPieces.{NoColon}
-use Rattle.parse_module.specs.ModReading.{functor_param, simple_type, arrow_or, with_or, with_clause, with_clauses, with_type, param_or, mod_type}
-use Rattle.parse_module.specs.ModReading.{read_mod, read_type}
+use Rattle.parse_module.specs.ModReading.{simple_type, arrow_or, with_or, with_clause, with_clauses, mod_type, read_mod, read_type}
 use Rattle.parse_module.proofs.LongerMod.{functor_params_more, mod_type_more}
 use Rattle.parse_module.proofs.FoundMod.{type_reads}
-use Rattle.parse_module.proofs.ReachMod.{simple_type_at, mod_type_at, param_at, type_good}
-use Rattle.longest_items.proofs.Passing.{Passes, passes, pass_map, exactly, path_ends}
-use Rattle.longest_items.proofs.Items.{param_longer, type_longer, type_whole, param_whole, params_before}
-use Rattle.longest_items.proofs.Wholes.{sig_items_whole}
+use Rattle.parse_module.proofs.ReachMod.{simple_type_at, mod_type_at, param_longer, type_longer, param_read, params_exact, clause_shorter, sig_read}
+use Rattle.parse_module.proofs.ReachMod.{paren_type_read, with_at, type_plain, no_withs, arrow_no_with, param_arrow_is, param_good, params_good}
+use Rattle.parse_module.proofs.ReachMod.{type_good, sig_items_good}
+use Rattle.longest_items.proofs.Passing.{Passes, pass_map, exactly, path_pass}
 use Rattle.longest_items.proofs.Modules.{flat_pass}
-use Rattle.longest_items.proofs.Clauses.{clause_shorter, Clauses, withs_pass}
-
--- ---- no parameter of a functor begins a simple module type
-
--- the tokens begin with neither a `)` nor a name and a `:`
-abbrev NoName : List Tok → Type 0
-NoName (word class.Upper x ∷ fixed key.Colon ∷ r) = ⊥
-NoName (placed key.Underscore at ∷ r) = ⊥
-NoName (fixed x ∷ r) = ⊥
-NoName [] = ⊥
-NoName _ = Unit {0}
-
-upper_no_name : (x : Name) (k : List Tok) → NoColon k → NoName (word class.Upper x ∷ k)
-upper_no_name x [] h = tt
-upper_no_name x (fixed key.Colon ∷ r) h = absurd h
-upper_no_name x (_ ∷ r) h = tt
-
-no_name : (s : ModType) (k : List Tok) → WfModType s → NoColon k → NoName (mod_type_then s k)
-no_name (TypePath []) k w h = absurd (w refl)
-no_name (TypePath (x ∷ [])) k w h = upper_no_name x k h
-no_name (TypePath (x ∷ y ∷ ys)) k w h = tt
-no_name (Sig at is) k w h = tt
-no_name (TypeOf at m) k w h = tt
-no_name (TypeParen at s) k w h = tt
-no_name (With s []) k w h = absurd (w.2 refl)
-no_name (With s (WithOf c cs ∷ ws)) k w h = no_name s (withs_then (WithOf c cs ∷ ws) k) w.1 tt
-no_name (FunctorType at ps s) k w h = tt
-no_name (ParamArrow (NamedParam at x s') s) k w h = tt
-no_name (ParamArrow (NoParam at) s) k w h = tt
-no_name (Arrow s s') k w h = no_name s (fixed key.Arrow ∷ mod_type_then s' k) w.1 tt
+use Rattle.longest_items.proofs.Clauses.{Clauses, withs_pass}
 
 module _ (f : ℕ) where
-  abbrev with_at : Read ModType
-  with_at = with_type (read_mod f) (read_type f) f
-
-  paren_no_param : (at : ℕ) (ts : List Tok) → NoName ts → param_at f (placed key.LeftParen at ∷ ts) ≡ None
-  unfolding functor_param
-  paren_no_param at [] h = absurd h
-  paren_no_param at (fixed x ∷ r) h = absurd h
-  paren_no_param at (word class.Upper x ∷ fixed key.Colon ∷ r) h = absurd h
-  paren_no_param at (word class.Upper x ∷ _) h = refl
-  paren_no_param at (word _ x ∷ r) h = refl
-  paren_no_param at (placed key.Underscore at' ∷ r) h = absurd h
-  paren_no_param at (placed _ at' ∷ r) h = refl
-
-  paren_is_with : (at : ℕ) (ts : List Tok) → NoName ts → mod_type_at f (placed key.LeftParen at ∷ ts) ≡ with_at (placed key.LeftParen at ∷ ts)
-  unfolding mod_type
-  paren_is_with at ts h = rw (paren_no_param at ts h) refl
-
-  type_plain : (s : ModType) (k : List Tok) → is_simple_type s ≡ true → WfModType s → mod_type_at f (mod_type_then s k) ≡ with_at (mod_type_then s k)
-  unfolding mod_type functor_param
-  type_plain (TypePath []) k p w = absurd (w refl)
-  type_plain (TypePath (x ∷ xs)) k p w = refl
-  type_plain (Sig at is) k p w = refl
-  type_plain (TypeOf at m) k p w = refl
-  type_plain (TypeParen at s) k p w = paren_is_with at (mod_type_then s (fixed key.RightParen ∷ k)) (no_name s (fixed key.RightParen ∷ k) w tt)
-  type_plain _ k p w = absurd cc
-
   -- ---- simple module types
 
   path_type_pass : (path : List Name) (r : List Tok) → path ≢ [] → length (path_then path r) ≤ suc f → Passes r (simple_type_at f (path_then path r))
   unfolding simple_type
   path_type_pass [] r w len = absurd (w refl)
-  path_type_pass (x ∷ xs) r w len = pass_map r TypePath (passes (omega arith) (path_ends f (x ∷ xs) r w len))
-
-  sig_whole : (at : ℕ) (is : SigItems) (r : List Tok) → WfSigItems is → length (mod_type_then (Sig at is) r) ≤ suc f
-      → simple_type_at f (mod_type_then (Sig at is) r) ≡ Some (Sig at is, r)
-  unfolding simple_type
-  sig_whole at is r w len = rw (sig_items_whole f is w r (omega (arith, len))) refl
+  path_type_pass (x ∷ xs) r w len = pass_map r TypePath (path_pass f (x ∷ xs) r w len)
 
   type_of_pass : (at : ℕ) (m : ModExpr) (r : List Tok) → is_functor m ≡ false → WfMod m → length (mod_type_then (TypeOf at m) r) ≤ suc f
       → Passes r (simple_type_at f (mod_type_then (TypeOf at m) r))
   unfolding simple_type
   type_of_pass at m r p w len = pass_map r (TypeOf at) (flat_pass f m r p w (omega (arith, len)))
 
-  paren_type_whole : (at : ℕ) (s : ModType) (r : List Tok) → WfModType s → length (mod_type_then (TypeParen at s) r) ≤ suc f
-      → simple_type_at f (mod_type_then (TypeParen at s) r) ≡ Some (TypeParen at s, r)
-  unfolding simple_type
-  paren_type_whole at s r w len = rw (type_whole s w f (fixed key.RightParen ∷ r) refl (omega (arith, len))) refl
-
   simple_type_pass : (s : ModType) (r : List Tok) → is_simple_type s ≡ true → WfModType s → length (mod_type_then s r) ≤ suc f
       → Passes r (simple_type_at f (mod_type_then s r))
   simple_type_pass (TypePath path) r p w len = path_type_pass path r w len
-  simple_type_pass (Sig at is) r p w len = exactly (Sig at is) (sig_whole at is r w len)
+  simple_type_pass (Sig at is) r p w len = exactly (Sig at is) (sig_read f at is r (sig_items_good is) w len)
   simple_type_pass (TypeOf at m) r p w len = type_of_pass at m r w.0 w.1 len
-  simple_type_pass (TypeParen at s) r p w len = exactly (TypeParen at s) (paren_type_whole at s r w len)
+  simple_type_pass (TypeParen at s) r p w len = exactly (TypeParen at s) (paren_type_read f at s r (type_good s) w len)
   simple_type_pass _ r p w len = absurd cc
 
   -- ---- what may be behind one
@@ -125,7 +57,7 @@ module _ (f : ℕ) where
   with_shorter s ts ([], r) le = arrow_shorter s ts (expect key.Arrow ts >>= read_type f) refl
   with_shorter s ts (c ∷ cs, r) le = le
 
-  with_pass : (ts r : List Tok) → Passes r (simple_type_at f ts) → Passes r (with_at ts)
+  with_pass : (ts r : List Tok) → Passes r (simple_type_at f ts) → Passes r (with_at f ts)
   with_pass ts r p =
       let more = with_clauses f p.0.1 in
       let le = many_shorter [] ◌∷◌ always (with_clause f) (clause_shorter f) f p.0.1 in
@@ -133,7 +65,7 @@ module _ (f : ℕ) where
 
   lone_pass : (s : ModType) (r : List Tok) → is_simple_type s ≡ true → WfModType s → length (mod_type_then s r) ≤ suc f
       → Passes r (mod_type_at f (mod_type_then s r))
-  lone_pass s r p w len = rw (type_plain s r p w) (with_pass (mod_type_then s r) r (simple_type_pass s r p w len))
+  lone_pass s r p w len = rw (type_plain f s r p w) (with_pass (mod_type_then s r) r (simple_type_pass s r p w len))
 
   clauses_left : (s : ModType) (ts r : List Tok) (m : List WithClause × List Tok) → Clauses f r m
       → length (with_or (read_mod f) (read_type f) f s ts m).1 ≤ length r
@@ -147,34 +79,21 @@ module _ (f : ℕ) where
       let first = (type_good s).lone w.0 w.1 f rest refl len in
       let more = withs_pass f c cs ws r w.3 f (omega (arith, len, type_longer s rest w.1)) (omega arith) in
       let all = with_clauses f rest in
-      rw (type_plain s rest w.0 w.1, first) (with_or (read_mod f) (read_type f) f s rest all, refl, clauses_left s rest r all more)
-
-  no_clause : (k : List Tok) → with_clauses f (fixed key.Arrow ∷ k) ≡ ([], fixed key.Arrow ∷ k)
-  unfolding many with_clause
-  no_clause k = by f
-    where
-      by : (n : ℕ) → many [] ◌∷◌ always (with_clause f) n (fixed key.Arrow ∷ k) ≡ ([], fixed key.Arrow ∷ k)
-      by zero = refl
-      by (suc n) = refl
+      rw (type_plain f s rest w.0 w.1, first) (with_or (read_mod f) (read_type f) f s rest all, refl, clauses_left s rest r all more)
 
   arrow_pass : (s s' : ModType) (r : List Tok) → WfModType (Arrow s s') → length (mod_type_then (Arrow s s') r) ≤ suc f
       → Passes r (read_type f (mod_type_then s' r)) → Passes r (mod_type_at f (mod_type_then (Arrow s s') r))
   arrow_pass s s' r w len inside =
       let rest : List Tok = fixed key.Arrow ∷ mod_type_then s' r in
       let first = (type_good s).lone w.0 w.1 f rest refl len in
-      rw (type_plain s rest w.0 w.1, first, no_clause (mod_type_then s' r), inside.1) ((Arrow s inside.0.0, inside.0.1), refl, inside.2)
-
-  param_arrow_is : (p : FunctorParam) (k : List Tok) → mod_type_at f (functor_param_then p k)
-      ≡ param_or (read_mod f) (read_type f) f (functor_param_then p k) (param_at f (functor_param_then p k))
-  unfolding mod_type
-  param_arrow_is (NamedParam at x s) k = refl
-  param_arrow_is (NoParam at) k = refl
+      let no = no_withs f rest (arrow_no_with f (mod_type_then s' r)) in
+      rw (type_plain f s rest w.0 w.1, first, no, inside.1) ((Arrow s inside.0.0, inside.0.1), refl, inside.2)
 
   param_arrow_pass : (p : FunctorParam) (s : ModType) (r : List Tok) → WfModType (ParamArrow p s) → length (mod_type_then (ParamArrow p s) r) ≤ suc f
       → Passes r (read_type f (mod_type_then s r)) → Passes r (mod_type_at f (mod_type_then (ParamArrow p s) r))
   param_arrow_pass p s r w len inside =
       let rest : List Tok = fixed key.Arrow ∷ mod_type_then s r in
-      rw (param_arrow_is p rest, param_whole f p w.0 rest len) (pass_map r (ParamArrow p) inside)
+      rw (param_arrow_is f p rest, param_read f p (param_good p) w.0 rest len) (pass_map r (ParamArrow p) inside)
 
   functor_type_pass : (at : ℕ) (ps : FunctorParams) (s : ModType) (r : List Tok) → WfModType (FunctorType at ps s)
       → length (mod_type_then (FunctorType at ps s) r) ≤ suc f → Passes r (read_type f (mod_type_then s r))
@@ -182,8 +101,9 @@ module _ (f : ℕ) where
   unfolding mod_type
   functor_type_pass at no_functor_param s r w len inside = absurd (w.0 refl)
   functor_type_pass at (more_functor_param p ps) s r w len inside =
-      rw (params_before f (more_functor_param p ps) w.1 key.Arrow (mod_type_then s r) (omega (arith, len)))
-      (pass_map r (FunctorType at (more_functor_param p ps)) inside)
+      let all : FunctorParams = more_functor_param p ps in
+      rw (params_exact f all (params_good all) w.1 (fixed key.Arrow ∷ mod_type_then s r) tt (omega (arith, len)))
+      (pass_map r (FunctorType at all) inside)
 
 -- through one level
 type_level : (s : ModType) → WfModType s → (f : ℕ) (r : List Tok)
