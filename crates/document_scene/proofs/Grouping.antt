@@ -1,5 +1,5 @@
 -- The ranges of places that are grouped by their sources.
-use Rattle.std.proofs.Common.{◌≡◌, ℕ, zero, suc, ◌+◌, ◌≤◌, ◌<◌, All, List, [], ◌∷◌, ◌++◌, drop, get_or, length, map, slice_get, take, refl, ap, sym, subst}
+use Rattle.std.proofs.Common.{◌≡◌, ℕ, zero, suc, ◌+◌, ◌≤◌, All, List, [], ◌∷◌, ◌++◌, drop, get_or, length, map, slice_get, take, refl, ap, sym, subst}
 use Rattle.std.proofs.Common.{◌∙◌, arith, Result, Ok, Err, IfOk}
 use Rattle.std.specs.Global.{Vec}
 use Rattle.std.proofs.lemmas.List.{append_assoc, map-append, take-append-drop}

@@ -1,10 +1,9 @@
 -- The ranges of places (Language Server Protocol 3.17, "Location" and "Document Highlight"; own where it says the word of a
 -- token).
-use Rattle.std.specs.Prelude.{ℕ, ◌-◌, ◌==◌, ◌||◌, List, [], Bool, true, false, not, Option, None, Some, filter, length, map, slice_get, string_bytes}
+use Rattle.std.specs.Prelude.{ℕ, ◌-◌, ◌==◌, ◌||◌, List, [], Bool, not, Option, None, Some, filter, length, map, slice_get, string_bytes}
 use Rattle.report.specs.Pieces.{Word}
 use Rattle.rotor_base.specs.declared.place.Place.{Place}
 use Rattle.text_places.specs.declared.counting.Counting.{Counting}
-use Rattle.text_places.specs.declared.counting.Counting.TheVariants.{Utf8}
 use Rattle.source_edits.specs.declared.ranges.Span.{Span}
 use Rattle.source_edits.specs.declared.ranges.TextRange.{TextRange}
 use Rattle.source_edits.specs.Ranges.{range_of}

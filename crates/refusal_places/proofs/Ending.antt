@@ -1,6 +1,5 @@
 -- What is before the front is read.
-use Rattle.std.proofs.Common.{ℕ, ◌+◌, List, length, true}
-use Rattle.ml_lexer.specs.Lexed.{Lexeme}
+use Rattle.std.proofs.Common.{ℕ, ◌+◌, length, true}
 use Rattle.ml_syntax.specs.RespelledFile.{lexeme_toks}
 use Rattle.parse_module.specs.declared.files.FileKind.TheVariants as kind
 use Rattle.parse_module.specs.ModReading.{body_start, face_start, read_mod, read_type}

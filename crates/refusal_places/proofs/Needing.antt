@@ -1,5 +1,5 @@
 -- What is said of the needs of a chain.
-use Rattle.std.proofs.Common.{◌≡◌, ℕ, List, [], ◌∷◌, ◌++◌, Option, Some, None, Result, Ok, Err, IfOk, map, refl, ap, subst, sym, ◌∙◌}
+use Rattle.std.proofs.Common.{◌≡◌, ℕ, List, [], ◌∷◌, Option, None, Result, Ok, Err, IfOk, map, refl, subst, sym}
 use Rattle.report.specs.Pieces.{Word}
 use Rattle.messages.specs.declared.parts.Message.{Message}
 use Rattle.messages.specs.declared.parts.Note.{Note}

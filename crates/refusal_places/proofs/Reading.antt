@@ -1,8 +1,7 @@
 -- Of a source that is read the front is the end.
-use Rattle.std.proofs.Common.{◌≡◌, ◌≤◌, ◌↔◌, ℕ, ◌+◌, ◌-◌, List, [], ◌∷◌, Option, Some, None, cond, length, take, refl, ap, sym, ◌∙◌, arith}
+use Rattle.std.proofs.Common.{◌≡◌, ◌≤◌, ℕ, ◌+◌, ◌-◌, List, [], ◌∷◌, Option, Some, None, cond, length, take, refl, ap, ◌∙◌, arith}
 use Rattle.std.proofs.lemmas.List.{length-map}
 use Rattle.std.proofs.lemmas.Option.{slice_get_past}
-use Rattle.rotor_base.specs.declared.token.Class.{Class}
 use Rattle.ml_lexer.specs.Lexed.{Lexeme}
 use Rattle.ml_syntax.specs.RespelledFile.{lexeme_toks}
 use Rattle.ml_trees.specs.Tok.{Tok}
@@ -11,7 +10,6 @@ use Rattle.parse_module.specs.declared.files.FileKind.{FileKind}
 use Rattle.parse_module.specs.declared.files.FileKind.TheVariants as kind
 use Rattle.parse_module.specs.ModReading.{body_start, face_start, read_body, read_face, whole_body, whole_face}
 use Rattle.parse_module.specs.Parts.{read_file}
-use Rattle.parse_module.specs.Whole.{HasNoTree, IsTreeOf}
 use Rattle.parse_module.proofs.LongerMod.{items_more, sig_items_more}
 use Rattle.parse_module.proofs.Whole.{no_tree, tree_of}
 use Rattle.refusal_places.specs.Front.{behind_items, front_of, is_in, items_end, last_let}

@@ -1,5 +1,5 @@
 -- The message of a source that is not read (own).
-use Rattle.std.specs.Prelude.{◌≡◌, ◌≤◌, ℕ, ◌-◌, ◌==◌, List, [], ◌∷◌, ◌++◌, Bool, true, false, Option, Some, None, codes, length, slice_get, if◌then◌else◌}
+use Rattle.std.specs.Prelude.{◌≡◌, ◌≤◌, ℕ, ◌-◌, ◌==◌, List, [], ◌∷◌, Bool, true, false, Option, Some, None, codes, length, slice_get, if◌then◌else◌}
 use Rattle.report.specs.Pieces.{Word, join}
 use Rattle.ml_lexer.specs.Lexed.{Lexeme}
 use Rattle.messages.specs.Spot.{spot_of}

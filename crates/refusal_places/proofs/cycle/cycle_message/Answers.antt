@@ -1,4 +1,4 @@
-use Rattle.std.proofs.Common.{◌≡◌, ◌<◌, ℕ, List, [], ◌∷◌, length, refl, subst, sym, ◌∙◌, arith}
+use Rattle.std.proofs.Common.{◌≡◌, ◌<◌, List, [], ◌∷◌, length, refl, subst, sym, ◌∙◌, arith}
 use Rattle.need_chains.specs.Chains.{IsCircle}
 use Rattle.need_chains.proofs.Leading.{circle_has_units}
 use Rattle.refusal_places.proofs.cycle.cycle_message.Goals as goal

@@ -1,4 +1,4 @@
-use Rattle.std.proofs.Common.{◌+◌, ◌-◌, sym, ◌∙◌, arith}
+use Rattle.std.proofs.Common.{sym, ◌∙◌, arith}
 use Rattle.refusal_places.proofs.Lets.{found_at, ins_at, none_at}
 use Rattle.refusal_places.proofs.front.last_let.Goals as goal
 
