@@ -31,6 +31,9 @@ pub fn lacks_in(tokens: &[Token<'_>], at: usize) -> bool
     }
     let mut more = 0;
     for next in at + 1..tokens.len() {
+        if tokens[next].bytes.len() == 1 {
+            continue; // no token that counts has one byte
+        }
         match seen_at(kind_at(tokens, next), more) {
             Seen::Open(now) => more = now,
             Seen::Own => return false,
