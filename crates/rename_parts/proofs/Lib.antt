@@ -6,3 +6,4 @@ pub mod Marks
 pub mod Hitting
 pub mod Words
 pub mod Blurring
+pub mod Filing

@@ -1,5 +1,6 @@
 -- Sets of places (own).
-use Rattle.std.specs.Prelude.{Bool, false}
+use Rattle.std.specs.Prelude.{◌≡◌, ℕ, Bool, false}
+use Rattle.std.specs.Ordering.{nat_cmp}
 use Rattle.rotor_base.specs.Place.{place_cmp}
 use Rattle.std.specs.BTreeSet.{BTreeSet, contains}
 use Rattle.rotor_base.specs.declared.place.Foot.{Foot}
@@ -16,3 +17,7 @@ IsSetOf foot set = HasPlaces foot.decls set
 abbrev pub leads_into : BTreeSet Place → Goal → Bool
 leads_into set (Decl d) = contains place_cmp set d
 leads_into set _ = false
+
+-- the numbers have the file of each place of the set
+abbrev pub HasFiles : BTreeSet Place → BTreeSet ℕ → Type 0
+HasFiles set numbers = (p : Place) → contains nat_cmp numbers p.file ≡ false → contains place_cmp set p ≡ false

@@ -10,10 +10,13 @@ ghost use Rattle.binding_model.specs.Renaming.{file_places};
 ghost use Rattle.binding_model.specs.Scopes.{here};
 ghost use Rattle.rename_parts.specs.Hits.{all_hits, hits_in};
 ghost use Rattle.rename_parts.specs.Leasts.{IsLeastOrNone};
+ghost use Rattle.rename_parts.specs.Members.{HasFiles};
+ghost use Rattle.watched.specs.Members.{HasPlaces};
 ghost use Rattle.rename_parts.specs.declared.checks.Hit.{Hit};
 
 use crate::binders::number_of_file;
 use crate::leasts::earlier;
+use crate::members::files_of;
 use ml_syntax::{Mark, binders, value_refs};
 use ml_trees::{FileTree, Project};
 use rotor_base::{Memory, Place};
@@ -28,18 +31,21 @@ pub struct Hit {
     pub operator: bool,
 }
 
-/// What is at the places of a set.
+/// What is at some places, of which the caller has the set. Files without one of them are passed over.
 pub fn hit_marks(
     alloc: Global,
     project: &Project,
+    places: &[Place],
     set: &BTreeSet<Place>,
 ) -> Result<Vec<Hit>, Memory>
+    requires { HasPlaces places.now set.now }
     ensures { IfOk result (λ list. list.items ≡ all_hits set.now (view_project project.now)) }
 {
+    let files = files_of(alloc, places)?;
     let mut list = Vec::new(alloc);
     for unit in &project.units {
-        add_part_hits(alloc, &mut list, &unit.body, set)?;
-        add_part_hits(alloc, &mut list, &unit.face, set)?;
+        add_part_hits(alloc, &mut list, &unit.body, &files, set)?;
+        add_part_hits(alloc, &mut list, &unit.face, &files, set)?;
     }
     Ok(list)
 }
@@ -49,26 +55,33 @@ fn add_part_hits(
     alloc: Global,
     list: &mut Vec<Hit>,
     part: &Option<FileTree>,
+    files: &BTreeSet<u32>,
     set: &BTreeSet<Place>,
 ) -> Result<(), Memory>
+    requires { HasFiles set.now files.now }
     ensures { OnOk result (list.new.items ≡ list.old.items ++ hits_in set.now (file_places (view_part_of part.now))) }
 {
     match part {
         None => Ok(()),
-        Some(tree) => add_file_hits(alloc, list, tree, set),
+        Some(tree) => add_file_hits(alloc, list, tree, files, set),
     }
 }
 
-/// Adds the hits of a file: of its binders, and of its uses.
+/// Adds the hits of a file: of its binders, and of its uses. A file that is not among these has none.
 fn add_file_hits(
     alloc: Global,
     list: &mut Vec<Hit>,
     tree: &FileTree,
+    files: &BTreeSet<u32>,
     set: &BTreeSet<Place>,
 ) -> Result<(), Memory>
+    requires { HasFiles set.now files.now }
     ensures { OnOk result (list.new.items ≡ list.old.items ++ hits_in set.now (file_places (Some (view_file tree.now)))) }
 {
     let file = number_of_file(tree);
+    if !files.contains(&file) {
+        return Ok(());
+    }
     let declared = binders(alloc, tree)?;
     add_marks(list, file, &declared, set)?;
     let used = value_refs(alloc, tree)?;

@@ -1,6 +1,9 @@
 //! The members of a footprint, and the references to them.
 
-ghost use Rattle.std.specs.Prelude.{◌≡◌, IfOk, length};
+ghost use Rattle.std.specs.Prelude.{◌≡◌, ◌==◌, ℕ, IfOk, length};
+ghost use Rattle.std.specs.BTreeSet.{contains};
+ghost use Rattle.std.specs.List.{list_any};
+ghost use Rattle.std.specs.Ordering.{nat_cmp};
 ghost use Rattle.rotor_base.specs.declared.place.Foot.{Foot};
 ghost use Rattle.rename_model.specs.Foot.{hits, refs_to};
 ghost use Rattle.rename_parts.specs.Members.{IsSetOf, leads_into};
@@ -50,4 +53,15 @@ fn leads_into(goal: Goal, members: &BTreeSet<Place>) -> bool
         Goal::Decl(place) => members.contains(&place),
         _ => false,
     }
+}
+
+/// The numbers of the files of some places. `Memory` is the only error.
+pub fn files_of(alloc: Global, places: &[Place]) -> Result<BTreeSet<u32>, Memory>
+    ensures { IfOk result (λ set. (n : ℕ) → contains nat_cmp set n ≡ list_any (λ p. p.file == n) places.now) }
+{
+    let mut set = BTreeSet::new(alloc);
+    for place in places {
+        set.insert(place.file)?;
+    }
+    Ok(set)
 }

@@ -62,7 +62,7 @@ pub fn judge_foot(
 {
     let list = hit_places(alloc, facts.refs.as_slice(), &watch.foot, members)?;
     let set = set_of(alloc, &list)?;
-    let marks = hit_marks(alloc, project, &set)?;
+    let marks = hit_marks(alloc, project, &list, &set)?;
     let found = find_all(facts, watch, members, &marks);
     match first_refusal(found) {
         Some(why) => Err(why),

@@ -1,9 +1,6 @@
 //! The new files of a renaming.
 
-ghost use Rattle.std.specs.Prelude.{◌≡◌, ◌≤◌, ◌==◌, ℕ, IfOk, None, length};
-ghost use Rattle.std.specs.BTreeSet.{contains};
-ghost use Rattle.std.specs.List.{list_any};
-ghost use Rattle.std.specs.Ordering.{nat_cmp};
+ghost use Rattle.std.specs.Prelude.{◌≡◌, ◌≤◌, IfOk, None, length};
 ghost use Rattle.ml_lexer.specs.Lexed.{Lexed, view_tokens};
 ghost use Rattle.std.specs.Option.{option_map};
 ghost use Rattle.rotor_base.specs.Limits.{max_file_bytes, max_name_bytes, max_sources};
@@ -11,7 +8,7 @@ ghost use Rattle.rotor_base.specs.Files.{names_of, too_large, IsProject};
 ghost use Rattle.rename_model.specs.Report.{hit_files};
 ghost use Rattle.rename_steps.specs.Sources.{IsMade};
 
-use rename_parts::new_bytes;
+use rename_parts::{files_of, new_bytes};
 use rotor_base::{Files, Memory, Place, Row, SourceFile, Text, Token};
 use std::alloc::Global;
 use std::collections::BTreeSet;
@@ -79,15 +76,4 @@ pub fn changed_files(
         number += 1;
     }
     Ok(numbers)
-}
-
-/// The numbers of the files of some places.
-fn files_of(alloc: Global, places: &[Place]) -> Result<BTreeSet<u32>, Memory>
-    ensures { IfOk result (λ set. (n : ℕ) → contains nat_cmp set n ≡ list_any (λ p. p.file == n) places.now) }
-{
-    let mut set = BTreeSet::new(alloc);
-    for place in places {
-        set.insert(place.file)?;
-    }
-    Ok(set)
 }

@@ -45,7 +45,8 @@ fn fixed_uses(alloc: Global, project: &Project, refs: &[Ref]) -> Result<BTreeSet
     ensures { IfOk result (HasFixedUses (view_project project.now) refs.now) }
 {
     let places = places_of(alloc, refs)?;
-    let marks = hit_marks(alloc, project, &set_of(alloc, &places)?)?;
+    let set = set_of(alloc, &places)?;
+    let marks = hit_marks(alloc, project, &places, &set)?;
     let fixed = fixed_places(alloc, &marks)?;
     set_of(alloc, &fixed)
 }

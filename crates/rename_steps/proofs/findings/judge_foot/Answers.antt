@@ -20,9 +20,9 @@ returns-in-Some-clause-refused c = λ d n.
     subst (λ (ps : List Place). HasPlaces ps c.in_ok-set.set) listed c.in_ok-set.ensures in
     let found = c.find_all-found in
     let all : Told us d foot c.args.watch.now.new c.first_refusal.result =
-    judged us c.args.facts.now foot c.args.watch.now.new c.args.watch.now.old c.args.members.now c.in_ok-set.set c.deref-2.result.now
+    judged us c.args.facts.now foot c.args.watch.now.new c.args.watch.now.old c.args.members.now c.in_ok-set.set c.deref-3.result.now
     c.requires.sound c.requires.facts c.requires.members places
-    (c.deref-2.ensures.value ∙ c.in_ok-marks.ensures) found.result found.ensures.operator found.ensures.valid found.ensures.same found.ensures.outside
+    (c.deref-3.ensures.value ∙ c.in_ok-marks.ensures) found.result found.ensures.operator found.ensures.valid found.ensures.same found.ensures.outside
     found.ensures.pun found.ensures.blurred c.first_refusal.result c.first_refusal.ensures d n in
     inl (subst (Told us d foot c.args.watch.now.new) c.in-Some.is all)
 
@@ -36,8 +36,8 @@ returns-in-None-clause-free c = λ d n.
     subst (λ (ps : List Place). HasPlaces ps c.in_ok-set.set) listed c.in_ok-set.ensures in
     let found = c.find_all-found in
     let all : Told us d foot c.args.watch.now.new c.first_refusal.result =
-    judged us c.args.facts.now foot c.args.watch.now.new c.args.watch.now.old c.args.members.now c.in_ok-set.set c.deref-2.result.now
+    judged us c.args.facts.now foot c.args.watch.now.new c.args.watch.now.old c.args.members.now c.in_ok-set.set c.deref-3.result.now
     c.requires.sound c.requires.facts c.requires.members places
-    (c.deref-2.ensures.value ∙ c.in_ok-marks.ensures) found.result found.ensures.operator found.ensures.valid found.ensures.same found.ensures.outside
+    (c.deref-3.ensures.value ∙ c.in_ok-marks.ensures) found.result found.ensures.operator found.ensures.valid found.ensures.same found.ensures.outside
     found.ensures.pun found.ensures.blurred c.first_refusal.result c.first_refusal.ensures d n in
     subst (Told us d foot c.args.watch.now.new) c.in-None.is all

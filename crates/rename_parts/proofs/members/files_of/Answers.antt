@@ -1,5 +1,5 @@
-use Rattle.rename_steps.proofs.Numbers.{gathers_more}
-use Rattle.rename_steps.proofs.sources.files_of.Goals as goal
+use Rattle.rename_parts.proofs.Filing.{gathers_more}
+use Rattle.rename_parts.proofs.members.files_of.Goals as goal
 
 pub loop-place-preserved : goal.loop-place-preserved
 loop-place-preserved c = gathers_more c.args.places.now c.loop-place.place-index _ c.loop-place.set c.insert.new.self c.loop-place-test.true

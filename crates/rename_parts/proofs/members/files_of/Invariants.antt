@@ -1,5 +1,5 @@
-use Rattle.rename_steps.proofs.Numbers.{Gathers}
-use Rattle.rename_steps.proofs.sources.files_of.Given as goal
+use Rattle.rename_parts.proofs.Filing.{Gathers}
+use Rattle.rename_parts.proofs.members.files_of.Given as goal
 
 -- with the places that are left, the set has all their files
 abbrev pub invariant-loop-place : goal.invariant-loop-place
