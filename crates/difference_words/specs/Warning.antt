@@ -81,12 +81,19 @@ late cuts at unit needed =
     ∷ codes "` is outside the folder here; no linker takes that order" ∷ []))
     (place_spot cuts at) None
 
+abbrev pub standard : List Cut → Place → Message
+standard cuts at =
+    warned kind.Opened
+    (codes "OCaml opens this unit first in every other unit, rotor does not; a name there may mean one of its values or modules")
+    (place_spot cuts at) (Some (codes "give this unit another name, and open it in each unit that uses it"))
+
 abbrev pub warning_how : List Cut → Place → Parting → Message
 warning_how cuts at (how.Indexing f) = indexed cuts at f
 warning_how cuts at (how.Opened name by) = opened cuts at name by
 warning_how cuts at (how.Types argument) = applied cuts at argument
 warning_how cuts at (how.Comment offset) = commented cuts at offset
 warning_how cuts at (how.Order unit needed) = late cuts at unit needed
+warning_how cuts at how.Standard = standard cuts at
 
 abbrev pub warning_of : List Cut → Difference → Message
 warning_of cuts d = warning_how cuts d.at d.how

@@ -1,7 +1,7 @@
 //! The warning of a place.
 ghost use Rattle.std.specs.Prelude.{◌≡◌, IfOk, map};
 ghost use Rattle.refusal_words.specs.Cut.{view_cut};
-ghost use Rattle.difference_words.specs.Warning.{applied as applied_of, commented as commented_of, index_help as index_help_of, index_text as index_text_of, indexed as indexed_of, late as late_of, module_of, form_of, opened as opened_of, opened_note as opened_note_of, opened_text as opened_text_of, warned, warning_of as warning_for};
+ghost use Rattle.difference_words.specs.Warning.{applied as applied_of, commented as commented_of, index_help as index_help_of, index_text as index_text_of, indexed as indexed_of, late as late_of, module_of, form_of, opened as opened_of, opened_note as opened_note_of, opened_text as opened_text_of, standard as standard_of, warned, warning_of as warning_for};
 
 use messages::{Kind, Message, Note, Severity, Spot, joined, spot_text};
 use reading_differences::{Difference, Indexed, Parting};
@@ -26,6 +26,7 @@ pub fn warning_of(
         Parting::Order { unit, needed } => {
             late(alloc, cuts, at, unit.as_bytes(), needed.as_bytes())
         }
+        Parting::Standard => standard(alloc, cuts, at),
     }
 }
 
@@ -224,4 +225,17 @@ fn late<'a>(
     )?;
     let at = place_spot(alloc, cuts, at)?;
     Ok(warning_at(alloc, Kind::Order, text, at, None))
+}
+
+/// The warning of a unit with the name of OCaml's standard library.
+fn standard(alloc: Global, cuts: &[CutSource<'_>], at: Place) -> Result<Message, Memory>
+    ensures { IfOk result (λ message. message ≡ standard_of (map view_cut cuts.now) at) }
+{
+    let text =
+        b"OCaml opens this unit first in every other unit, rotor does not; a name there may mean one of its values or modules";
+    let help = b"give this unit another name, and open it in each unit that uses it";
+    let text = Row::from_vec(text.to_vec(alloc)?);
+    let help = Row::from_vec(help.to_vec(alloc)?);
+    let at = place_spot(alloc, cuts, at)?;
+    Ok(warning_at(alloc, Kind::Opened, text, at, Some(help)))
 }

@@ -15,6 +15,7 @@ use Rattle.module_openings.specs.Opened.{opened_modules}
 use Rattle.module_openings.specs.Sources.{lexemes_of}
 use Rattle.module_openings.specs.declared.opened.OpenedUse.{OpenedUse}
 use Rattle.reading_differences.specs.Late.{late_needs}
+use Rattle.reading_differences.specs.Standard.{standard_units}
 use Rattle.reading_differences.specs.declared.difference.Difference.{Difference}
 use Rattle.reading_differences.specs.declared.difference.Indexed.TheVariants.{Array, String}
 use Rattle.reading_differences.specs.declared.difference.Parting.TheVariants.{Opened}
@@ -42,7 +43,7 @@ opened_use u = record { at = u.at; how = Opened u.name u.by }
 abbrev pub found_among : Bool → List SourceFile → List UnitTree → List (List Lexeme) → List Difference
 found_among listed sources us lists =
     indexing Array lists us ++ indexing String lists us ++ map opened_use (opened_modules lists us) ++ applications 0 lists
-    ++ comments lists 0 sources ++ late_if listed lists us
+    ++ comments lists 0 sources ++ late_if listed lists us ++ standard_units lists us
 
 -- in the order of their places
 abbrev pub differences_of : FileSet → List UnitTree → List (List Lexeme) → List Difference

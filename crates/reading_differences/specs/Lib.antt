@@ -2,4 +2,5 @@ pub mod Comments
 pub mod Applied
 pub mod Late
 pub mod Indexed
+pub mod Standard
 pub mod Differences

@@ -24,6 +24,8 @@ pub enum Parting {
     Comment(u32),
     /// The unit of the place needs a unit that is linked behind it.
     Order { unit: Name, needed: Name },
+    /// The unit of the place has the name of OCaml's standard library.
+    Standard,
 }
 
 /// A place at which OCaml may read a project otherwise, and how.

@@ -9,6 +9,7 @@ mod indexed;
 mod late;
 mod parts;
 mod project;
+mod standard;
 
 pub use difference::{Difference, Indexed, Parting};
 pub use project::differences;

@@ -15,6 +15,7 @@ use crate::comments::add_comments;
 use crate::difference::{Difference, Indexed, Parting};
 use crate::indexed::add_indexing;
 use crate::late::add_late_needs;
+use crate::standard::add_standard;
 use ml_trees::UnitTree;
 use module_openings::{OpenedUse, opened_uses};
 use project_reading::Read;
@@ -69,6 +70,7 @@ fn found_differences(
     add_all_applications(alloc, &mut found, sources)?;
     add_all_comments(&mut found, files, sources)?;
     add_listed(alloc, &mut found, is_listed, sources, units)?;
+    add_standard(&mut found, sources, units)?;
     Ok(found)
 }
 
