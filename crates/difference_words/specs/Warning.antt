@@ -84,7 +84,7 @@ late cuts at unit needed =
 abbrev pub standard : List Cut → Place → Message
 standard cuts at =
     warned kind.Opened
-    (codes "OCaml opens this unit first in every other unit, rotor does not; a name there may mean one of its values or modules")
+    (codes "OCaml opens this unit first in every other unit, and rotor does not; a name there may mean one of its values or modules")
     (place_spot cuts at) (Some (codes "give this unit another name, and open it in each unit that uses it"))
 
 abbrev pub warning_how : List Cut → Place → Parting → Message

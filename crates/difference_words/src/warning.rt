@@ -232,7 +232,7 @@ fn standard(alloc: Global, cuts: &[CutSource<'_>], at: Place) -> Result<Message,
     ensures { IfOk result (λ message. message ≡ standard_of (map view_cut cuts.now) at) }
 {
     let text =
-        b"OCaml opens this unit first in every other unit, rotor does not; a name there may mean one of its values or modules";
+        b"OCaml opens this unit first in every other unit, and rotor does not; a name there may mean one of its values or modules";
     let help = b"give this unit another name, and open it in each unit that uses it";
     let text = Row::from_vec(text.to_vec(alloc)?);
     let help = Row::from_vec(help.to_vec(alloc)?);
