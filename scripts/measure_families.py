@@ -81,6 +81,17 @@ def _(count):
     return one("let _ = 1; " * 100 + ";;" + ("let _ = 1; " * 100 + ";;") * (count // 2_400))
 
 
+@family("items that end in ; and no ;;", [5_000, 10_000, 20_000])
+def _(count):
+    return one("let _ = 1; " * count)
+
+
+@family("modules of one value", [2_000, 4_000, 8_000])
+def _(count):
+    modules = "".join(f"module M{number} : S = struct let f = 1 end\n" for number in range(count))
+    return one("module type S = sig val f : int end\n" + modules)
+
+
 @family("functions that end in ;", [100, 200, 400])
 def _(count):
     body = "(match x with A -> if y then (let z = 1 in z + y) else 2 | B (p, q) -> p q | _ -> f (f x y) (f y x)) + 1; "

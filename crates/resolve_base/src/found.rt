@@ -15,8 +15,9 @@ use std::alloc::Global;
 
 /// Looks a value up by its name alone. `Memory` is the only error.
 #[tactic(auto, using(crate::proofs::Recorders::uses_alone))]
-pub fn use_alone(found: &mut Found, scope: &Scope, at: Place, name: &[u8]) -> Result<(), Memory>
-    ensures { OnOk result (taken (Going found.old) (UseAlone at name.now (entries_of scope.now)) ≡ Going found.new) }
+pub fn use_alone(found: &mut Found, scope: &mut Scope, at: Place, name: &[u8]) -> Result<(), Memory>
+    ensures done { OnOk result (taken (Going found.old) (UseAlone at name.now (entries_of scope.old)) ≡ Going found.new) }
+    ensures scope { scope.new ≡ scope.old }
 {
     let goal = match val_in(scope, name) {
         Some(goal) => goal,
@@ -84,7 +85,7 @@ fn declared(alloc: Global, values: &[SharedEntry]) -> Result<Row<Place>, Memory>
 
 /// Ends a weighed site: `Heavy` if its shape, the sum of weights or the work so far is over its bound.
 pub fn weighed_site(found: &mut Found, at: Place, shape: &Shared) -> Result<(), FactError>
-    ensures taken { HasTaken result found.old found.new (WeighedSite at shape.now) }
+    ensures done { HasTaken result found.old found.new (WeighedSite at shape.now) }
     ensures heavy { HasStopped result found.old (WeighedSite at shape.now) }
 {
     let weight = weight_of(shape);
@@ -100,7 +101,7 @@ pub fn weighed_site(found: &mut Found, at: Place, shape: &Shared) -> Result<(), 
 
 /// Ends an opening site: `Heavy` if the weights that the unit has opened are over their bound.
 pub fn opened_site(found: &mut Found, at: Place, shape: &Shared) -> Result<(), FactError>
-    ensures taken { HasTaken result found.old found.new (OpenedSite at shape.now) }
+    ensures done { HasTaken result found.old found.new (OpenedSite at shape.now) }
     ensures heavy { HasStopped result found.old (OpenedSite at shape.now) }
 {
     let weight = weight_of(shape);
@@ -113,7 +114,7 @@ pub fn opened_site(found: &mut Found, at: Place, shape: &Shared) -> Result<(), F
 
 /// Ends an opening site of a module of which nothing is known: it opens no weight.
 pub fn opened_nothing(found: &mut Found, at: Place) -> Result<(), FactError>
-    ensures taken { HasTaken result found.old found.new (OpenedSite at Opaque) }
+    ensures done { HasTaken result found.old found.new (OpenedSite at Opaque) }
     ensures heavy { HasStopped result found.old (OpenedSite at Opaque) }
 {
     if found.sums.opened > MAX_OPENED {

@@ -1,6 +1,6 @@
 //! The looks that a recorder keeps, if there is one.
 
-ghost use Rattle.std.specs.Prelude.{◌≡◌, ◌||◌, OnOk, bytes_eq};
+ghost use Rattle.std.specs.Prelude.{◌≡◌, ◌||◌, IfOk, OnOk, bytes_eq};
 ghost use Rattle.shape_core.specs.Shape.{entries_in, value_in};
 ghost use Rattle.shape_core.specs.Looks as looks;
 ghost use Rattle.shape_core.specs.Node.{entries_of};
@@ -22,39 +22,48 @@ use watched::Watched;
 /// Records the look of a value that is looked up in a scope. `Memory` is the only error.
 pub fn record_use(
     recorder: &mut Option<Recorder>,
-    scope: &Scope,
+    scope: &mut Scope,
     at: Place,
     name: &[u8],
     goal: Goal,
 ) -> Result<(), Memory>
-    ensures { OnOk result (recorder.new ≡ use_recorded recorder.old at name.now goal (entries_of scope.now)) }
+    ensures recorded { OnOk result (recorder.new ≡ use_recorded recorder.old at name.now goal (entries_of scope.old)) }
+    ensures scope { scope.new ≡ scope.old }
 {
     let Some(recorder) = recorder else {
         return Ok(());
     };
-    if let Some(look) = look_in(&recorder.watch, scope, at, name, goal) {
+    if let Some(look) = look_in(&recorder.watch, scope, at, name, goal)? {
         recorder.looks.refs.push(look)?;
     }
     Ok(())
 }
 
-/// The look of a reference in a scope, if it has the old or the new name.
-fn look_in(watch: &Watched, scope: &Scope, at: Place, name: &[u8], goal: Goal) -> Option<RefLook>
-    ensures { listed result ≡ ref_look watch.now at name.now goal (entries_of scope.now) }
+/// The look of a reference in a scope, if it has the old or the new name. `Memory` is the only error.
+fn look_in(
+    watch: &Watched,
+    scope: &mut Scope,
+    at: Place,
+    name: &[u8],
+    goal: Goal,
+) -> Result<Option<RefLook>, Memory>
+    ensures look { IfOk result (λ look. listed look ≡ ref_look watch.now at name.now goal (entries_of scope.old)) }
+    ensures scope { scope.new ≡ scope.old }
 {
     if !is_asked(watch, name) {
-        return None;
+        return Ok(None);
     }
+    let foot = watch.last_member(scope)?;
     let (darks, by) = darks_in(scope);
-    Some(RefLook {
+    Ok(Some(RefLook {
         at,
         goal,
         is_new: is_new(watch, name),
         darks,
         by,
-        foot: last_where(Test::InFoot, watch, scope.all()),
+        foot,
         new: new_in(watch, scope),
-    })
+    }))
 }
 
 /// Whether a name is the old or the new one.

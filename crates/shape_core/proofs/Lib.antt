@@ -11,3 +11,4 @@ pub mod Retold
 pub mod Rows
 pub mod Sizes
 pub mod Looked
+pub mod Noted

@@ -1,6 +1,5 @@
 -- The last value of a name, by what the tables hold for the name.
 use Rattle.std.proofs.Common.{◌≡◌, ℕ, suc, ◌-◌, Bool, true, false, length, Option, Some, None, bytes_eq, refl, ap, ◌∙◌, arith}
-use Rattle.rotor_base.specs.declared.place.Place.{Place}
 use Rattle.rotor_base.specs.declared.place.Goal.{Goal}
 use Rattle.shape_core.specs.declared.index.Spot.{Spot}
 use Rattle.shape_core.specs.Index.{last_spot, moved, one_more}
@@ -14,7 +13,7 @@ looked n None = None
 looked n (Some s) = Some (s.position, some_place (decl_of s.goal), n - s.darks)
 
 -- one entry more in front
-past_value : (n : ℕ) (o : Option Spot) (b : Bool) (g : Goal) → or_else (looks.moved (looked n o)) (some_if b (0, some_place (decl_of g), n))
+pub past_value : (n : ℕ) (o : Option Spot) (b : Bool) (g : Goal) → or_else (looks.moved (looked n o)) (some_if b (0, some_place (decl_of g), n))
     ≡ looked n (or_else (moved o) (some_if b (record { goal = g; position = 0; darks = 0 })))
 past_value n None true g =
     let e : n ≡ n - 0 = omega arith in
@@ -22,11 +21,11 @@ past_value n None true g =
 past_value n None false g = refl
 past_value n (Some s) b g = refl
 
-past_module : (n : ℕ) (o : Option Spot) → looks.moved (looked n o) ≡ looked n (moved o)
+pub past_module : (n : ℕ) (o : Option Spot) → looks.moved (looked n o) ≡ looked n (moved o)
 past_module n None = refl
 past_module n (Some s) = refl
 
-past_dark : (n : ℕ) (o : Option Spot) → looks.moved (looked n o) ≡ looked (suc n) (one_more o)
+pub past_dark : (n : ℕ) (o : Option Spot) → looks.moved (looked n o) ≡ looked (suc n) (one_more o)
 past_dark n None = refl
 past_dark n (Some s) =
     let e : n - s.darks ≡ suc n - suc s.darks = omega arith in

@@ -7,3 +7,4 @@ pub mod Node
 pub mod Index
 pub mod Falls
 pub mod Respell
+pub mod Members

@@ -320,7 +320,7 @@ fn is_at(position: Option<usize>, at: usize) -> bool
     }
 }
 
-fn is_spot(spot: Option<Spot>, at: usize) -> bool
+pub(crate) fn is_spot(spot: Option<Spot>, at: usize) -> bool
     ensures { result ≡ position_is at (position_of spot) }
 {
     match spot {

@@ -4,6 +4,7 @@
 mod error;
 mod index;
 mod kinds;
+mod members;
 mod scope;
 mod shape;
 mod shared;

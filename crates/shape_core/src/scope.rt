@@ -4,19 +4,24 @@ ghost use Rattle.std.specs.Prelude.{◌≡◌, ◌≤◌, [], ◌∷◌, ◌++�
 ghost use Rattle.shape_core.specs.Looks as looks;
 ghost use Rattle.shape_core.specs.Shape as pure;
 ghost use Rattle.shape_core.specs.Node.{entries_of};
+ghost use Rattle.shape_core.specs.Members.{IsSetOf};
+ghost use Rattle.rotor_base.specs.declared.looks.Watch.{Watch};
 
 use crate::index::{Index, LookSpot};
+use crate::members::Members;
 use crate::shared::{Shared, SharedEntry};
 use rotor_base::{Goal, Memory, Place};
 use std::alloc::Global;
+use std::collections::BTreeSet;
 use std::marker::Model;
 
-/// A scope, with its entries indexed by name. Contracts see it as the list of its entries. A look-up does not
-/// walk the list, also behind many pushes and cuts.
+/// A scope, with its entries indexed by name, and with the members of a footprint that were asked for. Contracts see it
+/// as the list of its entries. A look-up does not walk the list, also behind many pushes and cuts.
 pub struct Scope {
     alloc: Global,
     entries: Vec<SharedEntry>,
     index: Index,
+    members: Members,
 }
 
 impl Drop for Scope {
@@ -25,6 +30,7 @@ impl Drop for Scope {
             alloc: _,
             entries: _,
             index: _,
+            members: _,
         } = self;
     }
 }
@@ -40,10 +46,11 @@ impl Model for Scope {
     ghost coded = { coded_list the_row.coded };
 
     ghost use Rattle.shape_core.specs.Index.{IsIndexOf};
+    ghost use Rattle.shape_core.specs.Members.{HasMembers};
 
     ghost view = { λ s. s.entries.items };
 
-    ghost invariant = { λ s. IsIndexOf s.index s.entries.items };
+    ghost invariant = { λ s. IsIndexOf s.index s.entries.items × HasMembers s.members s.entries.items };
 }
 
 impl Scope {
@@ -55,6 +62,7 @@ impl Scope {
             alloc,
             entries: Vec::new(alloc),
             index: Index::new(alloc),
+            members: Members::new(alloc),
         })
     }
 
@@ -95,8 +103,30 @@ impl Scope {
         while self.entries.len() > len {
             if let Some(entry) = self.entries.pop() {
                 self.index.take_out(&entry);
+                self.members.take_out(&entry, self.entries.len());
             }
         }
+    }
+
+    /// The last value whose goal is among some declarations, of which the caller has the set. It looks at each entry once
+    /// after it was pushed, if the declarations are those of the call before.
+    ///
+    /// # Errors
+    ///
+    /// `Memory` alone.
+    pub fn last_member(
+        &mut self,
+        decls: &[Place],
+        set: &BTreeSet<Place>,
+    ) -> Result<Option<LookSpot>, Memory>
+        requires { IsSetOf decls.now set.now }
+        ensures found { IfOk result (λ spot. (w : Watch) → w.foot.decls ≡ decls.now → spot ≡ looks.last_where (looks.in_foot w) (entries_of self.old)) }
+        ensures kept { self.new ≡ self.old }
+    {
+        self.members.turn_to(self.alloc, decls)?;
+        self.members.note_all(&self.entries, set)?;
+        let (darks, _) = self.index.darks();
+        Ok(self.members.last(darks))
     }
 }
 

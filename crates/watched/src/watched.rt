@@ -1,9 +1,11 @@
 // A watched renaming.
 ghost use Rattle.std.specs.Prelude.{◌≡◌, IfOk};
 ghost use Rattle.shape_core.specs.Looks as pure;
+ghost use Rattle.shape_core.specs.Node.{entries_of};
 
 use crate::places::set_of;
 use rotor_base::{Foot, Goal, Memory, Name, Place, Row, Watch};
+use shape_core::{LookSpot, Scope};
 use std::alloc::Global;
 use std::collections::BTreeSet;
 use std::marker::Model;
@@ -55,6 +57,18 @@ impl Watched {
             Goal::Decl(place) => self.members.contains(&place),
             _ => false,
         }
+    }
+
+    /// The last value of a scope that is a member of the footprint. The scope keeps what was found for the next call.
+    ///
+    /// # Errors
+    ///
+    /// `Memory` alone.
+    pub fn last_member(&self, scope: &mut Scope) -> Result<Option<LookSpot>, Memory>
+        ensures found { IfOk result (λ spot. spot ≡ pure.last_where (pure.in_foot self.now) (entries_of scope.old)) }
+        ensures kept { scope.new ≡ scope.old }
+    {
+        scope.last_member(self.watch.foot.decls.as_slice(), &self.members)
     }
 }
 

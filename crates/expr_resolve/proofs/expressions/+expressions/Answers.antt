@@ -122,7 +122,9 @@ operands-returns-in_err-expression-clause-heavy t c =
     (links_steps c.args.file (entries_of c.args.scope.now) (ops c.args.list.now)) c.from_residual-in_err-expression.ensures.0
     c.from_residual-in_err-expression.ensures.1
     (λ at h. sym c.loop-part.invariant.0 ∙ ap (λ l. taken (Going c.loop-part.found) (links_steps c.args.file sc (ops l))) d
-    ∙ ap (λ s. taken (taken s (expr_steps c.args.file sc (view c.part-item.result.1))) more) c.in_ok-use_operator.ensures
+    ∙ ap (λ s. taken (taken s (expr_steps c.args.file sc (view c.part-item.result.1))) more) c.in_ok-use_operator.ensures.done
+    ∙ ap (λ z. taken (taken (Going c.use_operator.new.found) (expr_steps c.args.file (entries_of z) (view c.part-item.result.1))) more)
+    (sym c.in_ok-use_operator.ensures.scope)
     ∙ ap (λ s. taken s more) (c.in_err-expression.ensures.heavy at h) ∙ heavy_stays more at)
 
 pub expression-returns-in_ok-case-in-Match-clause-taken : goal.expression-returns-in_ok-case-in-Match-clause-taken
