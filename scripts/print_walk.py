@@ -1,5 +1,5 @@
 #!/usr/bin/env python3
-"""Prints the proofs that go over the trees form by form, from the clauses of crates/tree_walk/specs/Events.antt.
+"""Prints the proofs that go over the trees form by form, from the clauses of crates/ml_trees/specs/Events.antt.
 
 It writes crates/tree_walk/specs/Told.antt, crates/tree_walk/proofs/Tells.antt, crates/ml_syntax/proofs/Placed.antt,
 crates/unit_order/proofs/Needing.antt and crates/group_walk/proofs/Grouped.antt. Run it after a change of Events.antt, and then `rt fmt` in these crates.
@@ -8,7 +8,7 @@ import os
 import re
 
 TOP = os.path.dirname(os.path.dirname(os.path.abspath(__file__)))
-EVENTS = f"{TOP}/crates/tree_walk/specs/Events.antt"
+EVENTS = f"{TOP}/crates/ml_trees/specs/Events.antt"
 TREE = f"{TOP}/crates/ml_trees/specs/Tree.antt"
 # phrases of words alone: they leave a state as it is (proofs/Silent.antt)
 SILENT = "type optional bang open lowers module_name constraint constraints withs texts".split()
@@ -59,6 +59,16 @@ def steps(body):
     return [("call", body[0], [show(y) for y in body[1:-1]])] + steps(last)
 
 
+# The event that binds a module is printed as a phrase of its own, by the cases of the module's name: without a name it
+# leaves a state as it is (crates/tree_walk/specs/Behind.antt).
+BRINGS = [("brings_out", "(UpperName x)", [("ev", "brings (UpperName x)")]), ("brings_out", "(AnyName at)", [])]
+
+
+def with_brings(parts):
+    """The steps of a clause, with a call for each event that binds a module by a name that is a variable."""
+    return [("call", "brings_out", [x[1].split()[1]]) if re.match(r"brings \w+$", x[1]) else x for x in parts]
+
+
 def read_events():
     """The clauses (function, patterns, steps), the types of each function's arguments, and the blocks of functions."""
     text = open(EVENTS).read()
@@ -69,7 +79,7 @@ def read_events():
             joined[-1] += " " + line.strip()
         else:
             joined.append(line)
-    clauses, types, blocks = [], {}, []
+    clauses, types, blocks = list(BRINGS), {"brings_out": ["ModuleName"]}, []
     for line in joined:
         if re.match(r"  abbrev mutual", line):
             blocks.append([])
@@ -80,10 +90,12 @@ def read_events():
             if len(m[1]) == 2:
                 blocks.append([])
             blocks[-1].append(m[2])
+            if m[2] == "bang_out":
+                blocks.append(["brings_out"])
             continue
         m = re.match(r"\s*(\w+_out) (.*?) k = (.*)$", line)
         if m:
-            clauses.append((m[1], m[2], steps(atoms(m[3]))))
+            clauses.append((m[1], m[2], with_brings(steps(atoms(m[3])))))
     uses = [line for line in text.split("module _ {A", 1)[0].split("\n") if line.startswith("use ")]
     return clauses, types, [b for b in blocks if b], uses
 
@@ -102,6 +114,11 @@ def kind(function):
 
 def told(function):
     return kind(function) + "_told"
+
+
+def out_of(function, args):
+    """The tree written out by what its events make of a state."""
+    return f"behind step (brings {args})" if function == "brings_out" else f"{function} (behind step) {args}"
 
 
 KINDS = [f for b in BLOCKS for f in b if kind(f) not in SILENT + INLINE]
@@ -200,7 +217,7 @@ def uses_of(body):
         m = re.match(r"use (\S+) as (\w+)$", line)
         if m and re.search(rf"\b{m[2]}\.", body):
             out.append(line)
-    out += use("Rattle.tree_walk.specs.Events", [x for x in EVENT_NAMES if x in words])
+    out += use("Rattle.ml_trees.specs.Events", [x for x in EVENT_NAMES if x in words])
     return out
 
 
@@ -238,9 +255,9 @@ def print_told():
     for f in KINDS:
         xs = " ".join(arguments(f)[0])
         body += f"unfoldable pub {told(f)} : {{S : Type 0}} → (S → Event → S) → S → {' → '.join(TYPES[f])} → S\n"
-        body += f"{told(f)} step s {xs} = {f} (behind step) {xs} (λ t. t) s\n\n"
+        body += f"{told(f)} step s {xs} = {out_of(f, xs)} (λ t. t) s\n\n"
     outs = [f for b in BLOCKS for f in b if f in words_of(body)]
-    uses = [std_names(body, "Rattle.std.specs.Prelude"), *uses_of(body), *use("Rattle.tree_walk.specs.Events", outs)]
+    uses = [std_names(body, "Rattle.std.specs.Prelude"), *uses_of(body), *use("Rattle.ml_trees.specs.Events", outs)]
     uses.append("use Rattle.tree_walk.specs.Behind.{behind}")
     write("crates/tree_walk/specs/Told.antt", "What the events of each kind of tree make of a state (own).", uses, body)
 
@@ -268,7 +285,7 @@ def print_tells():
             names, typed = arguments(f)
             xs, law = " ".join(names), kind(f) + "_goes_on"
             body += f"{indent}{law} : {{S : Type 0}} (step : S → Event → S) {typed} (k : S → S) (z : S)"
-            body += f" → {f} (behind step) {xs} k z ≡ k ({told(f)} step z {xs})\n"
+            body += f" → {out_of(f, xs)} k z ≡ k ({told(f)} step z {xs})\n"
             if not indent:
                 body += f"unfolding {told(f)}\n"
             for g, pattern, parts in FLAT:
@@ -294,10 +311,9 @@ def print_tells():
         body += f"pub ruleset {name} = (\n" + "".join(f"  {x},\n" for k in kinds for x in sets[k]) + ")\n\n"
     words = words_of(body)
     outs = [f for b in BLOCKS for f in b if f in words]
-    uses = [std_names(body, "Rattle.std.proofs.Common"), *uses_of(body), *use("Rattle.tree_walk.specs.Events", outs)]
+    uses = [std_names(body, "Rattle.std.proofs.Common"), *uses_of(body), *use("Rattle.ml_trees.specs.Events", outs)]
     uses += use("Rattle.tree_walk.specs.Told", map(told, KINDS))
     uses.append("use Rattle.rotor_base.specs.declared.token.Class.{Class}")
-    uses.append("use Rattle.ml_trees.specs.declared.word.Bracket.{Bracket}")
     uses.append("use Rattle.tree_walk.specs.Behind.{behind}")
     uses += use("Rattle.tree_walk.proofs.Silent", [f"{x}_silent" for x in SILENT if f"{x}_silent" in words])
     head = "What each form makes of a state: what its parts make of it, one behind another. Printed by scripts/print_walk.py."
@@ -350,7 +366,8 @@ def needs(parts):
                 around.append(bound)
                 outer, front = [f"(length {bound} ∷ {outer[0]})", *outer], None
             elif head == "brings":
-                front, bound = f"behind_name {bound} {given[0]}.text", f"({bound} ++ {given[0]}.text ∷ [])"
+                name = event[1][1]
+                front, bound = f"behind_name {bound} {name}.text", f"({bound} ++ {name}.text ∷ [])"
             elif head == "scope_ends":
                 before, outer = around.pop(), outer[1:]
                 out.append(f"ap (λ w. {bare(told_of(rest, f'(needed w {outer[0]} {found})', 'hears'))}) ({front or f'all {before}'})")

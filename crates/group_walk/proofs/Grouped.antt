@@ -27,7 +27,7 @@ use Rattle.ml_trees.specs.Tree.{IncludeItem}
 use Rattle.ml_trees.specs.Tree.{Items, no_item, more_item, SigItem, SeparatorSig, ValSig, ExternalSig, TypeSig, ExceptionSig, ModuleSig}
 use Rattle.ml_trees.specs.Tree.{AliasSig}
 use Rattle.ml_trees.specs.Tree.{ModuleTypeSig, OpenSig, IncludeSig, SigItems, no_sig_item, more_sig_item, FileTree, Body, Face}
-use Rattle.tree_walk.specs.Events.{group_ends, part_begins, part_ends, alternatives_end, scope_begins, scope_ends, brings}
+use Rattle.ml_trees.specs.Events.{group_ends, part_begins, part_ends, alternatives_end, scope_begins, scope_ends, brings}
 use Rattle.rotor_base.specs.declared.place.Place.{Place}
 use Rattle.ml_syntax.specs.Places.{Site, punned, name_sites}
 use Rattle.shape_core.specs.Shape.{Entries}
@@ -326,7 +326,7 @@ mutual
   expr_grouped (LetOpen at at' bang path e) file found around = told_LetOpen hears (grouping file found around) at at' bang path e
       ∙ expr_grouped e file found around
   expr_grouped (LetModule at at' x eq m e) file found around = told_LetModule hears (grouping file found around) at at' x eq m e
-      ∙ ap (λ w. hears (expr_told hears (hears (hears w scope_begins) (brings x)) e) scope_ends) (local_grouped m file found around)
+      ∙ ap (λ w. hears (expr_told hears (hears (hears w scope_begins) (brings (UpperName x))) e) scope_ends) (local_grouped m file found around)
       ∙ ap (λ w. hears w scope_ends) (expr_grouped e file found around)
   expr_grouped (Fun at ps e) file found around = told_Fun hears (grouping file found around) at ps e
       ∙ ap (λ w. expr_told hears w e) (params_grouped ps file found around)

@@ -8,7 +8,7 @@ use Rattle.binding_model.specs.Facts.{decls}
 use Rattle.binding_model.specs.Scopes.{bound}
 use Rattle.group_walk.specs.declared.groups.Begun.{Begun}
 use Rattle.group_walk.specs.declared.groups.Groups.{Groups}
-use Rattle.tree_walk.specs.Events.{Event, value, field, label, bindings_begin, group_begins, group_ends, part_begins, part_ends, alternatives_end}
+use Rattle.ml_trees.specs.Events.{Event, value, field, label, bindings_begin, group_begins, group_ends, part_begins, part_ends, alternatives_end}
 
 -- a group that has begun
 abbrev pub begun : List Place → List (List Place) → Option ℕ → Begun

@@ -7,7 +7,7 @@ ghost use Rattle.binding_model.specs.Facts.{decls};
 ghost use Rattle.binding_model.specs.Scopes.{here};
 ghost use Rattle.binding_model.specs.Walk.{file_number};
 ghost use Rattle.group_walk.specs.Groups.{file_groups, maybe_groups, units_groups};
-ghost use Rattle.tree_walk.specs.Events.{bindings_begin, part_begins, part_ends};
+ghost use Rattle.ml_trees.specs.Events.{bindings_begin, part_begins, part_ends};
 ghost use Rattle.group_walk.specs.Grouping.{begun, grouping, joined, listed, behind_group, behind_part, behind_parts, declares, grouping_of, hears, is_bar};
 
 use ml_syntax::operator_of;

@@ -29,8 +29,8 @@ use Rattle.ml_trees.specs.Tree.{IncludeItem}
 use Rattle.ml_trees.specs.Tree.{Items, no_item, more_item, SigItem, SeparatorSig, ValSig, ExternalSig, TypeSig, ExceptionSig, ModuleSig}
 use Rattle.ml_trees.specs.Tree.{AliasSig}
 use Rattle.ml_trees.specs.Tree.{ModuleTypeSig, OpenSig, IncludeSig, SigItems, no_sig_item, more_sig_item, FileTree, Body, Face}
-use Rattle.tree_walk.specs.Events.{value, field, operator, minus, module_path, last_path, qualifier, group_begins, group_ends, bindings_begin}
-use Rattle.tree_walk.specs.Events.{part_begins, part_ends, alternatives_end, scope_begins, scope_ends, brings}
+use Rattle.ml_trees.specs.Events.{value, field, operator, minus, module_path, last_path, qualifier, group_begins, group_ends, bindings_begin}
+use Rattle.ml_trees.specs.Events.{part_begins, part_ends, alternatives_end, scope_begins, scope_ends, brings}
 use Rattle.tree_walk.specs.Told.{names_told, brings_told, pat_told, pats_told, pat_field_told, pat_fields_told, variable_told, local_told}
 use Rattle.tree_walk.specs.Told.{locals_told, expr_told, links_told, base_told, guard_told, tail_told, binding_told, bindings_told, case_told}
 use Rattle.tree_walk.specs.Told.{cases_told, argument_told, arguments_told, param_told, params_told, part_told, parts_told, field_told}
@@ -169,8 +169,9 @@ mutual
   expr_placed (LetOpen at at' bang path e) found = told_LetOpen adds_site found at at' bang path e
       ∙ expr_placed e (adds_site found (module_path path))
   expr_placed (LetModule at at' x eq m e) found = told_LetModule adds_site found at at' x eq m e
-      ∙ ap (λ w. adds_site (expr_told adds_site (adds_site (adds_site w scope_begins) (brings x)) e) scope_ends) (local_placed m found)
-      ∙ ap (λ w. adds_site w scope_ends) (expr_placed e (adds_site (adds_site found scope_begins) (brings x)))
+      ∙ ap (λ w. adds_site (expr_told adds_site (adds_site (adds_site w scope_begins) (brings (UpperName x))) e) scope_ends) (local_placed m
+      found)
+      ∙ ap (λ w. adds_site w scope_ends) (expr_placed e (adds_site (adds_site found scope_begins) (brings (UpperName x))))
   expr_placed (Fun at ps e) found = told_Fun adds_site found at ps e
       ∙ ap (λ w. expr_told adds_site w e) (params_placed ps found)
       ∙ expr_placed e (params_sites found ps)

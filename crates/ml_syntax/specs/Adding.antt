@@ -1,7 +1,7 @@
 -- The places of a tree, event by event (own).
 use Rattle.std.specs.Prelude.{List, [], ◌∷◌, ◌++◌, false}
 use Rattle.ml_syntax.specs.Places.{Site, punned, operated, operator_sites, name_sites, label_site}
-use Rattle.tree_walk.specs.Events.{Event, value, field, label, operator, minus}
+use Rattle.ml_trees.specs.Events.{Event, value, field, label, operator, minus}
 
 -- the places that were found, and the one that an event adds
 abbrev pub adds_site : List Site → Event → List Site

@@ -1,5 +1,6 @@
 pub mod Tok
 pub mod Tree
+pub mod Events
 pub mod Words
 pub mod Runs
 pub mod WellFormed

@@ -3,8 +3,6 @@ use Rattle.std.specs.Prelude.{ℕ, List, [], ◌∷◌, ◌++◌, Bool, true, fa
 use Rattle.rotor_base.specs.declared.token.Class.TheVariants as class
 use Rattle.ml_trees.specs.declared.fixed.Fixed.{Fixed}
 use Rattle.ml_trees.specs.declared.fixed.Fixed.TheVariants as key
-use Rattle.ml_trees.specs.declared.word.Bracket.{Bracket}
-use Rattle.ml_trees.specs.declared.word.Bracket.TheVariants as bracket
 use Rattle.ml_trees.specs.Tok.{Name, Tok, fixed, placed, word}
 use Rattle.ml_trees.specs.Tree.{ValueName, PlainName, OperatorName, Pat, AsPat, OrPat, TuplePat, ConsPat, ConstrApplyPat, TagApplyPat, LazyPat}
 use Rattle.ml_trees.specs.Tree.{ExceptionPat, AnyPat, ValuePat, LiteralPat, NegativePat, RangePat, ConstrPat, TagPat, BoolPat, UnitPat, ParenPat}
@@ -25,6 +23,7 @@ use Rattle.ml_trees.specs.Tree.{TypeOf, TypeParen, With, FunctorType, ParamArrow
 use Rattle.ml_trees.specs.Tree.{SeparatorItem, ValueItem, ExternalItem, TypeItem, ExceptionItem, ModuleItem, ModuleTypeItem, OpenItem, IncludeItem}
 use Rattle.ml_trees.specs.Tree.{Items, no_item, more_item, SigItem, SeparatorSig, ValSig, ExternalSig, TypeSig, ExceptionSig, ModuleSig, AliasSig}
 use Rattle.ml_trees.specs.Tree.{ModuleTypeSig, OpenSig, IncludeSig, SigItems, no_sig_item, more_sig_item, FileTree, Body, Face}
+pub use Rattle.ml_trees.specs.Events.{truth, opening, closing, wrap, direction}
 
 -- ---- small parts
 
@@ -65,18 +64,6 @@ optional_then x false k = k
 abbrev pub bang_then : Option Name → List Tok → List Tok
 bang_then None k = k
 bang_then (Some x) k = word class.Prefix x ∷ k
-
-abbrev pub truth : Bool → Fixed
-truth true = key.True
-truth false = key.False
-
-abbrev pub opening : Bracket → Fixed
-opening bracket.List = key.LeftBracket
-opening bracket.Array = key.LeftArray
-
-abbrev pub closing : Bracket → Fixed
-closing bracket.List = key.RightBracket
-closing bracket.Array = key.RightArray
 
 -- ---- patterns
 
@@ -146,14 +133,6 @@ abbrev mutual
 abbrev pub lowers_then : List Name → List Tok → List Tok
 lowers_then [] k = k
 lowers_then (x ∷ xs) k = word class.Lower x ∷ lowers_then xs k
-
-abbrev pub wrap : Bool → Fixed
-wrap true = key.Question
-wrap false = key.Tilde
-
-abbrev pub direction : Bool → Fixed
-direction true = key.Downto
-direction false = key.To
 
 abbrev mutual
   pub expr_then : Expr → List Tok → List Tok

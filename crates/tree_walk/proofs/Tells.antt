@@ -3,6 +3,7 @@ use Rattle.std.proofs.Common.{◌≡◌, ◌∙◌, ◌∷◌, ℕ, List, [], Bo
 use Rattle.rotor_base.specs.declared.token.Class.TheVariants as class
 use Rattle.ml_trees.specs.declared.fixed.Fixed.{Fixed}
 use Rattle.ml_trees.specs.declared.fixed.Fixed.TheVariants as key
+use Rattle.ml_trees.specs.declared.word.Bracket.{Bracket}
 use Rattle.ml_trees.specs.Tok.{Name, Tok, word}
 use Rattle.ml_trees.specs.Tree.{ValueName, PlainName, Pat, AsPat, OrPat, TuplePat, ConsPat, ConstrApplyPat, TagApplyPat, LazyPat}
 use Rattle.ml_trees.specs.Tree.{ExceptionPat, AnyPat, ValuePat, LiteralPat, NegativePat, RangePat, ConstrPat, TagPat, BoolPat, UnitPat, ParenPat}
@@ -29,20 +30,19 @@ use Rattle.ml_trees.specs.Tree.{IncludeItem}
 use Rattle.ml_trees.specs.Tree.{Items, no_item, more_item, SigItem, SeparatorSig, ValSig, ExternalSig, TypeSig, ExceptionSig, ModuleSig}
 use Rattle.ml_trees.specs.Tree.{AliasSig}
 use Rattle.ml_trees.specs.Tree.{ModuleTypeSig, OpenSig, IncludeSig, SigItems, no_sig_item, more_sig_item, FileTree, Body, Face}
-use Rattle.tree_walk.specs.Events.{Event, value, field, label, operator, minus, module_path, last_path, qualifier, group_begins, group_ends}
-use Rattle.tree_walk.specs.Events.{bindings_begin, part_begins, part_ends, alternatives_end, scope_begins, scope_ends, brings}
-use Rattle.tree_walk.specs.Events.{names_out, brings_out, pat_out, pats_out, pat_field_out, pat_fields_out, variable_out, local_out, locals_out}
-use Rattle.tree_walk.specs.Events.{expr_out, links_out, base_out, guard_out, tail_out, binding_out, bindings_out, case_out, cases_out}
-use Rattle.tree_walk.specs.Events.{argument_out, arguments_out, param_out, params_out, part_out, parts_out, field_out, fields_out, mod_out}
-use Rattle.tree_walk.specs.Events.{mod_argument_out, mod_arguments_out, functor_param_out, functor_params_out, mod_type_out, signature_out}
-use Rattle.tree_walk.specs.Events.{item_out, items_out, sig_item_out, sig_items_out, file_out}
+use Rattle.ml_trees.specs.Events.{Event, value, field, label, operator, minus, module_path, last_path, qualifier, group_begins, group_ends}
+use Rattle.ml_trees.specs.Events.{bindings_begin, part_begins, part_ends, alternatives_end, scope_begins, scope_ends, brings}
+use Rattle.ml_trees.specs.Events.{names_out, pat_out, pats_out, pat_field_out, pat_fields_out, variable_out, local_out, locals_out, expr_out}
+use Rattle.ml_trees.specs.Events.{links_out, base_out, guard_out, tail_out, binding_out, bindings_out, case_out, cases_out, argument_out}
+use Rattle.ml_trees.specs.Events.{arguments_out, param_out, params_out, part_out, parts_out, field_out, fields_out, mod_out, mod_argument_out}
+use Rattle.ml_trees.specs.Events.{mod_arguments_out, functor_param_out, functor_params_out, mod_type_out, signature_out, item_out, items_out}
+use Rattle.ml_trees.specs.Events.{sig_item_out, sig_items_out, file_out}
 use Rattle.tree_walk.specs.Told.{names_told, brings_told, pat_told, pats_told, pat_field_told, pat_fields_told, variable_told, local_told}
 use Rattle.tree_walk.specs.Told.{locals_told, expr_told, links_told, base_told, guard_told, tail_told, binding_told, bindings_told, case_told}
 use Rattle.tree_walk.specs.Told.{cases_told, argument_told, arguments_told, param_told, params_told, part_told, parts_told, field_told}
 use Rattle.tree_walk.specs.Told.{fields_told, mod_told, mod_argument_told, mod_arguments_told, functor_param_told, functor_params_told}
 use Rattle.tree_walk.specs.Told.{mod_type_told, signature_told, item_told, items_told, sig_item_told, sig_items_told, file_told}
 use Rattle.rotor_base.specs.declared.token.Class.{Class}
-use Rattle.ml_trees.specs.declared.word.Bracket.{Bracket}
 use Rattle.tree_walk.specs.Behind.{behind}
 use Rattle.tree_walk.proofs.Silent.{type_silent, optional_silent, bang_silent, open_silent, lowers_silent, module_name_silent, withs_silent}
 use Rattle.tree_walk.proofs.Silent.{texts_silent}
@@ -53,8 +53,8 @@ unfolding names_told
 names_goes_on step [] k z = refl
 names_goes_on step (x ∷ xs) k z = names_goes_on step xs _ _ ∙ ap k (sym (names_goes_on step xs _ _))
 
-brings_goes_on : {S : Type 0} (step : S → Event → S) (x0 : ModuleName) (k : S → S) (z : S) → brings_out (behind step) x0 k z ≡ k (brings_told
-    step z x0)
+brings_goes_on : {S : Type 0} (step : S → Event → S) (x0 : ModuleName) (k : S → S) (z : S) → behind step (brings x0) k z ≡ k (brings_told step z
+    x0)
 unfolding brings_told
 brings_goes_on step (UpperName x) k z = refl
 brings_goes_on step (AnyName at) k z = refl
@@ -401,6 +401,14 @@ unfolding file_told
 file_goes_on step (Body file is) k z = items_goes_on step is _ _ ∙ ap k (sym (items_goes_on step is _ _))
 file_goes_on step (Face file is) k z = sig_items_goes_on step is _ _ ∙ ap k (sym (sig_items_goes_on step is _ _))
 
+pub told_UpperName : {S : Type 0} (step : S → Event → S) (z : S) (x : Name) → brings_told step z (UpperName x) ≡ step z (brings (UpperName x))
+unfolding brings_told
+told_UpperName step z x = refl
+
+pub told_AnyName : {S : Type 0} (step : S → Event → S) (z : S) (at : ℕ) → brings_told step z (AnyName at) ≡ z
+unfolding brings_told
+told_AnyName step z at = refl
+
 pub told_names_end : {S : Type 0} (step : S → Event → S) (z : S) → names_told step z [] ≡ z
 unfolding names_told
 told_names_end step z = refl
@@ -409,14 +417,6 @@ pub told_names_more : {S : Type 0} (step : S → Event → S) (z : S) (x : Value
     names_told step (step z (value true x)) xs
 unfolding names_told
 told_names_more step z x xs = names_goes_on step xs _ _
-
-pub told_UpperName : {S : Type 0} (step : S → Event → S) (z : S) (x : Name) → brings_told step z (UpperName x) ≡ step z (brings x)
-unfolding brings_told
-told_UpperName step z x = refl
-
-pub told_AnyName : {S : Type 0} (step : S → Event → S) (z : S) (at : ℕ) → brings_told step z (AnyName at) ≡ z
-unfolding brings_told
-told_AnyName step z at = refl
 
 pub told_AsPat : {S : Type 0} (step : S → Event → S) (z : S) (p : Pat) (xs : List ValueName) → pat_told step z (AsPat p xs) ≡ names_told step
     (pat_told step z p) xs
@@ -594,7 +594,8 @@ unfolding expr_told
 told_LetOpen step z at at' bang path e = bang_silent step bang _ _ ∙ expr_goes_on step e _ _
 
 pub told_LetModule : {S : Type 0} (step : S → Event → S) (z : S) (at : ℕ) (at' : ℕ) (x : Name) (eq : ℕ) (m : LocalModule) (e : Expr) → expr_told
-    step z (LetModule at at' x eq m e) ≡ step (expr_told step (step (step (local_told step z m) scope_begins) (brings x)) e) scope_ends
+    step z (LetModule at at' x eq m e) ≡ step (expr_told step (step (step (local_told step z m) scope_begins) (brings (UpperName x))) e)
+    scope_ends
 unfolding expr_told
 told_LetModule step z at at' x eq m e = local_goes_on step m _ _ ∙ expr_goes_on step e _ _
 
@@ -1124,7 +1125,7 @@ told_ModuleSig step z at x ps s = module_name_silent step x _ _ ∙ functor_para
     brings_goes_on step x _ _
 
 pub told_AliasSig : {S : Type 0} (step : S → Event → S) (z : S) (at : ℕ) (x : Name) (eq : ℕ) (path : List Name) → sig_item_told step z (AliasSig
-    at x eq path) ≡ step (step z (module_path path)) (brings x)
+    at x eq path) ≡ step (step z (module_path path)) (brings (UpperName x))
 unfolding sig_item_told
 told_AliasSig step z at x eq path = refl
 

@@ -1,11 +1,11 @@
 -- The events of the program as events of the definitions (own).
 use Rattle.rotor_base.specs.declared.token.Class.TheVariants as class
 use Rattle.ml_trees.specs.Tok.{fixed, word}
-use Rattle.ml_trees.specs.Tree.{PlainName, OperatorName}
+use Rattle.ml_trees.specs.Tree.{PlainName, OperatorName, UpperName}
 use Rattle.ml_trees.specs.View.{view_word, view_tok, view_words}
 use Rattle.tree_walk.specs.declared.event.Event.{Event}
 use Rattle.tree_walk.specs.declared.event.Event.TheVariants as e
-use Rattle.tree_walk.specs.Events as pure
+use Rattle.ml_trees.specs.Events as pure
 
 abbrev pub view_event : Event → pure.Event
 view_event (e.Plain binds w) = pure.value binds (PlainName (view_word w.now))
@@ -27,4 +27,4 @@ view_event (e.PartEnds x) = pure.part_ends x
 view_event e.AlternativesEnd = pure.alternatives_end
 view_event e.ScopeBegins = pure.scope_begins
 view_event e.ScopeEnds = pure.scope_ends
-view_event (e.Brings w) = pure.brings (view_word w.now)
+view_event (e.Brings w) = pure.brings (UpperName (view_word w.now))

@@ -1,4 +1,3 @@
-pub mod Events
 pub mod Behind
 pub mod Told
 pub mod Heard

@@ -18,19 +18,19 @@ use Rattle.ml_trees.specs.Tree.{FunctorParam, FunctorParams, ModType}
 use Rattle.ml_trees.specs.Tree.{MaybeType, Item}
 use Rattle.ml_trees.specs.Tree.{Items, SigItem}
 use Rattle.ml_trees.specs.Tree.{SigItems, FileTree}
-use Rattle.tree_walk.specs.Events.{Event}
-use Rattle.tree_walk.specs.Events.{names_out, brings_out, pat_out, pats_out, pat_field_out, pat_fields_out, variable_out, local_out, locals_out}
-use Rattle.tree_walk.specs.Events.{expr_out, links_out, base_out, guard_out, tail_out, binding_out, bindings_out, case_out, cases_out}
-use Rattle.tree_walk.specs.Events.{argument_out, arguments_out, param_out, params_out, part_out, parts_out, field_out, fields_out, mod_out}
-use Rattle.tree_walk.specs.Events.{mod_argument_out, mod_arguments_out, functor_param_out, functor_params_out, mod_type_out, signature_out}
-use Rattle.tree_walk.specs.Events.{item_out, items_out, sig_item_out, sig_items_out, file_out}
+use Rattle.ml_trees.specs.Events.{Event, brings}
+use Rattle.ml_trees.specs.Events.{names_out, pat_out, pats_out, pat_field_out, pat_fields_out, variable_out, local_out, locals_out, expr_out}
+use Rattle.ml_trees.specs.Events.{links_out, base_out, guard_out, tail_out, binding_out, bindings_out, case_out, cases_out, argument_out}
+use Rattle.ml_trees.specs.Events.{arguments_out, param_out, params_out, part_out, parts_out, field_out, fields_out, mod_out, mod_argument_out}
+use Rattle.ml_trees.specs.Events.{mod_arguments_out, functor_param_out, functor_params_out, mod_type_out, signature_out, item_out, items_out}
+use Rattle.ml_trees.specs.Events.{sig_item_out, sig_items_out, file_out}
 use Rattle.tree_walk.specs.Behind.{behind}
 
 unfoldable pub names_told : {S : Type 0} → (S → Event → S) → S → List ValueName → S
 names_told step s x0 = names_out (behind step) x0 (λ t. t) s
 
 unfoldable pub brings_told : {S : Type 0} → (S → Event → S) → S → ModuleName → S
-brings_told step s x0 = brings_out (behind step) x0 (λ t. t) s
+brings_told step s x0 = behind step (brings x0) (λ t. t) s
 
 unfoldable pub pat_told : {S : Type 0} → (S → Event → S) → S → Pat → S
 pat_told step s x0 = pat_out (behind step) x0 (λ t. t) s

@@ -1,7 +1,7 @@
 //! What a walk reports, and who hears it.
 
 ghost use Rattle.std.specs.Prelude.{◌≡◌, OnOk};
-ghost use Rattle.tree_walk.specs.Events as pure;
+ghost use Rattle.ml_trees.specs.Events as pure;
 ghost use Rattle.tree_walk.specs.Heard.{view_event};
 
 use ml_trees::{Fixed, Word};

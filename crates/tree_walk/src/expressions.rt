@@ -6,8 +6,8 @@
 ghost use Rattle.std.specs.Prelude.{◌≡◌, true, OnOk};
 ghost use Rattle.ml_trees.specs.View.{view, view_binding, view_argument, view_param, view_part, view_field, view_variable, view_pat, view_word, links, commas, ops, maybe, bindings, view_case, cases, arguments, params, parts, fields};
 ghost use Rattle.tree_walk.specs.Told.{pat_told, expr_told, links_told, base_told, guard_told, binding_told, bindings_told, case_told, cases_told, argument_told, arguments_told, param_told, params_told, part_told, parts_told, field_told, fields_told, variable_told};
-ghost use Rattle.tree_walk.specs.Events as out;
-ghost use Rattle.tree_walk.specs.Events.{bindings_begin, group_begins, group_ends};
+ghost use Rattle.ml_trees.specs.Events as out;
+ghost use Rattle.ml_trees.specs.Events.{bindings_begin, group_begins, group_ends};
 
 use crate::event::{Event, Visitor};
 use crate::locals::local;

@@ -6,7 +6,7 @@
 ghost use Rattle.std.specs.Prelude.{◌≡◌, ℕ, OnOk};
 ghost use Rattle.ml_trees.specs.Tree as pure;
 ghost use Rattle.ml_trees.specs.View.{view_mod, view_mod_argument, view_functor_param, view_mod_type, view_module_name, view_item, view_sig_item, view_file, mod_arguments, functor_params, signature, items, sig_items};
-ghost use Rattle.tree_walk.specs.Events.{scope_begins};
+ghost use Rattle.ml_trees.specs.Events.{scope_begins};
 ghost use Rattle.tree_walk.specs.Told.{brings_told, mod_told, mod_argument_told, mod_arguments_told, functor_param_told, functor_params_told, mod_type_told, signature_told, item_told, items_told, sig_item_told, sig_items_told, file_told};
 
 use crate::event::{Event, Visitor};

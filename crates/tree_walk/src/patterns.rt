@@ -7,7 +7,7 @@ ghost use Rattle.std.specs.Prelude.{◌≡◌, true, OnOk};
 ghost use Rattle.ml_trees.specs.declared.fixed.Fixed.TheVariants as key;
 ghost use Rattle.ml_trees.specs.View.{view_name, view_names, view_pat, view_pat_field, pats, pat_fields};
 ghost use Rattle.tree_walk.specs.Told.{names_told, pat_told, pats_told, pat_field_told, pat_fields_told};
-ghost use Rattle.tree_walk.specs.Events.{value};
+ghost use Rattle.ml_trees.specs.Events.{value};
 
 use crate::event::{Event, Visitor};
 use ml_trees::{Fixed, Pat, PatField, ValueName};

@@ -27,7 +27,7 @@ use Rattle.ml_trees.specs.Tree.{IncludeItem}
 use Rattle.ml_trees.specs.Tree.{Items, no_item, more_item, SigItem, SeparatorSig, ValSig, ExternalSig, TypeSig, ExceptionSig, ModuleSig}
 use Rattle.ml_trees.specs.Tree.{AliasSig}
 use Rattle.ml_trees.specs.Tree.{ModuleTypeSig, OpenSig, IncludeSig, SigItems, no_sig_item, more_sig_item, FileTree, Body, Face}
-use Rattle.tree_walk.specs.Events.{group_ends, part_ends, alternatives_end, scope_begins, scope_ends, brings}
+use Rattle.ml_trees.specs.Events.{group_ends, part_ends, alternatives_end, scope_begins, scope_ends, brings}
 use Rattle.tree_walk.specs.Told.{names_told, brings_told, pat_told, pats_told, pat_field_told, pat_fields_told, variable_told, local_told}
 use Rattle.tree_walk.specs.Told.{locals_told, expr_told, links_told, base_told, guard_told, tail_told, binding_told, bindings_told, case_told}
 use Rattle.tree_walk.specs.Told.{cases_told, argument_told, arguments_told, param_told, params_told, part_told, parts_told, field_told}
@@ -199,7 +199,7 @@ mutual
   expr_needs (LetOpen at at' bang path e) bound outer found = told_LetOpen hears (needed bound outer found) at at' bang path e
       ∙ expr_needs e bound outer (module_head bound found path)
   expr_needs (LetModule at at' x eq m e) bound outer found = told_LetModule hears (needed bound outer found) at at' x eq m e
-      ∙ ap (λ w. hears (expr_told hears (hears (hears w scope_begins) (brings x)) e) scope_ends) (local_needs m bound outer found)
+      ∙ ap (λ w. hears (expr_told hears (hears (hears w scope_begins) (brings (UpperName x))) e) scope_ends) (local_needs m bound outer found)
       ∙ ap (λ w. hears w scope_ends) (expr_needs e (bound ++ x.text ∷ []) (length bound ∷ outer) (local_heads bound found m))
       ∙ ap (λ w. needed w outer (expr_heads (bound ++ x.text ∷ []) (local_heads bound found m) e)) (behind_name bound x.text)
   expr_needs (Fun at ps e) bound outer found = told_Fun hears (needed bound outer found) at ps e

@@ -1,6 +1,7 @@
 -- What is needed by the events of a tree, one after another (own).
 use Rattle.std.specs.Prelude.{ℕ, List, [], ◌∷◌, ◌++◌, length, take}
-use Rattle.tree_walk.specs.Events.{Event, module_path, qualifier, last_path, scope_begins, scope_ends, brings}
+use Rattle.ml_trees.specs.Tree.{UpperName}
+use Rattle.ml_trees.specs.Events.{Event, module_path, qualifier, last_path, scope_begins, scope_ends, brings}
 use Rattle.unit_order.specs.Heads.{module_head, prefix_head}
 
 -- the names of modules that are bound here, how many are bound around each open scope, the innermost first, and the heads
@@ -24,5 +25,5 @@ hears s (qualifier path) = needed s.bound s.outer (module_head s.bound s.found p
 hears s (last_path path) = needed s.bound s.outer (prefix_head s.bound s.found path)
 hears s scope_begins = needed s.bound (length s.bound ∷ s.outer) s.found
 hears s scope_ends = behind_scope s.bound s.outer s.found
-hears s (brings x) = needed (s.bound ++ x.text ∷ []) s.outer s.found
+hears s (brings (UpperName x)) = needed (s.bound ++ x.text ∷ []) s.outer s.found
 hears s _ = s

@@ -9,7 +9,7 @@ use Rattle.tree_walk.proofs.Tells.{told_no_link, told_more_link, told_no_binding
 use Rattle.tree_walk.proofs.Tells.{told_no_argument, told_more_argument, told_no_param, told_more_param, told_no_part, told_more_part}
 use Rattle.tree_walk.proofs.Tells.{told_no_field, told_more_field, told_or_if, told_or_else, told_no_else, told_If, told_Let, told_Match}
 use Rattle.tree_walk.proofs.Tells.{told_Try, told_Record}
-use Rattle.tree_walk.specs.Events.{group_ends}
+use Rattle.ml_trees.specs.Events.{group_ends}
 use Rattle.ml_trees.proofs.Variants.{at_expr_let, at_expr_match, at_expr_try, at_expr_record, at_expr_if}
 use Rattle.tree_walk.proofs.Loops.{goes_further, is_whole, all_gone}
 use Rattle.tree_walk.proofs.expressions.+expression_walk.Goals as goal

@@ -2,7 +2,7 @@ use Rattle.std.proofs.Common.{◌∙◌, ap, sym}
 use Rattle.ml_trees.specs.View.{view_mod_argument, view_functor_param, view_mod, view_module_name, view_item, view_sig_item, signature}
 use Rattle.ml_trees.specs.View.{mod_arguments, functor_params, items, sig_items}
 use Rattle.ml_trees.proofs.Variants.{at_item_module}
-use Rattle.tree_walk.specs.Events.{scope_begins, scope_ends}
+use Rattle.ml_trees.specs.Events.{scope_begins, scope_ends}
 use Rattle.tree_walk.specs.Told.{brings_told, mod_told, signature_told, item_told, mod_arguments_told, functor_params_told, items_told}
 use Rattle.tree_walk.specs.Told.{sig_items_told}
 use Rattle.tree_walk.proofs.Tells.{told_no_mod_argument, told_more_mod_argument, told_no_functor_param, told_more_functor_param}

@@ -1,10 +1,12 @@
 -- The events of a tree: its words, one behind another, each with what it is, and where groups and scopes begin and end
 -- (the OCaml manual, "The OCaml language"). This is the one definition with a clause for each form; what is done with
--- the events is given: they are listed, or their words alone are, or ..
+-- the events is given: a state takes them (tree_walk), or ..
 use Rattle.std.specs.Prelude.{ℕ, List, [], ◌∷◌, Bool, true, false, Option, Some, None}
 use Rattle.rotor_base.specs.declared.token.Class.TheVariants as class
 use Rattle.ml_trees.specs.declared.fixed.Fixed.{Fixed}
 use Rattle.ml_trees.specs.declared.fixed.Fixed.TheVariants as key
+use Rattle.ml_trees.specs.declared.word.Bracket.{Bracket}
+use Rattle.ml_trees.specs.declared.word.Bracket.TheVariants as bracket
 use Rattle.ml_trees.specs.Tok.{Name, Tok, fixed, placed, word}
 use Rattle.ml_trees.specs.Tree.{ValueName, PlainName, Pat, AsPat, OrPat, TuplePat, ConsPat, ConstrApplyPat, TagApplyPat, LazyPat}
 use Rattle.ml_trees.specs.Tree.{ExceptionPat, AnyPat, ValuePat, LiteralPat, NegativePat, RangePat, ConstrPat, TagPat, BoolPat, UnitPat, ParenPat}
@@ -27,7 +29,30 @@ use Rattle.ml_trees.specs.Tree.{TypeOf, TypeParen, With, FunctorType, ParamArrow
 use Rattle.ml_trees.specs.Tree.{SeparatorItem, ValueItem, ExternalItem, TypeItem, ExceptionItem, ModuleItem, ModuleTypeItem, OpenItem, IncludeItem}
 use Rattle.ml_trees.specs.Tree.{Items, no_item, more_item, SigItem, SeparatorSig, ValSig, ExternalSig, TypeSig, ExceptionSig, ModuleSig, AliasSig}
 use Rattle.ml_trees.specs.Tree.{ModuleTypeSig, OpenSig, IncludeSig, SigItems, no_sig_item, more_sig_item, FileTree, Body, Face}
-use Rattle.ml_trees.specs.Words.{truth, opening, closing, wrap, direction}
+
+-- ---- fixed words by a part of a tree
+
+abbrev pub truth : Bool → Fixed
+truth true = key.True
+truth false = key.False
+
+abbrev pub opening : Bracket → Fixed
+opening bracket.List = key.LeftBracket
+opening bracket.Array = key.LeftArray
+
+abbrev pub closing : Bracket → Fixed
+closing bracket.List = key.RightBracket
+closing bracket.Array = key.RightArray
+
+abbrev pub wrap : Bool → Fixed
+wrap true = key.Question
+wrap false = key.Tilde
+
+abbrev pub direction : Bool → Fixed
+direction true = key.Downto
+direction false = key.To
+
+-- ---- events
 
 pub data Event : Type 0 where
   -- a word that is only a word
@@ -59,8 +84,8 @@ pub data Event : Type 0 where
   -- a scope of modules, and its end: its modules are no longer bound
   scope_begins : Event
   scope_ends : Event
-  -- from here on a module of this name is bound
-  brings : Name → Event
+  -- from here on a module of this name is bound, if it has one
+  brings : ModuleName → Event
 
 module _ {A : Type 0} (◌▹◌ : Event → A → A) where
   infixr 35 ◌▹◌
@@ -87,11 +112,6 @@ module _ {A : Type 0} (◌▹◌ : Event → A → A) where
   abbrev pub bang_out : Option Name → A → A
   bang_out None k = k
   bang_out (Some x) k = word class.Prefix x ▸ k
-
-  -- from here on a module is bound, unless it has no name
-  abbrev pub brings_out : ModuleName → A → A
-  brings_out (UpperName x) k = brings x ▹ k
-  brings_out (AnyName at) k = k
 
   -- ---- patterns
 
@@ -172,7 +192,7 @@ module _ {A : Type 0} (◌▹◌ : Event → A → A) where
         e k)
     expr_out (LetModule at at' x eq m e) k =
         placed key.Let at ▸ placed key.Module at' ▸ word class.Upper x ▸ placed key.Equals eq ▸ local_out m (fixed key.In ▸ scope_begins ▹
-        brings x ▹ expr_out e (scope_ends ▹ k))
+        brings (UpperName x) ▹ expr_out e (scope_ends ▹ k))
     expr_out (Fun at ps e) k = placed key.Fun at ▸ params_out ps (fixed key.Arrow ▸ expr_out e k)
     expr_out (Function at bar c cs) k = placed key.Function at ▸ optional_out key.Bar bar (case_out c (cases_out cs k))
     expr_out (Match at e bar c cs) k = placed key.Match at ▸ expr_out e (fixed key.With ▸ optional_out key.Bar bar (case_out c (cases_out cs k)))
@@ -333,7 +353,7 @@ module _ {A : Type 0} (◌▹◌ : Event → A → A) where
 
     pub functor_param_out : FunctorParam → A → A
     functor_param_out (NamedParam at x s) k =
-        placed key.LeftParen at ▸ module_name_out x (fixed key.Colon ▸ mod_type_out s (brings_out x (fixed key.RightParen ▸ k)))
+        placed key.LeftParen at ▸ module_name_out x (fixed key.Colon ▸ mod_type_out s (brings x ▹ fixed key.RightParen ▸ k))
     functor_param_out (NoParam at) k = placed key.LeftParen at ▸ fixed key.RightParen ▸ k
 
     pub functor_params_out : FunctorParams → A → A
@@ -365,7 +385,7 @@ module _ {A : Type 0} (◌▹◌ : Event → A → A) where
     item_out (ExceptionItem at run) k = placed key.Exception at ▸ run_of run ▹ k
     item_out (ModuleItem at x ps s eq m) k =
         placed key.Module at ▸ module_name_out x (scope_begins ▹ functor_params_out ps (signature_out s (placed key.Equals eq ▸
-        mod_out m (scope_ends ▹ brings_out x k))))
+        mod_out m (scope_ends ▹ brings x ▹ k))))
     item_out (ModuleTypeItem at x eq s) k = placed key.Module at ▸ fixed key.Type ▸ word class.Upper x ▸ placed key.Equals eq ▸ mod_type_out s k
     item_out (OpenItem at bang path) k = open_item_out at bang path k
     item_out (IncludeItem at m) k = placed key.Include at ▸ mod_out m k
@@ -382,9 +402,9 @@ module _ {A : Type 0} (◌▹◌ : Event → A → A) where
     sig_item_out (ExceptionSig at run) k = placed key.Exception at ▸ run_of run ▹ k
     sig_item_out (ModuleSig at x ps s) k =
         placed key.Module at ▸ module_name_out x (scope_begins ▹ functor_params_out ps (fixed key.Colon ▸ mod_type_out s (scope_ends ▹
-        brings_out x k)))
+        brings x ▹ k)))
     sig_item_out (AliasSig at x eq path) k =
-        placed key.Module at ▸ word class.Upper x ▸ placed key.Equals eq ▸ module_path path ▹ brings x ▹ k
+        placed key.Module at ▸ word class.Upper x ▸ placed key.Equals eq ▸ module_path path ▹ brings (UpperName x) ▹ k
     sig_item_out (ModuleTypeSig at x eq s) k = placed key.Module at ▸ fixed key.Type ▸ word class.Upper x ▸ placed key.Equals eq ▸ mod_type_out s k
     sig_item_out (OpenSig at bang path) k = open_item_out at bang path k
     sig_item_out (IncludeSig at s) k = placed key.Include at ▸ mod_type_out s k
@@ -396,12 +416,3 @@ module _ {A : Type 0} (◌▹◌ : Event → A → A) where
   abbrev pub file_out : FileTree → A → A
   file_out (Body file is) k = items_out is k
   file_out (Face file is) k = sig_items_out is k
-
--- the events of a file
-abbrev pub events : FileTree → List Event
-events t = file_out ◌∷◌ t []
-
--- a list of events, taken from its end
-abbrev pub done : {A : Type 0} → (Event → A → A) → A → List Event → A
-done f a [] = a
-done f a (e ∷ es) = f e (done f a es)
