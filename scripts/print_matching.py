@@ -1,16 +1,18 @@
 #!/usr/bin/env python3
 """Prints crates/matched_lets/proofs/Leaves.antt: the words of a tree take no `in` from behind it.
 
-A lemma for each function of Words that writes out a part of patterns or expressions, and a clause for each clause of
-that function: the `in` that are open behind the part are open before it too. What a part has to be, it has by the clause
-of its form in WellFormed.
+A lemma for each part of patterns or expressions, and a clause for each clause of Events that lists its events: the `in`
+that are open behind the part are open before its words too. What a part has to be, it has by the clause of its form in
+WellFormed.
 
     scripts/print_matching.py > crates/matched_lets/proofs/Leaves.antt
 """
 import re
 from pathlib import Path
 
-SYNTAX = Path(__file__).resolve().parent.parent / "crates" / "ml_trees" / "specs"
+TREES = Path(__file__).resolve().parent.parent / "crates" / "ml_trees"
+SYNTAX = TREES / "specs"
+PROOFS = TREES / "proofs"
 
 # the functions that write out parts: the type of the part, the parameters before it, and what it has to be
 PARTS = {
@@ -66,9 +68,38 @@ def clauses(text):
     return found
 
 
+# what is between a head and more: `▸` is a word that is only a word
+SIGNS = {"∷": "cons", "++": "append", "▸": "cons", "▹": "event"}
+# the words of an event that is not a list of words itself, and then more (`add_words` of Words)
+WORDS_OF = {
+    "value": lambda given, tail: ("call", ["name_then", given[1], tail]),
+    "field": lambda given, tail: ("cons", ("call", ["word", "class.Lower", given[1]]), tail),
+    "label": lambda given, tail: ("cons", ("call", ["word", "class.Label", given[1]]), tail),
+    "operator": lambda given, tail: ("cons", given[0], tail),
+    "minus": lambda given, tail: ("cons", ("call", ["word", "class.Infix", given[0]]), tail),
+    "module_path": lambda given, tail: ("call", ["path_then", given[0], tail]),
+    "last_path": lambda given, tail: ("call", ["path_then", given[0], tail]),
+    "qualifier": lambda given, tail: ("call", ["qualified_then", given[0], tail]),
+    "run_of": lambda given, tail: ("append", given[0], tail),
+}
+
+
+def words_then(tree):
+    """A right side of Events as the words of its events: for each function its instance, whose name ends in `_then`."""
+    if isinstance(tree, str):
+        return tree.replace("_out", "_then")
+    if tree[0] == "call":
+        return ("call", [words_then(part) for part in tree[1]])
+    kind, head, tail = tree[0], tree[1], words_then(tree[2])
+    if kind == "cons":
+        return (kind, head, tail)
+    name, given = words_of(head)[0], words_of(head)[1:]
+    return WORDS_OF[name](given, tail) if name in WORDS_OF else tail
+
+
 def parse(text):
-    """A right side: ('cons', head, tail), ('append', run, tail), ('call', parts) or a name."""
-    tokens = re.findall(r"[()]|∷|\+\+|[^\s()]+", text)
+    """A right side: ('cons', head, tail), ('append', run, tail), ('event', event, tail), ('call', parts) or a name."""
+    tokens = re.findall(r"[()]|∷|\+\+|▸|▹|[^\s()]+", text)
     at = 0
 
     def atom():
@@ -84,11 +115,11 @@ def parse(text):
     def whole():
         nonlocal at
         parts = []
-        while at < len(tokens) and tokens[at] not in (")", "∷", "++"):
+        while at < len(tokens) and tokens[at] not in (")", *SIGNS):
             parts.append(atom())
         head = parts[0] if len(parts) == 1 else ("call", parts)
-        if at < len(tokens) and tokens[at] in ("∷", "++"):
-            kind = "cons" if tokens[at] == "∷" else "append"
+        if at < len(tokens) and tokens[at] in SIGNS:
+            kind = SIGNS[tokens[at]]
             at += 1
             return (kind, head, whole())
         return head
@@ -224,7 +255,7 @@ def lemma_text(name, written, well):
             if at is None:
                 continue
             names = dict(zip(words_of(pattern)[1:], words_of(well_patterns[at])[1:]))
-            tree = renamed(parse(right), names)
+            tree = renamed(right, names)
             left = f"{lemma} {'sep ' if 'sep' in told else ''}{' '.join(shown(p, True) for p in well_patterns)} k w{' plain' if plain else ''}"
             lines.append(clause_text(left, facts(tree, split_product(well_right))))
             break
@@ -267,8 +298,8 @@ def imports(module, names):
 
 def main():
     written, well = {}, {}
-    for name, patterns, right in clauses((SYNTAX / "Words.antt").read_text()):
-        written.setdefault(name, []).append((patterns, right))
+    for name, patterns, right in clauses((SYNTAX / "Events.antt").read_text()):
+        written.setdefault(name.replace("_out", "_then"), []).append((patterns, words_then(parse(right))))
     for name, patterns, right in clauses((SYNTAX / "WellFormed.antt").read_text()):
         well.setdefault(name, []).append((patterns, right))
     body = "mutual\n" + "\n\n".join(lemma_text(name, written, well) for name in PATTERNS)
@@ -276,8 +307,8 @@ def main():
         [lemma_text("expr_then", written, well), LINKS]
         + [lemma_text(name, written, well) for name in PARTS if name not in PATTERNS + ["expr_then"]])
 
-    def used(file):
-        text = (SYNTAX / file).read_text()
+    def used(*files):
+        text = "\n".join(file.read_text() for file in files)
         names = re.findall(r"(?:^abbrev pub|^  pub|^unfoldable pub) (\w+) :", text, re.M)
         return [name for name in dict.fromkeys(names) if re.search(rf"(?<![\w.]){name}(?![\w'])", body)]
 
@@ -286,14 +317,14 @@ def main():
     small = sorted({name for name in re.findall(r"(\w+_leaves)", body)}
                    - {name.replace("_then", "_leaves") for name in PARTS} - {"steps_leaves", "chain_leaves"})
     head = "\n".join([
-        "-- The words of a tree take no `in` from behind it. Printed by scripts/print_matching.py from the clauses of Words.",
+        "-- The words of a tree take no `in` from behind it. Printed by scripts/print_matching.py from the clauses of Events.",
         "use Rattle.std.proofs.Common.{◌≡◌, ℕ, ◌≤◌, List, ◌∷◌, ◌++◌, Bool, false, refl, arith}",
         "use Rattle.rotor_base.specs.declared.token.Class.TheVariants as class",
         "use Rattle.ml_trees.specs.declared.fixed.Fixed.{Fixed}",
         "use Rattle.ml_trees.specs.declared.fixed.Fixed.TheVariants as key",
         "use Rattle.ml_trees.specs.Tok.{Tok, fixed, placed, word}",
-        imports("Rattle.ml_trees.specs.Words", used("Words.antt")),
-        imports("Rattle.ml_trees.specs.WellFormed", [n for n in used("WellFormed.antt")]),
+        imports("Rattle.ml_trees.proofs.Words", used(SYNTAX / "Events.antt", SYNTAX / "Words.antt", PROOFS / "Words.antt")),
+        imports("Rattle.ml_trees.specs.WellFormed", used(SYNTAX / "WellFormed.antt")),
         imports("Rattle.ml_trees.specs.Tree", trees),
         "use Rattle.matched_lets.specs.Matching.{is_apart, open_ins}",
         imports("Rattle.matched_lets.proofs.SmallParts", small),

@@ -8,7 +8,7 @@ ghost use Rattle.parse_base.specs.Gives.{name_at, Gives};
 ghost use Rattle.parse_base.specs.Tokens.{from};
 ghost use Rattle.expr_reading.specs.ExprReading as r;
 ghost use Rattle.ml_trees.specs.WellFormed.{is_literal};
-ghost use Rattle.ml_trees.specs.Words.{closing};
+ghost use Rattle.ml_trees.specs.Events.{closing};
 ghost use Rattle.ml_trees.specs.Tok.{is_placed};
 ghost use Rattle.ml_trees.specs.Runs.{has_colon, is_optional};
 ghost use Rattle.expr_parts.specs.Rows.{upper_word};

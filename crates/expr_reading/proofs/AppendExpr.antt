@@ -3,10 +3,10 @@ use Rattle.std.proofs.Common.{◌≡◌, List, [], ◌∷◌, ◌++◌, Option, 
 use Rattle.rotor_base.specs.declared.token.Class.TheVariants as class
 use Rattle.ml_trees.specs.declared.fixed.Fixed.TheVariants as key
 use Rattle.ml_trees.specs.Tok.{Name, Tok, fixed, placed, word}
-use Rattle.ml_trees.specs.Words.{wrap, direction, closing, opening, path_then, qualified_then, name_then, type_then, optional_then, bang_then}
-use Rattle.ml_trees.specs.Words.{pat_then, variable_then, local_then, locals_then, lowers_then, expr_then, links_then, base_then, guard_then}
-use Rattle.ml_trees.specs.Words.{tail_then, binding_then, bindings_then, case_then, cases_then, argument_then, arguments_then, param_then}
-use Rattle.ml_trees.specs.Words.{params_then, part_then, parts_then, field_then, fields_then, expr_words}
+use Rattle.ml_trees.proofs.Words.{wrap, direction, closing, opening, path_then, qualified_then, name_then, type_then, optional_then, bang_then}
+use Rattle.ml_trees.proofs.Words.{pat_then, variable_then, local_then, locals_then, lowers_then, expr_then, links_then, base_then, guard_then}
+use Rattle.ml_trees.proofs.Words.{tail_then, binding_then, bindings_then, case_then, cases_then, argument_then, arguments_then, param_then}
+use Rattle.ml_trees.proofs.Words.{params_then, part_then, parts_then, field_then, fields_then, expr_words}
 use Rattle.ml_trees.specs.Tree.{Variable, PlainVariable, AnyVariable, LocalModule, LocalPath, LocalArguments, no_local, more_local, no_module, Expr}
 use Rattle.ml_trees.specs.Tree.{Seq, Let, LetOpen, LetModule, Fun, Function, Match, Try, If, Chain, Minus, Apply, ConstrApply, TagApply, Assert}
 use Rattle.ml_trees.specs.Tree.{Lazy, Postfix, Prefixed, Literal, BoolExpr, Value, Constr, Tag, UnitExpr, Paren, Typed, Coerced, EmptyBegin, Begin}

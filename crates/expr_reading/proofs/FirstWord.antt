@@ -6,8 +6,8 @@ use Rattle.ml_trees.specs.declared.fixed.Fixed.TheVariants as key
 use Rattle.ml_trees.specs.declared.word.Bracket.{Bracket}
 use Rattle.ml_trees.specs.declared.word.Bracket.TheVariants as bracket
 use Rattle.ml_trees.specs.Tok.{Name, Tok, fixed, placed, word}
-use Rattle.ml_trees.specs.Words.{opening, truth, dotted_then, path_then, qualified_then, name_then, optional_then, expr_then, links_then}
-use Rattle.ml_trees.specs.Words.{arguments_then, parts_then}
+use Rattle.ml_trees.proofs.Words.{opening, truth, dotted_then, path_then, qualified_then, name_then, optional_then, expr_then, links_then}
+use Rattle.ml_trees.proofs.Words.{arguments_then, parts_then}
 use Rattle.ml_trees.specs.WellFormed.{Wf, level, is_operator, is_literal}
 use Rattle.ml_trees.specs.Tree.{ValueName, PlainName, OperatorName, Expr, Seq, Let, LetOpen, LetModule, Fun, Function, Match, Try, If, Chain, Minus}
 use Rattle.ml_trees.specs.Tree.{Apply, ConstrApply, TagApply, Assert, Lazy, Postfix, Prefixed, Literal, BoolExpr, Value, Constr, Tag, UnitExpr}

@@ -13,10 +13,10 @@ use Rattle.ml_trees.specs.declared.word.Bracket.TheVariants as bracket
 use Rattle.ml_trees.specs.Tok.{Name, Tok, fixed, placed, word}
 use Rattle.expr_reading.specs.declared.wanted.Wanted.TheVariants as wanted
 use Rattle.ml_trees.specs.Runs.{has_colon, is_optional, is_type_run}
-use Rattle.ml_trees.specs.Words.{wrap, direction, closing, opening, dotted_then, path_then, qualified_then, name_then, type_then, optional_then}
-use Rattle.ml_trees.specs.Words.{bang_then, pat_then, variable_then, local_then, locals_then, lowers_then, expr_then, links_then, base_then}
-use Rattle.ml_trees.specs.Words.{guard_then, tail_then, binding_then, bindings_then, case_then, cases_then, argument_then, arguments_then}
-use Rattle.ml_trees.specs.Words.{param_then, params_then, part_then, parts_then, field_then, fields_then}
+use Rattle.ml_trees.proofs.Words.{wrap, direction, closing, opening, dotted_then, path_then, qualified_then, name_then, type_then, optional_then}
+use Rattle.ml_trees.proofs.Words.{bang_then, pat_then, variable_then, local_then, locals_then, lowers_then, expr_then, links_then, base_then}
+use Rattle.ml_trees.proofs.Words.{guard_then, tail_then, binding_then, bindings_then, case_then, cases_then, argument_then, arguments_then}
+use Rattle.ml_trees.proofs.Words.{param_then, params_then, part_then, parts_then, field_then, fields_then}
 use Rattle.ml_trees.specs.WellFormed.{WfName, WfType, WfBang, is_literal, is_minus, is_operator, level, op_level, on_edge, is_form, is_if, NoForm}
 use Rattle.ml_trees.specs.WellFormed.{Calm, NoOpenIf, NoCases, IsOperand, CanBeAssigned, is_bare, is_constr, is_bracketed, WfLocal, WfLocals}
 use Rattle.ml_trees.specs.WellFormed.{EndsField, Wf, WfSeq, WfChain, WfBase, WfGuard, WfTail, WfBinding, WfBindings, WfCase, WfCases, WfArgument}

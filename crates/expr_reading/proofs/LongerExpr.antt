@@ -3,10 +3,10 @@ use Rattle.std.proofs.Common.{◌≢◌, ◌<◌, ◌≤◌, List, [], ◌∷◌
 use Rattle.rotor_base.specs.declared.token.Class.TheVariants as class
 use Rattle.ml_trees.specs.declared.fixed.Fixed.TheVariants as key
 use Rattle.ml_trees.specs.Tok.{Name, Tok, fixed, placed, word}
-use Rattle.ml_trees.specs.Words.{direction, closing, path_then, name_then, type_then, optional_then, bang_then, variable_then, local_then}
-use Rattle.ml_trees.specs.Words.{locals_then, lowers_then, expr_then, links_then, base_then, guard_then, tail_then, binding_then, bindings_then}
-use Rattle.ml_trees.specs.Words.{case_then, cases_then, argument_then, arguments_then, param_then, params_then, part_then, parts_then, field_then}
-use Rattle.ml_trees.specs.Words.{fields_then}
+use Rattle.ml_trees.proofs.Words.{direction, closing, path_then, name_then, type_then, optional_then, bang_then, variable_then, local_then}
+use Rattle.ml_trees.proofs.Words.{locals_then, lowers_then, expr_then, links_then, base_then, guard_then, tail_then, binding_then, bindings_then}
+use Rattle.ml_trees.proofs.Words.{case_then, cases_then, argument_then, arguments_then, param_then, params_then, part_then, parts_then, field_then}
+use Rattle.ml_trees.proofs.Words.{fields_then}
 use Rattle.ml_trees.specs.WellFormed.{Wf}
 use Rattle.ml_trees.specs.Tree.{Variable, PlainVariable, AnyVariable, LocalModule, LocalPath, LocalArguments, no_local, more_local, no_module, Expr}
 use Rattle.ml_trees.specs.Tree.{Seq, Let, LetOpen, LetModule, Fun, Function, Match, Try, If, Chain, Minus, Apply, ConstrApply, TagApply, Assert}

@@ -10,8 +10,8 @@ use Rattle.ml_trees.specs.declared.word.Bracket.TheVariants as bracket
 use Rattle.ml_trees.specs.Tok.{Name, Tok, fixed, placed, word}
 use Rattle.expr_reading.specs.declared.wanted.Wanted.TheVariants as wanted
 use Rattle.ml_trees.specs.Runs.{has_colon, is_type_run}
-use Rattle.ml_trees.specs.Words.{direction, closing, opening, dotted_then, path_then, qualified_then, name_then, optional_then, variable_then}
-use Rattle.ml_trees.specs.Words.{expr_then, links_then, argument_then, arguments_then, part_then, parts_then}
+use Rattle.ml_trees.proofs.Words.{direction, closing, opening, dotted_then, path_then, qualified_then, name_then, optional_then, variable_then}
+use Rattle.ml_trees.proofs.Words.{expr_then, links_then, argument_then, arguments_then, part_then, parts_then}
 use Rattle.ml_trees.specs.WellFormed.{WfName, WfType, is_literal, is_operator, level, NoForm, is_bare, is_constr, is_bracketed, Wf, WfSeq, WfPart}
 use Rattle.ml_trees.specs.WellFormed.{WfParts, WfArgument, WfArguments}
 use Rattle.ml_trees.specs.Tree.{ValueName, PlainName, OperatorName, Variable, PlainVariable, AnyVariable, Expr, Apply, ConstrApply, TagApply, Assert}

@@ -8,7 +8,7 @@ use Rattle.ml_trees.specs.declared.fixed.Fixed.{Fixed}
 use Rattle.ml_trees.specs.declared.fixed.Fixed.TheVariants as key
 use Rattle.ml_trees.specs.Tok.{Name, Tok, fixed, placed, word}
 use Rattle.expr_reading.specs.declared.wanted.Wanted.TheVariants as wanted
-use Rattle.ml_trees.specs.Words.{optional_then, expr_then, links_then}
+use Rattle.ml_trees.proofs.Words.{optional_then, expr_then, links_then}
 use Rattle.ml_trees.specs.WellFormed.{level, op_level, is_bracketed, Calm, CanBeAssigned, IsOperand, Wf, WfChain}
 use Rattle.ml_trees.specs.Tree.{Expr, Seq, Let, LetOpen, LetModule, Fun, Function, Match, Try, If, Chain, Minus, Apply, ConstrApply, TagApply}
 use Rattle.ml_trees.specs.Tree.{Assert, Lazy, Postfix, Prefixed, Literal, BoolExpr, Value, Constr, Tag, UnitExpr, Paren, Typed, Coerced, EmptyBegin}

@@ -9,9 +9,9 @@ use Rattle.ml_trees.specs.declared.word.Bracket.{Bracket}
 use Rattle.ml_trees.specs.declared.word.Bracket.TheVariants as bracket
 use Rattle.ml_trees.specs.Tok.{Name, Tok, fixed, placed, word}
 use Rattle.expr_reading.specs.declared.wanted.Wanted.TheVariants as wanted
-use Rattle.ml_trees.specs.Words.{opening, truth, path_then, qualified_then, name_then, type_then, optional_then, bang_then, local_then, expr_then}
-use Rattle.ml_trees.specs.Words.{links_then, guard_then, tail_then, binding_then, bindings_then, case_then, cases_then, arguments_then, params_then}
-use Rattle.ml_trees.specs.Words.{parts_then}
+use Rattle.ml_trees.proofs.Words.{opening, truth, path_then, qualified_then, name_then, type_then, optional_then, bang_then, local_then, expr_then}
+use Rattle.ml_trees.proofs.Words.{links_then, guard_then, tail_then, binding_then, bindings_then, case_then, cases_then, arguments_then, params_then}
+use Rattle.ml_trees.proofs.Words.{parts_then}
 use Rattle.ml_trees.specs.WellFormed.{WfType, WfBang, level, on_edge, has_else, is_form, is_open_if, has_cases, NoOpenIf, NoCases, Wf, WfGuard}
 use Rattle.ml_trees.specs.WellFormed.{WfTail, WfBinding, WfBindings, WfCase, WfCases}
 use Rattle.ml_trees.specs.Tree.{Pat, ValuePat, ValueName, PlainName, OperatorName, LocalModule, Expr, Seq, Let, LetOpen, LetModule, Fun, Function}

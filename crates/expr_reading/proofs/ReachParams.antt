@@ -10,8 +10,8 @@ use Rattle.ml_trees.specs.declared.word.Bracket.TheVariants as bracket
 use Rattle.ml_trees.specs.Tok.{Name, Tok, fixed, placed, word}
 use Rattle.expr_reading.specs.declared.wanted.Wanted.TheVariants as wanted
 use Rattle.ml_trees.specs.Runs.{has_colon}
-use Rattle.ml_trees.specs.Words.{wrap, path_then, name_then, names_then, type_then, pat_then, local_then, locals_then, lowers_then, expr_then}
-use Rattle.ml_trees.specs.Words.{param_then, params_then}
+use Rattle.ml_trees.proofs.Words.{wrap, path_then, name_then, names_then, type_then, pat_then, local_then, locals_then, lowers_then, expr_then}
+use Rattle.ml_trees.proofs.Words.{param_then, params_then}
 use Rattle.ml_trees.specs.WellFormed.{WfName, WfType, WfPat, pat_level, is_operator, level, IsOperand, is_bracketed, WfLocal, WfLocals, Wf, WfParam}
 use Rattle.ml_trees.specs.WellFormed.{WfParams}
 use Rattle.ml_trees.specs.Tree.{Pat, AsPat, OrPat, TuplePat, ConsPat, ConstrApplyPat, TagApplyPat, LazyPat, ExceptionPat, AnyPat, ValuePat}

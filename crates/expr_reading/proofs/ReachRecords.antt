@@ -6,7 +6,7 @@ use Rattle.ml_trees.specs.declared.fixed.Fixed.{Fixed}
 use Rattle.ml_trees.specs.declared.fixed.Fixed.TheVariants as key
 use Rattle.ml_trees.specs.Tok.{Name, Tok, fixed, placed, word}
 use Rattle.expr_reading.specs.declared.wanted.Wanted.TheVariants as wanted
-use Rattle.ml_trees.specs.Words.{qualified_then, type_then, optional_then, expr_then, base_then, field_then, fields_then}
+use Rattle.ml_trees.proofs.Words.{qualified_then, type_then, optional_then, expr_then, base_then, field_then, fields_then}
 use Rattle.ml_trees.specs.WellFormed.{WfType, level, EndsField, Wf, WfBase, WfField, WfFields}
 use Rattle.ml_trees.specs.Tree.{PlainName, Expr, Value, Record, MaybeExpr, no_expr, some_expr, Field, FieldPun, AssignedField, Fields, no_field}
 use Rattle.ml_trees.specs.Tree.{more_field}

@@ -7,7 +7,7 @@ use Rattle.ml_trees.specs.declared.word.Bracket.{Bracket}
 use Rattle.ml_trees.specs.declared.word.Bracket.TheVariants as bracket
 use Rattle.ml_trees.specs.Tok.{Name, Tok, fixed, placed, word}
 use Rattle.ml_trees.specs.Runs.{has_colon, is_optional}
-use Rattle.ml_trees.specs.Words.{closing}
+use Rattle.ml_trees.specs.Events.{closing}
 use Rattle.ml_trees.specs.WellFormed.{is_literal, is_minus, is_operator, op_level, on_edge, on_body, is_form, is_if, is_open_if, has_cases}
 use Rattle.ml_trees.specs.WellFormed.{is_postfix, is_bare, is_constr}
 use Rattle.ml_trees.specs.Tree.{ValueName, PlainName, OperatorName, Pat, Variable, PlainVariable, AnyVariable, LocalModule, LocalPath}

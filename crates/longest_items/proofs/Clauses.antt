@@ -2,7 +2,7 @@
 use Rattle.std.proofs.Common.{◌≡◌, ℕ, zero, suc, ◌≤◌, List, [], ◌∷◌, ◌++◌, length, Bool, Some, refl, ap, arith}
 use Rattle.ml_trees.specs.declared.fixed.Fixed.TheVariants as key
 use Rattle.ml_trees.specs.Tok.{Tok, fixed}
-use Rattle.ml_trees.specs.Words.{optional_then, constraint_then, constraints_then, withs_then}
+use Rattle.ml_trees.proofs.Words.{optional_then, constraint_then, constraints_then, withs_then}
 use Rattle.ml_trees.specs.WellFormed.{WfConstraint, WfConstraints, WfWiths}
 use Rattle.ml_trees.specs.Tree.{Constraint, ConstraintOf, WithClause, WithOf}
 use Rattle.parse_base.specs.Steps.{◌>>=◌, many, always}

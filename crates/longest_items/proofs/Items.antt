@@ -2,9 +2,9 @@
 use Rattle.std.proofs.Common.{◌≡◌, ℕ, zero, suc, ◌≤◌, List, [], ◌∷◌, ◌++◌, length, Bool, true, false, Option, None, refl, arith}
 use Rattle.ml_trees.specs.declared.fixed.Fixed.TheVariants as key
 use Rattle.ml_trees.specs.Tok.{Name, Tok, fixed, placed}
-use Rattle.ml_trees.specs.Words.{path_then, name_then, optional_then, bang_then, binding_then, bindings_then, texts_then, external_then, mod_then}
-use Rattle.ml_trees.specs.Words.{functor_params_then, mod_type_then, signature_then, sig_item_then}
-use Rattle.ml_trees.specs.Words.{item_then as item_then_words}
+use Rattle.ml_trees.proofs.Words.{path_then, name_then, optional_then, bang_then, binding_then, bindings_then, texts_then, external_then, mod_then}
+use Rattle.ml_trees.proofs.Words.{functor_params_then, mod_type_then, signature_then, sig_item_then}
+use Rattle.ml_trees.proofs.Words.{item_then as item_then_words}
 use Rattle.ml_trees.specs.WellFormed.{WfOpen, WfExternal, WfBinding, WfBindings, WfMod, WfFunctorParams, WfModType, WfSignature, WfItem, WfSigItem}
 use Rattle.ml_trees.specs.Tree.{ValueName, Binding, Bindings, ModuleName, ModExpr, FunctorParams, ModType, MaybeType, Item, ExprItem, SeparatorItem}
 use Rattle.ml_trees.specs.Tree.{ValueItem, ExternalItem, TypeItem, ExceptionItem, ModuleItem, ModuleTypeItem, OpenItem, IncludeItem, SigItem}

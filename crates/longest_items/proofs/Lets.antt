@@ -2,7 +2,7 @@
 use Rattle.std.proofs.Common.{◌≡◌, ℕ, zero, suc, ◌≤◌, List, ◌∷◌, length, Bool, true, false, Some, refl, sym, ap, subst, ◌∙◌, arith}
 use Rattle.ml_trees.specs.declared.fixed.Fixed.TheVariants as key
 use Rattle.ml_trees.specs.Tok.{Tok, fixed, placed, word}
-use Rattle.ml_trees.specs.Words.{optional_then, binding_then, bindings_then}
+use Rattle.ml_trees.proofs.Words.{optional_then, binding_then, bindings_then}
 use Rattle.ml_trees.specs.WellFormed.{WfBinding, WfBindings}
 use Rattle.ml_trees.specs.Tree.{Expr, Binding, Bindings}
 use Rattle.parse_base.specs.Steps.{expect}

@@ -2,7 +2,7 @@
 use Rattle.std.proofs.Common.{◌≡◌, ◌≢◌, ℕ, zero, suc, ◌≤◌, List, [], ◌∷◌, length, true, false, None, refl, arith}
 use Rattle.ml_trees.specs.declared.fixed.Fixed.TheVariants as key
 use Rattle.ml_trees.specs.Tok.{Name, Tok, fixed}
-use Rattle.ml_trees.specs.Words.{path_then, mod_then, mod_argument_then, mod_arguments_then}
+use Rattle.ml_trees.proofs.Words.{path_then, mod_then, mod_argument_then, mod_arguments_then}
 use Rattle.ml_trees.specs.WellFormed.{is_functor, is_simple_mod, WfMod, WfModArguments}
 use Rattle.ml_trees.specs.Tree.{ModExpr, ModPath, Struct, Functor, ModApply, ModParen, Sealed, ModArgument, ModuleArgument, SealedArgument}
 use Rattle.ml_trees.specs.Tree.{NoArgument, ModArguments, no_mod_argument, more_mod_argument, FunctorParams, no_functor_param, more_functor_param}

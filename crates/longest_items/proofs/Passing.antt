@@ -8,7 +8,7 @@ use Rattle.ml_trees.specs.declared.fixed.Fixed.{Fixed}
 use Rattle.ml_trees.specs.Tok.{Name, Tok, fixed, word}
 use Rattle.ml_trees.specs.Runs.{bracketing, after_bracket, is_matched, beside_type, begins_type, in_type, in_declaration, is_type_run}
 use Rattle.ml_trees.specs.Runs.{is_declaration_run}
-use Rattle.ml_trees.specs.Words.{dotted_then, path_then, texts_then}
+use Rattle.ml_trees.proofs.Words.{dotted_then, path_then, texts_then}
 use Rattle.parse_base.specs.Steps.{◌>>=◌, many, always}
 use Rattle.parse_base.specs.Pieces.{dot_upper, more_uppers, one_more, longest, cut_at, type_run, declaration_run}
 use Rattle.parse_base.proofs.Stepping.{from_some}

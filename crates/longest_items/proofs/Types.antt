@@ -2,7 +2,7 @@
 use Rattle.std.proofs.Common.{◌≡◌, ◌≢◌, ℕ, zero, suc, ◌≤◌, List, [], ◌∷◌, length, true, false, Option, Some, None, refl, ap, arith}
 use Rattle.ml_trees.specs.declared.fixed.Fixed.TheVariants as key
 use Rattle.ml_trees.specs.Tok.{Name, Tok, fixed}
-use Rattle.ml_trees.specs.Words.{path_then, withs_then, mod_type_then}
+use Rattle.ml_trees.proofs.Words.{path_then, withs_then, mod_type_then}
 use Rattle.ml_trees.specs.WellFormed.{is_functor, is_simple_type, WfMod, WfModType}
 use Rattle.ml_trees.specs.Tree.{WithClause, WithOf, ModExpr, FunctorParam, FunctorParams, no_functor_param, more_functor_param, ModType, TypePath}
 use Rattle.ml_trees.specs.Tree.{Sig, TypeOf, TypeParen, With, FunctorType, ParamArrow, Arrow}

@@ -4,8 +4,8 @@ use Rattle.std.proofs.lemmas.Bool.{eqb-true}
 use Rattle.ml_trees.specs.declared.fixed.Fixed.TheVariants as key
 use Rattle.ml_trees.specs.declared.word.Bracket.TheVariants as bracket
 use Rattle.ml_trees.specs.Tok.{Name, Tok, fixed}
-use Rattle.ml_trees.specs.Words.{path_then, bang_then, local_then, optional_then, expr_then, links_then, arguments_then, parts_then, binding_then}
-use Rattle.ml_trees.specs.Words.{bindings_then}
+use Rattle.ml_trees.proofs.Words.{path_then, bang_then, local_then, optional_then, expr_then, links_then, arguments_then, parts_then, binding_then}
+use Rattle.ml_trees.proofs.Words.{bindings_then}
 use Rattle.ml_trees.specs.Tree.{PlainName, OperatorName, Seq, Let, LetOpen, LetModule, Chain, Apply}
 use Rattle.ml_trees.specs.Tree.{ConstrApply, Postfix, BoolExpr, Value, Constr}
 use Rattle.ml_trees.specs.Tree.{EmptyList, ListExpr, Opened}

@@ -1,13 +1,13 @@
--- The words of a tree take no `in` from behind it. Printed by scripts/print_matching.py from the clauses of Words.
+-- The words of a tree take no `in` from behind it. Printed by scripts/print_matching.py from the clauses of Events.
 use Rattle.std.proofs.Common.{◌≡◌, ℕ, ◌≤◌, List, ◌∷◌, ◌++◌, Bool, false, refl, arith}
 use Rattle.rotor_base.specs.declared.token.Class.TheVariants as class
 use Rattle.ml_trees.specs.declared.fixed.Fixed.{Fixed}
 use Rattle.ml_trees.specs.declared.fixed.Fixed.TheVariants as key
 use Rattle.ml_trees.specs.Tok.{Tok, fixed, placed, word}
-use Rattle.ml_trees.specs.Words.{path_then, name_then, names_then, type_then, optional_then, closing, open_then, pat_then, pats_then, pat_field_then}
-use Rattle.ml_trees.specs.Words.{pat_fields_then, direction, expr_then, links_then, base_then, guard_then, tail_then, binding_then, bindings_then}
-use Rattle.ml_trees.specs.Words.{case_then, cases_then, argument_then, arguments_then, param_then, params_then, part_then, parts_then, field_then}
-use Rattle.ml_trees.specs.Words.{fields_then}
+use Rattle.ml_trees.proofs.Words.{closing, direction, path_then, name_then, pat_then, expr_then, names_then, type_then, optional_then, open_then}
+use Rattle.ml_trees.proofs.Words.{pats_then, pat_field_then, pat_fields_then, links_then, base_then, guard_then, tail_then, binding_then}
+use Rattle.ml_trees.proofs.Words.{bindings_then, case_then, cases_then, argument_then, arguments_then, param_then, params_then, part_then, parts_then}
+use Rattle.ml_trees.proofs.Words.{field_then, fields_then}
 use Rattle.ml_trees.specs.WellFormed.{WfPat, WfPats, WfPatField, WfPatFields, Wf, WfSeq, WfChain, WfBase, WfGuard, WfTail, WfBinding, WfBindings}
 use Rattle.ml_trees.specs.WellFormed.{WfCase, WfCases, WfArgument, WfArguments, WfParam, WfParams, WfPart, WfParts, WfField, WfFields}
 use Rattle.ml_trees.specs.Tree.{Pat, AsPat, OrPat, TuplePat, ConsPat, ConstrApplyPat, TagApplyPat, LazyPat, ExceptionPat, AnyPat, ValuePat}

@@ -6,8 +6,9 @@ use Rattle.ml_trees.specs.declared.word.Bracket.{Bracket}
 use Rattle.ml_trees.specs.declared.word.Bracket.TheVariants as bracket
 use Rattle.ml_trees.specs.Tok.{Name, Tok, fixed, placed}
 use Rattle.ml_trees.specs.Runs.{is_type_run, is_matched, beside_type, in_type, begins_type, after_bracket, bracketing}
-use Rattle.ml_trees.specs.Words.{dotted_then, path_then, qualified_then, name_then, names_then, type_then, optional_then, bang_then, truth, opening, closing, direction}
-use Rattle.ml_trees.specs.Words.{open_then, variable_then, local_then, locals_then, lowers_then, wrap}
+use Rattle.ml_trees.proofs.Words.{dotted_then, path_then, qualified_then, name_then, names_then, type_then, optional_then, bang_then, truth}
+use Rattle.ml_trees.proofs.Words.{opening, closing, direction}
+use Rattle.ml_trees.proofs.Words.{open_then, variable_then, local_then, locals_then, lowers_then, wrap}
 use Rattle.ml_trees.specs.WellFormed.{is_operator, op_level, WfName, WfNames, WfType}
 use Rattle.ml_trees.specs.Tree.{ValueName, PlainName, OperatorName, Variable, PlainVariable, AnyVariable, LocalModule, LocalPath, LocalArguments}
 use Rattle.ml_trees.specs.Tree.{no_local, more_local, no_module}

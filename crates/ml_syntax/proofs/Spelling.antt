@@ -26,13 +26,13 @@ use Rattle.ml_trees.specs.Tree.{no_functor_param, more_functor_param, TypePath, 
 use Rattle.ml_trees.specs.Tree.{no_type, some_type, ExprItem, SeparatorItem, ValueItem, ExternalItem, TypeItem, ExceptionItem, ModuleItem}
 use Rattle.ml_trees.specs.Tree.{ModuleTypeItem, OpenItem, IncludeItem, no_item, more_item, SeparatorSig, ValSig, ExternalSig, TypeSig, ExceptionSig}
 use Rattle.ml_trees.specs.Tree.{ModuleSig, AliasSig, ModuleTypeSig, OpenSig, IncludeSig, no_sig_item, more_sig_item, Body, Face}
-use Rattle.ml_trees.specs.Words.{dotted_then, path_then, qualified_then, name_then, names_then, type_then, optional_then, bang_then, truth, opening}
-use Rattle.ml_trees.specs.Words.{closing, open_then, pat_then, pats_then, pat_field_then, pat_fields_then, variable_then, local_then, locals_then}
-use Rattle.ml_trees.specs.Words.{lowers_then, wrap, direction, expr_then, links_then, base_then, guard_then, tail_then, binding_then, bindings_then}
-use Rattle.ml_trees.specs.Words.{case_then, cases_then, argument_then, arguments_then, param_then, params_then, part_then, parts_then, field_then}
-use Rattle.ml_trees.specs.Words.{fields_then, module_name_then, constraint_then, constraints_then, withs_then, texts_then, external_then}
-use Rattle.ml_trees.specs.Words.{open_item_then, mod_then, mod_argument_then, mod_arguments_then, functor_param_then, functor_params_then}
-use Rattle.ml_trees.specs.Words.{mod_type_then, signature_then, item_then, items_then, sig_item_then, sig_items_then}
+use Rattle.ml_trees.proofs.Words.{dotted_then, path_then, qualified_then, name_then, names_then, type_then, optional_then, bang_then, truth, opening}
+use Rattle.ml_trees.proofs.Words.{closing, open_then, pat_then, pats_then, pat_field_then, pat_fields_then, variable_then, local_then, locals_then}
+use Rattle.ml_trees.proofs.Words.{lowers_then, wrap, direction, expr_then, links_then, base_then, guard_then, tail_then, binding_then, bindings_then}
+use Rattle.ml_trees.proofs.Words.{case_then, cases_then, argument_then, arguments_then, param_then, params_then, part_then, parts_then, field_then}
+use Rattle.ml_trees.proofs.Words.{fields_then, module_name_then, constraint_then, constraints_then, withs_then, texts_then, external_then}
+use Rattle.ml_trees.proofs.Words.{open_item_then, mod_then, mod_argument_then, mod_arguments_then, functor_param_then, functor_params_then}
+use Rattle.ml_trees.proofs.Words.{mod_type_then, signature_then, item_then, items_then, sig_item_then, sig_items_then}
 use Rattle.ml_trees.specs.WellFormed.{is_operator, WfName, WfNames, WfType, pat_level, is_exception, WfPat, WfPats, WfPatField, WfPatFields, level}
 use Rattle.ml_trees.specs.WellFormed.{op_level, is_form, is_if, has_else, is_open_if, has_cases, on_edge, on_links, on_body, on_cases, on_tail}
 use Rattle.ml_trees.specs.WellFormed.{NoForm, Calm, NoOpenIf, NoCases, IsOperand, is_postfix, CanBeAssigned, is_bare, is_constr, is_bracketed}

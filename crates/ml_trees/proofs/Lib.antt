@@ -1,3 +1,4 @@
+pub mod Words
 pub mod FirstByte
 pub mod Views
 pub mod Variants

@@ -1,6 +1,7 @@
 -- The events of a tree: its words, one behind another, each with what it is, and where groups and scopes begin and end
 -- (the OCaml manual, "The OCaml language"). This is the one definition with a clause for each form; what is done with
--- the events is given: a state takes them (tree_walk), or ..
+-- the events is given: a state takes them (tree_walk), or their words are listed (Words). An event is a phrase, as a name,
+-- a path or a type, so that its words compute also where the phrase is a variable of a proof.
 use Rattle.std.specs.Prelude.{ℕ, List, [], ◌∷◌, Bool, true, false, Option, Some, None}
 use Rattle.rotor_base.specs.declared.token.Class.TheVariants as class
 use Rattle.ml_trees.specs.declared.fixed.Fixed.{Fixed}

@@ -1,4 +1,4 @@
-//! The trees of the language, the words that they are written as, and which trees are well formed.
+//! The trees of the language, the events and the words of a tree, and which trees are well formed.
 #![tactic(auto)]
 
 mod expression;

@@ -8,8 +8,8 @@ use Rattle.ml_trees.specs.declared.fixed.Fixed.TheVariants as key
 use Rattle.ml_trees.specs.declared.word.Bracket.{Bracket}
 use Rattle.ml_trees.specs.declared.word.Bracket.TheVariants as bracket
 use Rattle.ml_trees.specs.Tok.{Name, Tok, fixed, placed, word}
-use Rattle.ml_trees.specs.Words.{pat_then, pats_then, pat_field_then, pat_fields_then, path_then, dotted_then, qualified_then, name_then, names_then}
-use Rattle.ml_trees.specs.Words.{type_then, optional_then, open_then, opening, closing}
+use Rattle.ml_trees.proofs.Words.{pat_then, pats_then, pat_field_then, pat_fields_then, path_then, dotted_then, qualified_then, name_then, names_then}
+use Rattle.ml_trees.proofs.Words.{type_then, optional_then, open_then, opening, closing}
 use Rattle.ml_trees.specs.WellFormed.{WfType, WfPat, WfPats, WfPatField, WfPatFields, WfNames, pat_level, is_exception, is_literal, is_number}
 use Rattle.ml_trees.specs.WellFormed.{is_minus, is_operator}
 use Rattle.ml_trees.specs.Tree.{ValueName, OperatorName, Pat, LazyPat, ExceptionPat, ValuePat, LiteralPat, NegativePat, ConstrPat, TagPat, Pats}

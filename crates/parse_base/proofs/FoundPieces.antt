@@ -8,7 +8,7 @@ use Rattle.ml_trees.specs.Tok.{Name, Tok, fixed, placed, word}
 use Rattle.ml_trees.specs.Runs.{bracketing, after_bracket, is_matched, beside_type, begins_type, in_type, in_declaration, is_type_run}
 use Rattle.ml_trees.specs.Runs.{is_declaration_run}
 use Rattle.ml_trees.specs.Tree.{ValueName, OperatorName}
-use Rattle.ml_trees.specs.Words.{dotted_then, qualified_then, name_then, type_then}
+use Rattle.ml_trees.proofs.Words.{dotted_then, qualified_then, name_then, type_then}
 use Rattle.ml_trees.specs.WellFormed.{is_operator, WfName, WfType}
 use Rattle.parse_base.specs.Steps.{always}
 use Rattle.parse_base.specs.Pieces.{dot_upper, more_uppers, upper_dot, qualifiers, lower_word, operator_at, value_name, or_none, one_more, longest}

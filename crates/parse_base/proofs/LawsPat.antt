@@ -8,8 +8,8 @@ use Rattle.ml_trees.specs.Tree.{ValueName, PlainName, OperatorName, Pat, AsPat, 
 use Rattle.ml_trees.specs.Tree.{ExceptionPat, AnyPat, ValuePat, LiteralPat, NegativePat, RangePat, ConstrPat, TagPat, BoolPat, UnitPat, ParenPat}
 use Rattle.ml_trees.specs.Tree.{TypedPat, EmptyPat, ListPat, RecordPat, OpenedPat, Pats, no_pat, more_pat, PatField, PunnedField, MatchedField}
 use Rattle.ml_trees.specs.Tree.{PatFields, no_pat_field, more_pat_field}
-use Rattle.ml_trees.specs.Words.{opening, closing, pat_then, pats_then, pat_field_then, pat_fields_then, path_then, dotted_then, qualified_then}
-use Rattle.ml_trees.specs.Words.{name_then, names_then, type_then, optional_then, open_then, pat_words}
+use Rattle.ml_trees.proofs.Words.{opening, closing, pat_then, pats_then, pat_field_then, pat_fields_then, path_then, dotted_then, qualified_then}
+use Rattle.ml_trees.proofs.Words.{name_then, names_then, type_then, optional_then, open_then, pat_words}
 use Rattle.ml_trees.specs.WellFormed.{WfPat}
 use Rattle.parse_base.specs.PatReading.{read_pat}
 use Rattle.parse_base.specs.Longest.{IsLongestPat, BeginsNoPat, OnePatReading}

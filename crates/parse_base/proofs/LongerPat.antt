@@ -7,8 +7,8 @@ use Rattle.ml_trees.specs.declared.fixed.Fixed.TheVariants as key
 use Rattle.ml_trees.specs.declared.word.Bracket.{Bracket}
 use Rattle.ml_trees.specs.declared.word.Bracket.TheVariants as bracket
 use Rattle.ml_trees.specs.Tok.{Name, Tok, fixed, placed, word}
-use Rattle.ml_trees.specs.Words.{truth, pat_then, pats_then, pat_field_then, pat_fields_then, path_then, dotted_then, qualified_then, name_then}
-use Rattle.ml_trees.specs.Words.{names_then, type_then, optional_then, open_then, opening, closing}
+use Rattle.ml_trees.proofs.Words.{truth, pat_then, pats_then, pat_field_then, pat_fields_then, path_then, dotted_then, qualified_then, name_then}
+use Rattle.ml_trees.proofs.Words.{names_then, type_then, optional_then, open_then, opening, closing}
 use Rattle.ml_trees.specs.WellFormed.{WfPat, is_operator, is_literal}
 use Rattle.ml_trees.specs.Tree.{ValueName, PlainName, OperatorName, Pat, AsPat, OrPat, TuplePat, ConsPat, ConstrApplyPat, TagApplyPat, LazyPat}
 use Rattle.ml_trees.specs.Tree.{ExceptionPat, AnyPat, ValuePat, LiteralPat, NegativePat, RangePat, ConstrPat, TagPat, BoolPat, UnitPat, ParenPat}

@@ -7,7 +7,7 @@ use Rattle.ml_trees.specs.declared.fixed.Fixed.TheVariants as key
 use Rattle.ml_trees.specs.declared.word.Bracket.{Bracket}
 use Rattle.ml_trees.specs.declared.word.Bracket.TheVariants as bracket
 use Rattle.ml_trees.specs.Tok.{Name, Tok, fixed, placed, word}
-use Rattle.ml_trees.specs.Words.{pat_then, pats_then, path_then, dotted_then, name_then, names_then, opening}
+use Rattle.ml_trees.proofs.Words.{pat_then, pats_then, path_then, dotted_then, name_then, names_then, opening}
 use Rattle.ml_trees.specs.WellFormed.{WfNames, WfPat, WfPats, pat_level, is_exception}
 use Rattle.ml_trees.specs.Tree.{ValueName, PlainName, OperatorName, Pat, AsPat, OrPat, TuplePat, ConsPat, ConstrApplyPat, TagApplyPat, LazyPat}
 use Rattle.ml_trees.specs.Tree.{ExceptionPat, AnyPat, ValuePat, LiteralPat, NegativePat, RangePat, ConstrPat, TagPat, BoolPat, UnitPat, ParenPat}

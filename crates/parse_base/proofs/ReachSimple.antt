@@ -8,8 +8,8 @@ use Rattle.ml_trees.specs.declared.fixed.Fixed.TheVariants as key
 use Rattle.ml_trees.specs.declared.word.Bracket.{Bracket}
 use Rattle.ml_trees.specs.declared.word.Bracket.TheVariants as bracket
 use Rattle.ml_trees.specs.Tok.{Name, Tok, fixed, placed, word}
-use Rattle.ml_trees.specs.Words.{pat_then, pats_then, pat_field_then, pat_fields_then, path_then, dotted_then, type_then, optional_then, open_then}
-use Rattle.ml_trees.specs.Words.{opening, closing}
+use Rattle.ml_trees.proofs.Words.{pat_then, pats_then, pat_field_then, pat_fields_then, path_then, dotted_then, type_then, optional_then, open_then}
+use Rattle.ml_trees.proofs.Words.{opening, closing}
 use Rattle.ml_trees.specs.Runs.{is_type_run}
 use Rattle.ml_trees.specs.WellFormed.{WfName, WfType, WfPat, WfPats, WfPatField, WfPatFields, is_literal, is_number, is_minus, is_operator}
 use Rattle.ml_trees.specs.Tree.{ValueName, PlainName, OperatorName, Pat, ValuePat, LiteralPat, NegativePat, RangePat, ConstrPat, BoolPat, ParenPat}

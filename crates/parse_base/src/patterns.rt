@@ -15,7 +15,7 @@ ghost use Rattle.ml_trees.specs.View.{view_word, view_words, view_path, view_nam
 ghost use Rattle.parse_base.specs.Steps.{many, always};
 ghost use Rattle.parse_base.specs.PatReading as r;
 ghost use Rattle.ml_trees.specs.Tok.{is_placed};
-ghost use Rattle.ml_trees.specs.Words.{closing};
+ghost use Rattle.ml_trees.specs.Events.{closing};
 ghost use Rattle.ml_trees.specs.WellFormed.{is_minus, is_number, is_literal};
 ghost use Rattle.parse_base.specs.Rows.{path_from, inner_pat};
 ghost use Rattle.parse_base.specs.PatReading.{read_pat};

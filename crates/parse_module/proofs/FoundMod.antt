@@ -5,10 +5,10 @@ use Rattle.ml_trees.specs.declared.fixed.Fixed.{Fixed}
 use Rattle.ml_trees.specs.declared.fixed.Fixed.TheVariants as key
 use Rattle.ml_trees.specs.Tok.{Name, Tok, fixed, placed, word}
 use Rattle.expr_reading.specs.declared.wanted.Wanted.TheVariants as wanted
-use Rattle.ml_trees.specs.Words.{path_then, name_then, optional_then, bang_then, module_name_then, constraint_then, constraints_then, withs_then}
-use Rattle.ml_trees.specs.Words.{texts_then, external_then, mod_then, mod_argument_then, mod_arguments_then, functor_param_then, functor_params_then}
-use Rattle.ml_trees.specs.Words.{mod_type_then, signature_then, items_then, sig_item_then, sig_items_then, words}
-use Rattle.ml_trees.specs.Words.{item_then as item_then_words}
+use Rattle.ml_trees.proofs.Words.{path_then, name_then, optional_then, bang_then, module_name_then, constraint_then, constraints_then, withs_then}
+use Rattle.ml_trees.proofs.Words.{texts_then, external_then, mod_then, mod_argument_then, mod_arguments_then, functor_param_then, functor_params_then}
+use Rattle.ml_trees.proofs.Words.{mod_type_then, signature_then, items_then, sig_item_then, sig_items_then, words}
+use Rattle.ml_trees.proofs.Words.{item_then as item_then_words}
 use Rattle.ml_trees.specs.Runs.{is_type_run}
 use Rattle.ml_trees.specs.WellFormed.{WfName, WfOpen, WfExternal, is_constraint_sign, WfConstraint, WfConstraints, WfWiths, is_functor}
 use Rattle.ml_trees.specs.WellFormed.{is_simple_mod, is_simple_type, is_separator, WfMod, WfModArgument, WfModArguments, WfFunctorParam}

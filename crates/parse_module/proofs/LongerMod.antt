@@ -2,10 +2,10 @@
 use Rattle.std.proofs.Common.{ℕ, ◌≤◌, List, [], ◌∷◌, ◌++◌, length, Option, arith}
 use Rattle.ml_trees.specs.declared.fixed.Fixed.TheVariants as key
 use Rattle.ml_trees.specs.Tok.{Name, Tok, fixed, placed}
-use Rattle.ml_trees.specs.Words.{path_then, optional_then, binding_then, bindings_then, module_name_then, constraint_then, constraints_then}
-use Rattle.ml_trees.specs.Words.{withs_then, texts_then, external_then, open_item_then, mod_then, mod_argument_then, mod_arguments_then}
-use Rattle.ml_trees.specs.Words.{functor_param_then, functor_params_then, mod_type_then, signature_then, item_then, items_then, sig_item_then}
-use Rattle.ml_trees.specs.Words.{sig_items_then}
+use Rattle.ml_trees.proofs.Words.{path_then, optional_then, binding_then, bindings_then, module_name_then, constraint_then, constraints_then}
+use Rattle.ml_trees.proofs.Words.{withs_then, texts_then, external_then, open_item_then, mod_then, mod_argument_then, mod_arguments_then}
+use Rattle.ml_trees.proofs.Words.{functor_param_then, functor_params_then, mod_type_then, signature_then, item_then, items_then, sig_item_then}
+use Rattle.ml_trees.proofs.Words.{sig_items_then}
 use Rattle.ml_trees.specs.Tree.{ValueName, ModuleName, UpperName, AnyName, Constraint, ConstraintOf, WithClause, WithOf, ModExpr, ModPath, Struct}
 use Rattle.ml_trees.specs.Tree.{Functor, ModApply, ModParen, Sealed, ModArgument, ModuleArgument, SealedArgument, NoArgument, ModArguments}
 use Rattle.ml_trees.specs.Tree.{no_mod_argument, more_mod_argument, FunctorParam, NamedParam, NoParam, FunctorParams, no_functor_param}

@@ -9,11 +9,11 @@ use Rattle.ml_trees.specs.declared.word.Bracket.TheVariants as bracket
 use Rattle.ml_trees.specs.Tok.{Name, Tok, fixed, placed, word}
 use Rattle.expr_reading.specs.declared.wanted.Wanted.TheVariants as wanted
 use Rattle.ml_trees.specs.Runs.{bracketing, after_bracket, beside_type, in_type, in_declaration, is_type_run}
-use Rattle.ml_trees.specs.Words.{links_then, arguments_then, parts_then, opening, truth, path_then, qualified_then, name_then, optional_then}
-use Rattle.ml_trees.specs.Words.{bang_then, expr_then, binding_then, bindings_then, module_name_then, constraint_then, constraints_then, withs_then}
-use Rattle.ml_trees.specs.Words.{texts_then, external_then, mod_then, mod_argument_then, mod_arguments_then, functor_param_then, functor_params_then}
-use Rattle.ml_trees.specs.Words.{mod_type_then, signature_then, items_then, sig_item_then, sig_items_then}
-use Rattle.ml_trees.specs.Words.{item_then as item_then_words}
+use Rattle.ml_trees.proofs.Words.{links_then, arguments_then, parts_then, opening, truth, path_then, qualified_then, name_then, optional_then}
+use Rattle.ml_trees.proofs.Words.{bang_then, expr_then, binding_then, bindings_then, module_name_then, constraint_then, constraints_then, withs_then}
+use Rattle.ml_trees.proofs.Words.{texts_then, external_then, mod_then, mod_argument_then, mod_arguments_then, functor_param_then, functor_params_then}
+use Rattle.ml_trees.proofs.Words.{mod_type_then, signature_then, items_then, sig_item_then, sig_items_then}
+use Rattle.ml_trees.proofs.Words.{item_then as item_then_words}
 use Rattle.ml_trees.specs.WellFormed.{WfOpen, WfExternal, WfBinding, WfBindings, Wf, level, is_constraint_sign, WfConstraint, WfConstraints, WfWiths}
 use Rattle.ml_trees.specs.WellFormed.{is_functor, is_simple_mod, is_simple_type, is_separator, WfMod, WfModArgument, WfModArguments, WfFunctorParam}
 use Rattle.ml_trees.specs.WellFormed.{WfFunctorParams, WfModType, WfSignature, WfItem, WfItems, WfSigItem, WfSigItems}

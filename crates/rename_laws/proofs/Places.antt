@@ -26,13 +26,13 @@ use Rattle.ml_trees.specs.Tree.{TypeOf, TypeParen, With, FunctorType, ParamArrow
 use Rattle.ml_trees.specs.Tree.{SeparatorItem, ValueItem, ExternalItem, TypeItem, ExceptionItem, ModuleItem, ModuleTypeItem, OpenItem, IncludeItem}
 use Rattle.ml_trees.specs.Tree.{Items, no_item, more_item, SigItem, SeparatorSig, ValSig, ExternalSig, TypeSig, ExceptionSig, ModuleSig, AliasSig}
 use Rattle.ml_trees.specs.Tree.{ModuleTypeSig, OpenSig, IncludeSig, SigItems, no_sig_item, more_sig_item, FileTree, Body, Face}
-use Rattle.ml_trees.specs.Words.{dotted_then, path_then, qualified_then, name_then, names_then, type_then, optional_then, bang_then, truth, opening}
-use Rattle.ml_trees.specs.Words.{closing, open_then, pat_then, pats_then, pat_field_then, pat_fields_then, variable_then, local_then, locals_then}
-use Rattle.ml_trees.specs.Words.{lowers_then, wrap, direction, expr_then, links_then, base_then, guard_then, tail_then, binding_then, bindings_then}
-use Rattle.ml_trees.specs.Words.{case_then, cases_then, argument_then, arguments_then, param_then, params_then, part_then, parts_then, field_then}
-use Rattle.ml_trees.specs.Words.{fields_then, module_name_then, constraint_then, constraints_then, withs_then, texts_then, mod_then}
-use Rattle.ml_trees.specs.Words.{mod_argument_then, mod_arguments_then, functor_param_then, functor_params_then, mod_type_then, signature_then}
-use Rattle.ml_trees.specs.Words.{item_then, items_then, sig_item_then, sig_items_then, words}
+use Rattle.ml_trees.proofs.Words.{dotted_then, path_then, qualified_then, name_then, names_then, type_then, optional_then, bang_then, truth, opening}
+use Rattle.ml_trees.proofs.Words.{closing, open_then, pat_then, pats_then, pat_field_then, pat_fields_then, variable_then, local_then, locals_then}
+use Rattle.ml_trees.proofs.Words.{lowers_then, wrap, direction, expr_then, links_then, base_then, guard_then, tail_then, binding_then, bindings_then}
+use Rattle.ml_trees.proofs.Words.{case_then, cases_then, argument_then, arguments_then, param_then, params_then, part_then, parts_then, field_then}
+use Rattle.ml_trees.proofs.Words.{fields_then, module_name_then, constraint_then, constraints_then, withs_then, texts_then, mod_then}
+use Rattle.ml_trees.proofs.Words.{mod_argument_then, mod_arguments_then, functor_param_then, functor_params_then, mod_type_then, signature_then}
+use Rattle.ml_trees.proofs.Words.{item_then, items_then, sig_item_then, sig_items_then, words}
 use Rattle.ml_trees.specs.WellFormed.{op_level, Wf, WfSeq, WfChain, WfBase, WfGuard, WfTail, WfBinding, WfBindings, WfCase, WfCases}
 use Rattle.ml_trees.specs.WellFormed.{WfArgument, WfArguments, WfParam, WfParams, WfPart, WfParts, WfField, WfFields, is_separator, WfMod}
 use Rattle.ml_trees.specs.WellFormed.{WfModArgument, WfModArguments, WfFunctorParam, WfFunctorParams, WfModType, WfSignature, WfItem, WfItems}
