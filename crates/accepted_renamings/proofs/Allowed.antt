@@ -1,14 +1,12 @@
 -- What may take another name meets none of the refusals of a renaming.
-use Rattle.std.proofs.Common.{◌≡◌, ◌⊎◌, inl, inr, ◌||◌, ℕ, suc, List, [], ◌∷◌, Bool, true, false, true≢false, Option, Some, None, slice_get}
+use Rattle.std.proofs.Common.{◌≡◌, ◌⊎◌, inl, inr, ℕ, List, true, Option, Some, None}
 use Rattle.std.proofs.Common.{refl, ap, sym, subst, ◌∙◌}
 use Rattle.std.specs.Cmp.Lexicographic.{slice_cmp}
 use Rattle.std.specs.List.{list_all}
 use Rattle.std.specs.List.Sorted.{IsStrictlySortedBy}
 use Rattle.std.specs.Ordering.{nat_cmp}
 use Rattle.rotor_base.specs.declared.place.Place.{Place}
-use Rattle.rotor_base.specs.declared.place.Goal.{Goal}
 use Rattle.rotor_base.specs.declared.place.Goal.TheVariants.{Decl, Outside}
-use Rattle.rotor_base.specs.declared.place.Ref.{Ref}
 use Rattle.rotor_base.specs.declared.place.Link.{Link}
 use Rattle.rotor_base.specs.declared.place.Facts.{Facts}
 use Rattle.rotor_base.specs.declared.place.Foot.{Foot}
@@ -19,11 +17,9 @@ use Rattle.rotor_base.specs.declared.source.SourceFile.{SourceFile}
 use Rattle.rotor_base.specs.Place.{same_place}
 use Rattle.rotor_base.specs.Stem.{is_source_name}
 use Rattle.rotor_base.specs.Files.{FileSet, IsProject, are_over, names_of}
-use Rattle.ml_lexer.specs.Lexed.{Lexeme}
-use Rattle.ml_syntax.specs.Places.{Site}
 use Rattle.ml_syntax.specs.RespelledSource.{AreRespelled}
 use Rattle.ml_syntax.specs.Sound.{IsSound}
-use Rattle.ml_trees.specs.Tree.{FileTree, UnitTree}
+use Rattle.ml_trees.specs.Tree.{UnitTree}
 use Rattle.shape_core.specs.Shape.{Name, some_if}
 use Rattle.dependency_kernel.specs.Foot.{IsFoot, IsFixedBy, IsLeastFixed}
 use Rattle.dependency_kernel.specs.Foot as links
@@ -36,9 +32,8 @@ use Rattle.binding_model.specs.Renaming.{places, at_place, name_of, in_file, Cha
 use Rattle.binding_model.specs.Steps.{a_ref}
 use Rattle.binding_model.proofs.Sounds.{links_join_one_name, same_self}
 use Rattle.binding_model.proofs.Standing.{given}
-use Rattle.capture_check.specs.Fault.{IsMet, IsFirstDiffering, of_ref, of_link, before}
+use Rattle.capture_check.specs.Fault.{IsMet, of_ref, of_link, before}
 use Rattle.project_reading.specs.Reads.{Reads}
-use Rattle.project_reading.specs.Sources.{ReadAll, AreCut}
 use Rattle.project_reading.proofs.Cut.{all_cut}
 use Rattle.project_reading.proofs.RespellingKept.{respelling_keeps_the_reading}
 use Rattle.project_reading.proofs.Soundness.{read_is_sound}

@@ -1,6 +1,6 @@
 -- If there is no fault, the facts are equal.
 use Rattle.std.proofs.Common.{◌≡◌, ◌≢◌, ℕ, zero, suc, ◌+◌, ◌⊎◌, ◌==◌, ◌&&◌, Bool, true, false, refl, ap, sym, ◌∙◌, subst, inl, inr, arith, List, []}
-use Rattle.std.proofs.Common.{◌∷◌, map, length, Option, Some, None, slice_get, true≢false}
+use Rattle.std.proofs.Common.{◌∷◌, map, length, Option, Some, None, slice_get}
 use Rattle.std.proofs.lemmas.Bool.Decides.{nat_tests}
 use Rattle.rotor_base.specs.declared.place.Place.{Place}
 use Rattle.rotor_base.specs.declared.place.Goal.{Goal}
@@ -16,23 +16,22 @@ use Rattle.ml_syntax.specs.Each.{Each}
 use Rattle.binding_model.specs.Facts.{facts}
 use Rattle.binding_model.specs.Looks.{looks}
 use Rattle.binding_model.specs.Renaming.{places, at_place, name_of, respell}
-use Rattle.binding_model.proofs.Named.{IsNamed, NamedSteps}
+use Rattle.binding_model.proofs.Named.{IsNamed}
 use Rattle.binding_model.proofs.OneName.{Joins, steps_join}
 use Rattle.binding_model.proofs.Naming.{PlaceNamed, units_named}
 use Rattle.binding_model.proofs.Sounds.{each_map, found_all}
 use Rattle.rotor_base.specs.declared.looks.LinkLook.{LinkLook}
 use Rattle.shape_core.specs.Shape.{Name, none}
-use Rattle.binding_model.specs.Steps.{trace}
 use Rattle.binding_model.specs.Walk.{steps}
-use Rattle.binding_model.specs.Local.{link_look_at, would_come, would_facts, would_be, would_links, IsWatched}
+use Rattle.binding_model.specs.Local.{link_look_at, would_come, would_facts, would_be, would_links}
 use Rattle.binding_model.specs.Renaming.{renaming}
 use Rattle.binding_model.proofs.LastEntries.{same_is}
 use Rattle.binding_model.proofs.Telltale.{apart_of, looks_tell_facts}
 use Rattle.capture_check.specs.declared.fault.Change.{Change}
-use Rattle.capture_check.specs.Fault.{Differs, IsCapture, IsMislink, IsClash, IsMet, of_ref, of_link, Names, IsFirstFault}
-use Rattle.capture_check.specs.declared.fault.Fault.TheVariants.{Clash, Capture, Mislink}
+use Rattle.capture_check.specs.Fault.{Differs, IsCapture, IsMislink, IsClash, IsMet, of_ref, of_link, IsFirstFault}
+use Rattle.capture_check.specs.declared.fault.Fault.TheVariants.{Capture, Mislink}
 use Rattle.capture_check.specs.Firsts.{IsFirstChange, Tells, earlier_change}
-use Rattle.capture_check.specs.Local.{IsLocalFault, NoFaultKeepsFacts}
+use Rattle.capture_check.specs.Local.{NoFaultKeepsFacts}
 use Rattle.capture_check.proofs.Least.{KeepsPlace, keeps_ref, keeps_link, IsBest, best_begin, best_more, best_all}
 
 -- ---- goals are equal or not

@@ -2,7 +2,6 @@
 use Rattle.std.proofs.Common.{◌≡◌, ℕ, suc, ◌+◌, ◌||◌, Bool, true, false, cond, refl, ap, sym, ◌∙◌, List, [], ◌∷◌, map, drop, Option, Some, None}
 use Rattle.std.proofs.Common.{unwrap_or, if◌then◌else◌}
 use Rattle.std.specs.List.{list_any}
-use Rattle.std.specs.Ordering.{nat_cmp}
 use Rattle.std.specs.BTreeMap.{BTreeMap, get, is_at}
 use Rattle.std.specs.BTreeSet.{BTreeSet, contains}
 use Rattle.rotor_base.specs.declared.place.Place.{Place}
@@ -19,7 +18,7 @@ use Rattle.binding_model.specs.Steps.{a_ref}
 use Rattle.binding_model.specs.Local.{ref_look_at, link_look_at, would_goal, would_come, would_be, would_links}
 use Rattle.binding_model.proofs.Standing.{same_swap}
 use Rattle.capture_check.proofs.Filing.{tests_same, put_is}
-use Rattle.capture_check.specs.Would.{goal_if, source_if, is_in, goal_by, source_by, ref_by, links_by, HasMembers, HasRefLooks, HasLinkLooks}
+use Rattle.capture_check.specs.Would.{goal_if, source_if, goal_by, source_by, ref_by, links_by, HasMembers, HasRefLooks, HasLinkLooks}
 use Rattle.capture_check.specs.Would.{renamed_at}
 
 -- one more member

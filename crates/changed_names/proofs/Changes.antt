@@ -1,5 +1,5 @@
 -- A binder that keeps its name and is no operator keeps a value name.
-use Rattle.std.proofs.Common.{◌≡◌, ◌≢◌, List, Bool, true, false, ◌||◌, Some, refl, sym, ap, subst, ◌∙◌}
+use Rattle.std.proofs.Common.{◌≡◌, List, Bool, true, false, ◌||◌, Some, refl, sym, ap, subst, ◌∙◌}
 use Rattle.std.specs.Prelude.{IsTrue, bytes_eq}
 use Rattle.std.proofs.lemmas.Slice.Eq.{bytes_eq-Decides}
 use Rattle.rotor_base.specs.Files.{FileSet, IsProject}
@@ -7,7 +7,7 @@ use Rattle.rotor_base.specs.Name.{is_value_name}
 use Rattle.rotor_base.specs.declared.place.Place.{Place}
 use Rattle.ml_trees.specs.Tree.{UnitTree}
 use Rattle.shape_core.specs.Shape.{Name}
-use Rattle.binding_model.specs.Renaming.{Renaming, places, at_place, site_name, name_of, IsFixedSite}
+use Rattle.binding_model.specs.Renaming.{Renaming, at_place, site_name, name_of, IsFixedSite}
 use Rattle.project_reading.specs.Reads.{Reads}
 use Rattle.renamed_sources.proofs.ValueNames.{names_are_value_names}
 use Rattle.changed_names.specs.Laws.{GivesToChanges, ChangesAreEnough}

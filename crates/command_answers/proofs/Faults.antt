@@ -1,5 +1,5 @@
 -- The first fault between two lists of facts, or none.
-use Rattle.std.proofs.Common.{◌≡◌, ◌⊎◌, inl, inr, List, Option, Some, None}
+use Rattle.std.proofs.Common.{◌⊎◌, inl, inr, Option, Some, None}
 use Rattle.rotor_base.specs.declared.place.Facts.{Facts}
 use Rattle.rotor_base.specs.declared.place.Goal.{Goal}
 use Rattle.rotor_base.specs.declared.place.Goal.TheVariants.{Decl}

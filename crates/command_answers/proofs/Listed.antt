@@ -1,5 +1,5 @@
 -- Each of a list is free of a condition, or one of it meets it.
-use Rattle.std.proofs.Common.{◌≡◌, ◌⊎◌, inl, inr, List, [], ◌∷◌, Contains, sym, subst}
+use Rattle.std.proofs.Common.{◌⊎◌, inl, inr, List, [], ◌∷◌, Contains, sym, subst}
 use Rattle.rename_verify.proofs.Alone.{first_in, more_in, none_in, split_in}
 
 pub one_or_none : {A : Type 0} (P : A → Type 0) → ((x : A) → P x ⊎ (P x → ⊥)) → (xs : List A)

@@ -16,7 +16,7 @@ use Rattle.ml_trees.specs.Tree.{UnitTree}
 use Rattle.shape_core.specs.Respell.{Words}
 use Rattle.shape_core.specs.Shape.{Name}
 use Rattle.binding_model.specs.Facts.{facts}
-use Rattle.binding_model.specs.Renaming.{Changes, IsFree, Renaming, in_file, name_of, respell}
+use Rattle.binding_model.specs.Renaming.{Changes, IsFree, Renaming, name_of, respell}
 use Rattle.capture_check.specs.declared.fault.Fault as fault
 use Rattle.capture_check.specs.Fault.{IsFirstFault, IsMet}
 use Rattle.ladder_laws.proofs.Ladder.{project_decided}
@@ -27,9 +27,9 @@ use Rattle.project_reading.proofs.Cut.{all_cut}
 use Rattle.project_reading.proofs.Soundness.{read_is_sound}
 use Rattle.rename_files.specs.Answer.{Accepts}
 use Rattle.rename_model.specs.Project.{refusals_of_project}
-use Rattle.rename_respell.specs.Respelled.{AreRespelledBytes, changed, mapped_words, new_texts}
+use Rattle.rename_respell.specs.Respelled.{AreRespelledBytes, changed, mapped_words}
 use Rattle.rename_survey.specs.Survey.{binders_of}
-use Rattle.rename_verify.specs.Candidate.{AreLexemes, AreLexemesOf, candidate, changes}
+use Rattle.rename_verify.specs.Candidate.{AreLexemesOf, candidate, changes}
 use Rattle.rename_verify.specs.Changed.{Changed}
 use Rattle.rename_verify.specs.Fixed.{IsLeastHeld}
 use Rattle.rename_verify.specs.Scans.{first_alone}

@@ -1,13 +1,11 @@
 -- Lines are a batch, or one of them is the first bad line.
-use Rattle.std.proofs.Common.{◌≡◌, ◌≢◌, ◌⊎◌, inl, inr, ℕ, zero, suc, ◌+◌, ◌≤◌, ◌==◌, List, [], ◌∷◌, ◌++◌, Bool, true, length, refl, sym, ap, ◌∙◌, arith}
+use Rattle.std.proofs.Common.{◌≡◌, ◌⊎◌, inl, inr, ℕ, zero, suc, ◌+◌, ◌≤◌, ◌==◌, List, [], ◌∷◌, ◌++◌, true, length, refl, ap, arith}
 use Rattle.std.specs.List.{list_any}
-use Rattle.std.specs.Str.{IsUtf8}
-use Rattle.line_words.specs.Cut.{IsWhole}
 use Rattle.rotor_base.specs.Limits.{max_batch_lines}
 use Rattle.cli_words.specs.Target.{target_of}
 use Rattle.cli_words.specs.Words.{is_value}
 use Rattle.rename_batch.specs.declared.step.Step.{Step}
-use Rattle.rename_batch.specs.Reading.{AreSteps, AreWords, IsBadLine, IsBatch, IsNoStep, IsStep, IsWord}
+use Rattle.rename_batch.specs.Reading.{AreSteps, IsBadLine, IsBatch, IsNoStep, IsStep, IsWord}
 use Rattle.decided_lists.specs.Laws.{BatchLinesAreDecided}
 use Rattle.decided_lists.proofs.Known.{Known, both_known, fails_known, known_as, some_known, test_known, text_known}
 use Rattle.decided_lists.proofs.Splits.{Split, split_known}

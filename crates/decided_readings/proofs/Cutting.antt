@@ -12,9 +12,9 @@ use Rattle.ml_lexer.specs.declared.piece.Piece.TheVariants as piece
 use Rattle.ml_lexer.specs.Lexed.{Fault, FaultFrom, Lexeme, LexedFrom, Bad, LongName}
 use Rattle.ml_lexer.specs.Pieces.{piece_at}
 use Rattle.lexeme_laws.specs.Begins.{Begins}
-use Rattle.lexeme_laws.specs.Table.{AreDigits, IsChar, IsExponent, IsFloat, IsFraction, IsInt, IsLabel, IsOfClass, IsQuoted, IsTextLexeme, is_marked_word}
+use Rattle.lexeme_laws.specs.Table.{AreDigits, IsChar, IsFloat, IsInt, IsLabel, IsOfClass, IsQuoted, IsTextLexeme, is_marked_word}
 use Rattle.lexeme_laws.specs.Table as table
-use Rattle.lexeme_laws.specs.Trivia.{AttributeEnds, CommentEnds, TriviaBegins, TriviaEnds}
+use Rattle.lexeme_laws.specs.Trivia.{AttributeEnds, CommentEnds, TriviaEnds}
 use Rattle.lexeme_laws.specs.Trivia as ends
 use Rattle.lexeme_laws.proofs.Taken.{lexemes_begin}
 use Rattle.lexeme_laws.proofs.TriviaSound.{trivia_begin}

@@ -1,6 +1,5 @@
 -- What a renaming that an editor asks for is answered, for the declaration that the place has.
-use Rattle.std.proofs.Common.{◌≡◌, ◌⊎◌, inl, inr, ℕ, List, Bool, true, false, Option, None, Some, Result, Ok, Err, ap, subst, sym, ◌∙◌}
-use Rattle.std.specs.Prelude.{IfOk}
+use Rattle.std.proofs.Common.{◌≡◌, inl, inr, List, true, false, ap, subst, sym, ◌∙◌}
 use Rattle.rotor_base.specs.Files.{FileSet}
 use Rattle.rotor_base.specs.declared.place.Place.{Place}
 use Rattle.rotor_base.specs.declared.refusal.Refusal.{Refusal}
@@ -13,7 +12,6 @@ use Rattle.value_at.specs.declared.value.ValueAt.{ValueAt}
 use Rattle.value_at.specs.declared.value.ValueAt.TheVariants.{Value}
 use Rattle.value_at.specs.Value.{IsValueAt}
 use Rattle.value_at.proofs.Uses.{values_are_one}
-use Rattle.rename_files.specs.Answer.{Renames}
 use Rattle.rename_project.specs.Steps.{IsRefusedFor}
 use Rattle.explain.specs.Refused.{is_memory}
 use Rattle.editor_renaming.specs.Asked.{IsAnswer, IsRenamedTo, no_value, renamed}

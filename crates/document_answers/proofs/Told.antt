@@ -1,12 +1,11 @@
 -- What a call replies that passes on the reply of another.
-use Rattle.std.proofs.Common.{◌≡◌, ℕ, List, Bool, Option, Result, Ok, Err, IfOk, subst}
+use Rattle.std.proofs.Common.{◌≡◌, List, Result, Ok, Err, IfOk}
 use Rattle.report.specs.Pieces.{Word}
 use Rattle.rotor_base.specs.Files.{FileSet}
 use Rattle.rotor_base.specs.declared.refusal.Refusal.{Refusal}
 use Rattle.rotor_base.specs.declared.source.SourceFile.{SourceFile}
 use Rattle.text_places.specs.declared.counting.Counting.{Counting}
 use Rattle.text_places.specs.declared.counting.Position.{Position}
-use Rattle.ml_trees.specs.Tree.{UnitTree}
 use Rattle.rename_files.specs.Answer.{Rejects}
 use Rattle.open_documents.specs.Documents.{DocumentMap}
 use Rattle.refusal_words.specs.Cut.{Cut}
@@ -16,7 +15,7 @@ use Rattle.requests.specs.declared.asked.Query.{Query}
 use Rattle.requests.specs.declared.client.Client.{Client}
 use Rattle.query_failures.specs.Folder.{IsProjectFailure}
 use Rattle.document_scene.specs.Scene.{Telling}
-use Rattle.document_answers.specs.Over.{RepliesInSource, RepliesOver, rejected, telling}
+use Rattle.document_answers.specs.Over.{RepliesOver, rejected, telling}
 use Rattle.document_answers.specs.Refused.{IsRefused}
 
 -- of two facts

@@ -1,8 +1,7 @@
 -- The replies over the files of a folder (own).
-use Rattle.std.specs.Prelude.{◌≡◌, ℕ, List, Bool, true, false, Option, None, Some, Result, slice_get}
+use Rattle.std.specs.Prelude.{◌≡◌, ℕ, List, Bool, true, false, None, Some, Result, slice_get}
 use Rattle.report.specs.Pieces.{Word}
 use Rattle.rotor_base.specs.Files.{FileSet}
-use Rattle.rotor_base.specs.declared.place.Place.{Place}
 use Rattle.rotor_base.specs.declared.refusal.Refusal.{Refusal}
 use Rattle.text_places.specs.declared.counting.Counting.{Counting}
 use Rattle.text_places.specs.declared.counting.Counting.TheVariants.{Utf16, Utf8}

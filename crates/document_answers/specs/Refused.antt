@@ -1,6 +1,6 @@
 -- Replies that are failures, and replies without one (Language Server Protocol 3.17, "Response Message"; own where it says
 -- the sentences).
-use Rattle.std.specs.Prelude.{◌≡◌, List, [], ◌∷◌, Option, None, Some, Result, Ok, Err, codes}
+use Rattle.std.specs.Prelude.{◌≡◌, [], ◌∷◌, Result, Ok, Err, codes}
 use Rattle.report.specs.Pieces.{Word, join}
 use Rattle.lsp_answers.specs.declared.answer.Answer.{Answer}
 use Rattle.lsp_answers.specs.declared.answer.Answer.TheVariants.{Nothing}

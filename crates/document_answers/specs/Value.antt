@@ -1,5 +1,5 @@
 -- The replies at a token (Language Server Protocol 3.17, "Language Features"; own where it says the values).
-use Rattle.std.specs.Prelude.{◌≡◌, ℕ, ◌-◌, List, Bool, true, false, Option, None, Some, Result, Ok, Err, map, slice_get, if◌then◌else◌}
+use Rattle.std.specs.Prelude.{◌≡◌, ℕ, ◌-◌, List, Bool, true, false, Option, None, Some, Result, Ok, map, slice_get, if◌then◌else◌}
 use Rattle.report.specs.Pieces.{Word}
 use Rattle.rotor_base.specs.Files.{FileSet}
 use Rattle.rotor_base.specs.declared.place.Facts.{Facts}

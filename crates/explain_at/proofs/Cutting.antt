@@ -1,5 +1,5 @@
 -- The tokens of sources that are cut.
-use Rattle.std.proofs.Common.{◌≡◌, ℕ, zero, suc, ◌<◌, List, [], ◌∷◌, Option, Some, get_or, length, map, slice_get, refl, ap, sym, ◌∙◌, arith}
+use Rattle.std.proofs.Common.{◌≡◌, ℕ, zero, suc, ◌<◌, List, [], ◌∷◌, Option, Some, get_or, length, map, slice_get, ap, sym, ◌∙◌, arith}
 use Rattle.ml_lexer.specs.Lexed.{view_tokens}
 use Rattle.rotor_base.specs.declared.token.Token.{Token}
 use Rattle.refusal_words.specs.Cut.{view_cut}

@@ -1,6 +1,6 @@
 -- What is said of a step that is refused.
 use Rattle.std.proofs.Common.{◌≡◌, ℕ, ◌-◌, ◌<◌, ◌≤◌, List, [], ◌∷◌, Option, Some, None, Result, Ok, Err, IfOk, length, take, slice_get, map}
-use Rattle.std.proofs.Common.{false, inl, inr, ap, sym, subst, ◌∙◌, arith, ◌⊎◌}
+use Rattle.std.proofs.Common.{false, inl, inr, subst, arith, ◌⊎◌}
 use Rattle.rotor_base.specs.Files.{FileSet}
 use Rattle.rotor_base.specs.declared.refusal.Refusal.{Refusal}
 use Rattle.rotor_base.specs.declared.source.SourceFile.{SourceFile}

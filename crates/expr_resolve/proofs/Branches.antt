@@ -1,5 +1,5 @@
 -- The steps of an `if`, branch by branch, and of expressions between commas.
-use Rattle.std.proofs.Common.{◌≡◌, ℕ, Option, Some, None, List, [], ◌∷◌, refl, ap, ◌∙◌}
+use Rattle.std.proofs.Common.{◌≡◌, ℕ, Option, Some, None, List, [], ◌∷◌, refl, ap}
 use Rattle.std.specs.Global.{Box}
 use Rattle.ml_trees.specs.Tree as pure
 use Rattle.ml_trees.specs.declared.expression.Branch.{Branch}

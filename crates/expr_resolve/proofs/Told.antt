@@ -1,5 +1,5 @@
 -- What is found of an expression is what its steps give.
-use Rattle.std.proofs.Common.{◌≡◌, ℕ, ◌+◌, ◌≤◌, length, Option, Some, None, refl, sym, ap, ◌∙◌, arith}
+use Rattle.std.proofs.Common.{◌≡◌, ℕ, ◌+◌, ◌≤◌, length, Some, None, refl, ap, ◌∙◌, arith}
 use Rattle.rotor_base.specs.declared.place.Place.{Place}
 use Rattle.rotor_base.specs.declared.looks.Watch.{Watch}
 use Rattle.rotor_base.specs.declared.looks.Looks.{Looks}

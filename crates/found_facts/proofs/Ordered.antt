@@ -1,6 +1,6 @@
 -- A stable sort by places puts things in order.
-use Rattle.std.proofs.Common.{◌≡◌, ℕ, suc, ◌+◌, ◌≤◌, ◌<◌, ◌==◌, ◌&&◌, ◌||◌, not, List, [], ◌∷◌, Bool, true, false, true≢false, cond, if◌then◌else◌}
-use Rattle.std.proofs.Common.{length, get_or, refl, sym, ap, subst, ◌∙◌, arith, nat_lt}
+use Rattle.std.proofs.Common.{◌≡◌, ℕ, suc, ◌≤◌, ◌<◌, ◌==◌, ◌&&◌, ◌||◌, not, List, [], ◌∷◌, Bool, true, false, true≢false, cond, if◌then◌else◌}
+use Rattle.std.proofs.Common.{length, get_or, refl, sym, ap, ◌∙◌, arith, nat_lt}
 use Rattle.std.specs.Cmp.{IsStrictWeakOrder}
 use Rattle.std.specs.List.{filter}
 use Rattle.std.specs.List.Sorted.{IsSortedByKey, IsStableByKey, ties}

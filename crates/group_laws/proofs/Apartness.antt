@@ -1,22 +1,20 @@
 -- The values of a group have names of their own if no place repeats one: its places are some of a file's, in order.
-use Rattle.std.proofs.Common.{◌≡◌, ◌≢◌, ℕ, zero, suc, ◌<◌, ◌⊎◌, inl, inr, Bool, true, false, refl, sym, ap, ◌∙◌, subst, arith, List, [], ◌∷◌, ◌++◌}
-use Rattle.std.proofs.Common.{length, map, get_or, Contains, Option, Some, None, bytes_eq}
+use Rattle.std.proofs.Common.{◌≡◌, ◌≢◌, ℕ, zero, suc, ◌⊎◌, inl, inr, Bool, true, false, refl, sym, ap, ◌∙◌, subst, arith, List, [], ◌∷◌, ◌++◌}
+use Rattle.std.proofs.Common.{map, Contains, Option, Some, None, bytes_eq}
 use Rattle.std.proofs.lemmas.Slice.Eq.{bytes_eq-Decides}
 use Rattle.rotor_base.specs.declared.place.Place.{Place}
 use Rattle.rotor_base.specs.declared.place.Goal.{Goal}
-use Rattle.rotor_base.specs.declared.place.Goal.TheVariants.{Decl, Outside, Missing, Hidden, Blur}
+use Rattle.rotor_base.specs.declared.place.Goal.TheVariants.{Decl, Missing}
 use Rattle.rotor_base.specs.declared.place.Link.{Link}
 use Rattle.rotor_base.specs.Place.{same_place, IsBefore}
 use Rattle.ml_syntax.specs.Places.{Site, sites}
-use Rattle.ml_syntax.specs.Sound.{IsSound}
 use Rattle.ml_trees.specs.Tree.{FileTree, Body, Face, UnitTree}
 use Rattle.shape_core.specs.Shape.{Name, Entries, none, vals, last_of, or_else, some_if}
 use Rattle.ml_syntax.specs.Each.{Each}
 use Rattle.binding_model.specs.Scopes.{here, bound, after_unit}
-use Rattle.binding_model.specs.Steps.{Steps, groups_of}
-use Rattle.binding_model.specs.Walk.{file_steps, maybe_file_steps, unit_links, unit_steps, units_steps, steps}
-use Rattle.binding_model.specs.Facts.{facts, decls, is_before, unmatched, unmatched_items, item_without, decl_list, least, earlier, AreNamedApart}
-use Rattle.binding_model.specs.Facts.{IsGood}
+use Rattle.binding_model.specs.Steps.{groups_of}
+use Rattle.binding_model.specs.Walk.{file_steps, maybe_file_steps, unit_links, units_steps, steps}
+use Rattle.binding_model.specs.Facts.{facts, decls, is_before, unmatched_items, item_without, decl_list, least, earlier, AreNamedApart}
 use Rattle.binding_model.specs.Renaming.{placed_sites, file_places, places, at_place, site_name, name_of}
 use Rattle.binding_model.proofs.Sounds.{each_map, each_joined, found_all, same_self, Other, Apart}
 use Rattle.binding_model.proofs.Telltale.{apart_of, each_contained}
@@ -24,7 +22,7 @@ use Rattle.binding_model.proofs.Uses.{Sub, Fits, items_uses, sig_items_uses}
 use Rattle.capture_check.specs.Fault.{Repeats}
 use Rattle.capture_check.proofs.Before.{tested, untested}
 use Rattle.capture_check.proofs.Equal.{items_decl}
-use Rattle.group_laws.specs.Laws.{HasNoRepeat, NoRepeatIsApart, UnrefusedIsGood}
+use Rattle.group_laws.specs.Laws.{NoRepeatIsApart, UnrefusedIsGood}
 use Rattle.group_laws.proofs.Firsts.{no_least_is_none}
 
 -- ---- parts of lists

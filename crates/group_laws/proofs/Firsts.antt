@@ -8,7 +8,7 @@ use Rattle.capture_check.specs.Fault.{Names, Repeats}
 use Rattle.capture_check.specs.Firsts.{IsFirstRepeat, earlier_repeat, repeat_of, lesser}
 use Rattle.capture_check.proofs.Twice.{IsBestPair}
 use Rattle.capture_check.proofs.Groups.{Scans, scan_begin, scan_more, scan_end, Below, groups_begin, groups_more, groups_end}
-use Rattle.group_laws.specs.Laws.{HasNoRepeat, NoLeastIsNone}
+use Rattle.group_laws.specs.Laws.{NoLeastIsNone}
 
 no_place : Place
 no_place = record { file = 0; token = 0 }

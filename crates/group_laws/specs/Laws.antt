@@ -1,5 +1,5 @@
 -- The laws of groups that repeat no name (own).
-use Rattle.std.specs.Prelude.{◌≡◌, List, Option, None}
+use Rattle.std.specs.Prelude.{◌≡◌, List, None}
 use Rattle.rotor_base.specs.declared.place.Place.{Place}
 use Rattle.ml_syntax.specs.Sound.{IsSound}
 use Rattle.ml_trees.specs.Tree.{UnitTree}

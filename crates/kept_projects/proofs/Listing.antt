@@ -1,5 +1,5 @@
 -- The tokens of the sources of a project.
-use Rattle.std.proofs.Common.{◌≡◌, ◌∙◌, ℕ, suc, inl, inr, List, [], ◌∷◌, map, refl, ap}
+use Rattle.std.proofs.Common.{ℕ, suc, inl, inr, List, [], ◌∷◌, map}
 use Rattle.rotor_base.specs.declared.source.SourceFile.{SourceFile}
 use Rattle.ml_lexer.specs.Lexed.{Lexed, Lexeme, view_tokens}
 use Rattle.ml_lexer.proofs.OneCutting.{not_both}

@@ -1,10 +1,10 @@
 -- Functors from the shapes of their parameters, and sealed modules.
-use Rattle.std.proofs.Common.{◌≡◌, ℕ, List, [], ◌∷◌, ◌++◌, Option, Some, None, refl, ap, ◌∙◌}
+use Rattle.std.proofs.Common.{◌≡◌, ℕ, List, [], ◌∷◌, ◌++◌, Option, refl, ap, ◌∙◌}
 use Rattle.ml_trees.specs.Tree.{FunctorParam, NamedParam, NoParam, FunctorParams, no_functor_param, more_functor_param, MaybeType, no_type}
 use Rattle.ml_trees.specs.Tree.{some_type, ModuleName, ModExpr, ModuleItem}
 use Rattle.shape_core.specs.Shape.{Shape, Entries, ◌⊕◌}
 use Rattle.binding_model.specs.Scopes.{here, named, param_in, params_in, from_param, from_params, mod_shape, sealed_shape, adds}
-use Rattle.binding_model.specs.Steps.{Steps, ◌⨾◌, WeighedSite}
+use Rattle.binding_model.specs.Steps.{Steps, WeighedSite}
 use Rattle.binding_model.specs.Taken.{Taken, taken}
 use Rattle.binding_model.specs.Walk.{functor_steps, mod_steps, sealing_steps, item_steps}
 use Rattle.mod_resolve.specs.Given.{given_shape, given_shapes, functor_to, functors_to, given_in, optional_shape, optional_type_steps, seal_steps}

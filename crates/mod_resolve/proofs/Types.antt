@@ -1,5 +1,5 @@
 -- The module type that a path names is found in the module before its last name.
-use Rattle.std.proofs.Common.{◌≡◌, ℕ, List, [], ◌∷◌, ◌++◌, Option, Some, None, ◌≤◌, length, arith, refl, sym, ap, ◌∙◌}
+use Rattle.std.proofs.Common.{◌≡◌, List, [], ◌∷◌, ◌++◌, Option, Some, None, ◌≤◌, length, arith, refl, sym, ap, ◌∙◌}
 use Rattle.ml_trees.specs.declared.word.Word.{Word}
 use Rattle.ml_trees.specs.View.{view_words}
 use Rattle.shape_core.specs.Shape.{Name, Shape, Struct, Functor, Unitary, Opaque, Entries, or_value, step, step_from, inside, find_path, walk}

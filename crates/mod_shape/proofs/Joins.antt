@@ -1,9 +1,8 @@
 -- The files of a unit, joined.
 use Rattle.std.proofs.Common.{◌≡◌, Option, Some, None, refl}
 use Rattle.ml_trees.specs.Tree.{FileTree}
-use Rattle.shape_core.specs.Shape.{Shape, Entries}
-use Rattle.binding_model.specs.Scopes.{file_shape, parts_shape}
-use Rattle.binding_model.specs.Steps.{Steps}
+use Rattle.shape_core.specs.Shape.{Entries}
+use Rattle.binding_model.specs.Scopes.{parts_shape}
 use Rattle.binding_model.specs.Walk.{unit_links}
 use Rattle.mod_shape.specs.Joined.{maybe_shape, joined_steps, joined_shape}
 

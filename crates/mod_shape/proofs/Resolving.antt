@@ -1,7 +1,7 @@
 -- A resolver of units, one after another from nothing, has the facts and the looks of the project, or names its first
 -- heavy site.
-use Rattle.std.proofs.Common.{◌≡◌, ℕ, ◌+◌, ◌≤◌, ◌<◌, ◌||◌, List, [], ◌∷◌, ◌++◌, Bool, true, false, map, length, Option, Some, None, refl, sym, ap}
-use Rattle.std.proofs.Common.{subst, ◌∙◌, arith, nat_lt}
+use Rattle.std.proofs.Common.{◌≡◌, ℕ, ◌+◌, ◌≤◌, ◌||◌, List, [], ◌∷◌, Bool, true, false, map, length, Option, Some, None, refl, sym, ap}
+use Rattle.std.proofs.Common.{◌∙◌, arith, nat_lt}
 use Rattle.std.proofs.lemmas.Bool.Decides.{leb_tells}
 use Rattle.rotor_base.specs.declared.place.Place.{Place}
 use Rattle.rotor_base.specs.declared.place.Link.{Link}
@@ -22,9 +22,9 @@ use Rattle.binding_model.specs.declared.found.Recorder.{Recorder}
 use Rattle.binding_model.specs.Facts.{decls, in_order, facts}
 use Rattle.binding_model.specs.Looks.{ref_looks, looks}
 use Rattle.binding_model.specs.Scopes.{here, unit_shape, after_unit}
-use Rattle.binding_model.specs.Steps.{Steps, ◌⨾◌, WeighedSite, UnitStart, refs_of, trace, groups_of}
+use Rattle.binding_model.specs.Steps.{Steps, ◌⨾◌, WeighedSite, UnitStart, refs_of, trace}
 use Rattle.binding_model.specs.Sums.{no_sums, sums_after, is_over, heavy_from, heavy}
-use Rattle.binding_model.specs.Taken.{Taken, Going, HeavyAt, taken, nothing_found, no_looks, recorded, Tracks, Arrived}
+use Rattle.binding_model.specs.Taken.{Taken, Going, HeavyAt, taken, nothing_found, no_looks, Tracks, Arrived}
 use Rattle.binding_model.specs.Walk.{last_file, maybe_file_steps, unit_links, unit_steps, units_steps, steps}
 use Rattle.found_facts.proofs.Arriving.{stopped_heavy, went_light, went_there}
 use Rattle.group_walk.specs.Groups.{units_groups}

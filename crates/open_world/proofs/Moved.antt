@@ -1,7 +1,7 @@
 -- A renaming that is valid is valid if the files get other numbers in the same order.
 use Rattle.std.proofs.Common.{◌≡◌, ◌≢◌, ℕ, suc, ◌+◌, ◌<◌, ◌≤◌, Bool, true, false, ◌==◌, ◌&&◌, ◌||◌, if◌then◌else◌, List, [], ◌∷◌, ◌++◌, map}
 use Rattle.std.proofs.Common.{Option, Some, None, Contains, inl, inr, refl, sym, ap, subst, ◌∙◌, arith}
-use Rattle.std.specs.Prelude.{nat_lt, nat_eq, IsTrue, ◌⊎◌}
+use Rattle.std.specs.Prelude.{nat_lt, ◌⊎◌}
 use Rattle.std.proofs.lemmas.Bool.{eqb-true, eq-eqb}
 use Rattle.std.proofs.lemmas.Bool.Decides.{leb_tells}
 use Rattle.rotor_base.specs.Place.{same_place}
@@ -11,22 +11,20 @@ use Rattle.rotor_base.specs.declared.place.Ref.{Ref}
 use Rattle.rotor_base.specs.declared.place.Link.{Link}
 use Rattle.rotor_base.specs.declared.place.Goal.{Goal}
 use Rattle.rotor_base.specs.declared.place.Goal.TheVariants.{Decl, Outside, Missing, Hidden, Blur}
-use Rattle.rotor_base.proofs.Rising.{some_is}
 use Rattle.ml_syntax.specs.Each.{Each}
 use Rattle.ml_syntax.specs.Places.{Site}
-use Rattle.ml_syntax.specs.Respelled.{Spelling, spell_file}
+use Rattle.ml_syntax.specs.Respelled.{spell_file}
 use Rattle.ml_trees.specs.Tree.{FileTree, Body, Face, UnitTree}
 use Rattle.shape_core.specs.Shape.{Name, Entries, vals, or_else, or_value, some_if, last_of}
 use Rattle.shape_core.specs.Links.{link}
 use Rattle.shape_core.specs.Respell.{Words, over}
 use Rattle.shape_core.proofs.Founds.{each, last_of-each}
-use Rattle.binding_model.specs.Facts.{is_before, put, in_order, decl_list, decls_of, decls, facts, facts_of, AreNamedApart, IsGood}
-use Rattle.binding_model.specs.Renaming.{Renaming, IsBinder, placed_sites, file_places, places, at_place, site_name, name_of, in_file, spell_tree}
+use Rattle.binding_model.specs.Facts.{is_before, put, in_order, decl_list, decls_of, decls, facts, AreNamedApart, IsGood}
+use Rattle.binding_model.specs.Renaming.{Renaming, IsBinder, placed_sites, file_places, places, at_place, site_name, in_file, spell_tree}
 use Rattle.binding_model.specs.Renaming.{spell_unit, goal_at, new_word, words_of, respell, Changes, IsFixedSite, HasBehind, IsBlur, IsFree, IsValid}
 use Rattle.binding_model.specs.Scopes.{here}
 use Rattle.binding_model.specs.Steps.{refs_of, trace, groups_of}
 use Rattle.binding_model.specs.Walk.{steps}
-use Rattle.binding_model.proofs.LastEntries.{same_is}
 use Rattle.binding_model.proofs.Naming.{each_in}
 use Rattle.binding_model.proofs.Telltale.{each_contained}
 use Rattle.open_world.specs.Laws.{KeepsOrder, moved, renumbered, unit_renumbered, moved_renaming, NumbersStay}

@@ -1,36 +1,31 @@
 -- A project whose files get other numbers in the same order: its shapes, its steps and its facts.
-use Rattle.std.proofs.Common.{◌≡◌, ◌≢◌, ℕ, zero, suc, ◌+◌, ◌<◌, Bool, true, false, ◌==◌, ◌&&◌, ◌||◌, if◌then◌else◌, List, [], ◌∷◌, ◌++◌, map, length}
-use Rattle.std.proofs.Common.{Option, Some, None, refl, sym, ap, subst, ◌∙◌, arith}
-use Rattle.std.specs.Prelude.{nat_lt, max}
-use Rattle.rotor_base.specs.Place.{same_place}
-use Rattle.rotor_base.specs.declared.place.Facts.{Facts}
+use Rattle.std.proofs.Common.{◌≡◌, ℕ, zero, suc, ◌+◌, List, [], ◌∷◌, ◌++◌, map, length}
+use Rattle.std.proofs.Common.{Option, Some, None, refl, sym, ap, subst, ◌∙◌}
+use Rattle.std.specs.Prelude.{max}
 use Rattle.rotor_base.specs.declared.place.Place.{Place}
 use Rattle.rotor_base.specs.declared.place.Ref.{Ref}
 use Rattle.rotor_base.specs.declared.place.Link.{Link}
 use Rattle.rotor_base.specs.declared.place.Goal.{Goal}
 use Rattle.rotor_base.specs.declared.place.Goal.TheVariants.{Decl, Outside, Missing, Hidden, Blur}
-use Rattle.ml_trees.specs.Tok.{Name as Word}
 use Rattle.ml_syntax.specs.Places.{Site}
-use Rattle.ml_trees.specs.Tree.{FileTree, Body, Face, UnitTree}
+use Rattle.ml_trees.specs.Tree.{UnitTree}
 use Rattle.shape_core.specs.Shape.{Name, Shape, Struct, Functor, Unitary, Opaque, Entries, none, a_val, a_mod, a_mty, a_dark, ◌⊕◌, vals, mods, mtys}
-use Rattle.shape_core.specs.Shape.{or_else, or_value, some_if, unless_some, last_of, passed, last_place, decl_of, behind_of, seen, find_val, find_mod}
+use Rattle.shape_core.specs.Shape.{or_else, or_value, unless_some, last_of, passed, last_place, decl_of, seen, find_val, find_mod}
 use Rattle.shape_core.specs.Shape.{find_mty, step, step_from, inside, find_path, walk, type_in, brought, value_at, value_in, depth, depths}
 use Rattle.shape_core.specs.Links.{Trace, ◌&◌, nothing, a_step, one, or_empty, pin, pin_entries, pin_vals, match_entries, match_step, match_to}
 use Rattle.shape_core.specs.Links.{matched}
 use Rattle.shape_core.specs.Links.{link, source_of}
 use Rattle.shape_core.specs.Respell.{over}
 use Rattle.shape_core.proofs.Founds.{each, last_of-each, or_value-over}
-use Rattle.shape_core.proofs.Retold.{mapped, after}
-use Rattle.binding_model.specs.Facts.{is_before, put, in_order, decl_list, decls_of, decls, facts, facts_of}
-use Rattle.binding_model.specs.Scopes.{texts, path_shape, type_under, applied, here, bound}
-use Rattle.binding_model.specs.Steps.{Steps, quiet, ◌⨾◌, UseAlone, UseUnder, MatchOf, PinOf, TieOf, GroupOf, WeighedSite, OpenedSite, UnitStart}
+use Rattle.shape_core.proofs.Retold.{after}
+use Rattle.binding_model.specs.Scopes.{texts, type_under, applied, here, bound}
+use Rattle.binding_model.specs.Steps.{Steps}
 use Rattle.binding_model.specs.Steps.{refs_of, tied, trace, groups_of}
-use Rattle.binding_model.specs.Walk.{apply_steps, units_steps, steps}
-use Rattle.binding_model.proofs.Named.{IsNamed, Named, NamedSteps}
+use Rattle.binding_model.specs.Walk.{apply_steps, steps}
 use Rattle.binding_model.proofs.Naming.{PlaceNamed, units_named}
 use Rattle.binding_model.proofs.Sounds.{each_all}
-use Rattle.binding_model.proofs.Telling.{SourceNamed, trace_mapped, trace_same}
-use Rattle.open_world.specs.Laws.{KeepsOrder, moved, unit_renumbered}
+use Rattle.binding_model.proofs.Telling.{trace_mapped, trace_same}
+use Rattle.open_world.specs.Laws.{moved, unit_renumbered}
 use Rattle.open_world.proofs.Alike.{Alike, IsKept, quiet_alike, then_alike, alone_alike, under_alike, match_alike, pin_alike, tie_alike, group_alike}
 use Rattle.open_world.proofs.Alike.{weighed_alike, opened_alike, start_alike, units_alike}
 use Rattle.open_world.proofs.Told.{Any}

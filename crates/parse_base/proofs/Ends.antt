@@ -1,10 +1,10 @@
 -- A place past the end is the end, and what is read is the longest.
-use Rattle.std.proofs.Common.{◌≡◌, ℕ, zero, suc, ◌+◌, ◌≤◌, ◌<◌, ◌⊎◌, inl, inr, min, List, [], ◌∷◌, length, drop, map, Option, Some, None, refl, sym}
+use Rattle.std.proofs.Common.{◌≡◌, ℕ, zero, suc, ◌+◌, ◌≤◌, ◌⊎◌, inl, inr, min, List, [], ◌∷◌, length, drop, map, Some, None, refl, sym}
 use Rattle.std.proofs.Common.{ap, ◌∙◌, arith, length-drop}
 use Rattle.std.proofs.lemmas.List.{length-map}
 use Rattle.rotor_base.specs.declared.token.Class.{Class}
 use Rattle.rotor_base.specs.declared.token.Token.{Token}
-use Rattle.ml_trees.specs.Tok.{Tok, toks_from}
+use Rattle.ml_trees.specs.Tok.{toks_from}
 use Rattle.ml_trees.specs.Tree.{Pat}
 use Rattle.parse_base.specs.PatReading.{read_pat}
 use Rattle.parse_base.specs.Longest.{IsLongestPat, BeginsNoPat}

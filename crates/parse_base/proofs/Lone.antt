@@ -1,5 +1,5 @@
 -- A chain with a further part is a chain, and one without is its first part.
-use Rattle.std.proofs.Common.{◌≡◌, ℕ, ◌<◌, List, [], ◌∷◌, length, map, cond, Option, Some, None, refl, ap, arith}
+use Rattle.std.proofs.Common.{◌≡◌, ◌<◌, List, [], ◌∷◌, length, map, cond, Option, None, refl, ap, arith}
 use Rattle.ml_trees.specs.declared.word.Word.{Word}
 use Rattle.ml_trees.specs.declared.word.ValueName.{ValueName}
 use Rattle.ml_trees.specs.declared.pattern.Pat.{Pat}
@@ -7,9 +7,9 @@ use Rattle.ml_trees.specs.declared.pattern.Pat.TheVariants as pat_v
 use Rattle.ml_trees.specs.declared.pattern.Pat.TheBlock as pat_b
 use Rattle.ml_trees.specs.declared.pattern.PatField.{PatField}
 use Rattle.ml_trees.specs.declared.word.Path.{Path}
-use Rattle.ml_trees.specs.Tok.{Name, Tok}
+use Rattle.ml_trees.specs.Tok.{Tok}
 use Rattle.ml_trees.specs.Tree as pure
-use Rattle.ml_trees.specs.View.{view_word, view_words, view_name, view_names, view_pat, view_pat_field, pats, pat_fields}
+use Rattle.ml_trees.specs.View.{view_names, view_pat, view_pat_field, pats, pat_fields}
 use Rattle.parse_base.specs.PatReading.{grown_as, grown_or, grown_tuple, grown_cons, applied_to, can_apply}
 use Rattle.parse_base.proofs.Turns.{before}
 

@@ -6,7 +6,7 @@ use Rattle.std.proofs.lemmas.Bool.{eqb-true, eqb-false}
 use Rattle.rotor_base.specs.declared.token.Token.{Token}
 use Rattle.parse_base.specs.declared.depth.Mark.{Mark}
 use Rattle.parse_base.specs.declared.depth.Role.{Role}
-use Rattle.parse_base.specs.Nesting.{down_to, without_last, last_is, where_last, after, marks, nesting, role_at, role_before}
+use Rattle.parse_base.specs.Nesting.{down_to, after, marks, nesting, role_at, role_before}
 
 pub reversed_push : (xs : List Mark) (x : Mark) → reverse (xs ++ x ∷ []) ≡ x ∷ reverse xs
 reversed_push xs x = reverse-append xs (x ∷ [])

@@ -1,17 +1,16 @@
 -- The tokens from a place on, and what is at the place.
-use Rattle.std.proofs.Common.{◌≡◌, ℕ, zero, suc, ◌+◌, ◌≤◌, ◌<◌, ◌⊎◌, inl, inr, min, List, [], ◌∷◌, length, drop, map, Bool, true, false, Option, Some}
-use Rattle.std.proofs.Common.{None, refl, sym, ap, ◌∙◌, arith, get_or, length-drop}
-use Rattle.std.proofs.lemmas.List.{length-map, drop_more, drop_all}
+use Rattle.std.proofs.Common.{◌≡◌, ℕ, zero, suc, ◌+◌, ◌≤◌, ◌<◌, ◌⊎◌, inl, inr, List, [], ◌∷◌, length, drop, map, Bool, true, false, Option, Some}
+use Rattle.std.proofs.Common.{None, refl, sym, ap, ◌∙◌, arith, get_or}
+use Rattle.std.proofs.lemmas.List.{drop_more, drop_all}
 use Rattle.std.proofs.lemmas.Bool.{eqb-false}
 use Rattle.rotor_base.specs.declared.token.Class.{Class}
 use Rattle.rotor_base.specs.declared.token.Class.TheVariants as class
 use Rattle.rotor_base.specs.declared.token.Token.{Token}
 use Rattle.ml_trees.specs.declared.fixed.Fixed.{Fixed}
-use Rattle.ml_trees.specs.Tok.{Name, Tok, fixed, placed, word, same, code, fixed_of, fixed_at, is_placed, tok, tok_or, toks_from}
+use Rattle.ml_trees.specs.Tok.{Tok, word, same, code, fixed_of, tok, tok_or, toks_from}
 use Rattle.parse_base.specs.declared.tokens.Kind.{Kind}
 use Rattle.parse_base.specs.declared.tokens.Kind.TheVariants as kind
-use Rattle.parse_base.specs.Steps.{expect, expect_at}
-use Rattle.parse_base.specs.Gives.{text_at, head_text, name_at, kind_or, kind_of, Sees, IsThere, starts}
+use Rattle.parse_base.specs.Gives.{text_at, head_text, kind_or, kind_of, Sees, IsThere}
 use Rattle.parse_base.specs.Tokens.{lexeme, from}
 use Rattle.parse_base.proofs.Stepping.{same_is}
 

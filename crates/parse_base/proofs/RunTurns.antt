@@ -7,7 +7,7 @@ use Rattle.ml_trees.specs.declared.word.Word.{Word}
 use Rattle.ml_trees.specs.View.{view_tok}
 use Rattle.rotor_base.specs.declared.token.Token.{Token}
 use Rattle.parse_base.specs.Tokens.{from}
-use Rattle.parse_base.proofs.Places.{from_drop, from_end, from_next}
+use Rattle.parse_base.proofs.Places.{from_drop}
 use Rattle.ml_trees.specs.declared.fixed.Fixed.{Fixed}
 use Rattle.ml_trees.specs.Tok.{Tok}
 use Rattle.ml_trees.specs.Runs.{bracketing, after_bracket}

@@ -1,8 +1,8 @@
 -- Reading parts one after the other, as a loop does.
-use Rattle.std.proofs.Common.{◌≡◌, ℕ, zero, suc, ◌-◌, ◌+◌, ◌≤◌, ◌<◌, List, [], ◌∷◌, ◌++◌, Bool, true, false, Option, Some, None, map, refl, sym, ap}
+use Rattle.std.proofs.Common.{◌≡◌, ℕ, suc, ◌-◌, ◌+◌, ◌≤◌, ◌<◌, List, [], ◌∷◌, ◌++◌, Bool, true, false, Some, None, map, refl, sym, ap}
 use Rattle.std.proofs.Common.{◌∙◌, arith}
 use Rattle.ml_trees.specs.Tok.{Tok}
-use Rattle.parse_base.specs.Steps.{Read, turn, many}
+use Rattle.parse_base.specs.Steps.{Read, many}
 
 -- these, and then more
 abbrev pub before : {A L : Type 0} → (A → L → L) → List A → L → L

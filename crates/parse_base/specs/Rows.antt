@@ -1,5 +1,5 @@
 -- Small tests and readings of tokens, as the code makes them (own).
-use Rattle.std.specs.Prelude.{ℕ, List, [], ◌∷◌, Bool, true, false, ◌||◌, codes}
+use Rattle.std.specs.Prelude.{ℕ, List, [], ◌∷◌, Bool, false, ◌||◌, codes}
 use Rattle.std.specs.Str.{bytes_eq}
 use Rattle.ml_trees.specs.Tok.{Name, Tok}
 use Rattle.ml_trees.specs.Tree.{Pat}

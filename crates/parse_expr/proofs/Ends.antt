@@ -1,5 +1,5 @@
 -- What is read from the tokens of the code is the longest.
-use Rattle.std.proofs.Common.{◌≡◌, ℕ, ◌+◌, ◌≤◌, min, List, length, Some, None, ap, ◌∙◌, arith}
+use Rattle.std.proofs.Common.{◌≡◌, ℕ, ◌+◌, min, List, length, Some, None, ap, ◌∙◌, arith}
 use Rattle.rotor_base.specs.declared.token.Token.{Token}
 use Rattle.ml_trees.specs.Tree.{Expr}
 use Rattle.parse_base.specs.Tokens.{from}

@@ -1,8 +1,8 @@
 -- Expressions of one kind, and operators of one level.
-use Rattle.std.proofs.Common.{◌≡◌, ℕ, ◌<◌, List, [], ◌∷◌, length, Bool, true, false, cond, ◌==◌, Option, Some, None, refl, sym, ap, ◌∙◌, arith}
+use Rattle.std.proofs.Common.{◌≡◌, ℕ, ◌<◌, List, [], ◌∷◌, length, Bool, true, false, cond, Option, Some, None, refl, sym, ap, ◌∙◌, arith}
 use Rattle.std.specs.Str.{bytes_eq}
 use Rattle.std.specs.Prelude.{codes}
-use Rattle.std.specs.Global.{Vec, Box}
+use Rattle.std.specs.Global.{Vec}
 use Rattle.rotor_base.specs.declared.token.Class.TheVariants as class
 use Rattle.ml_trees.specs.declared.word.Word.{Word}
 use Rattle.ml_trees.specs.declared.word.Path.{Path}
@@ -13,8 +13,8 @@ use Rattle.ml_trees.specs.declared.expression.Argument.TheBlock as t
 use Rattle.ml_trees.specs.declared.fixed.Fixed.TheVariants as key
 use Rattle.ml_trees.specs.Tok.{Name, Tok, fixed, placed, word}
 use Rattle.ml_trees.specs.Tree as pure
-use Rattle.ml_trees.specs.View.{view, view_word, view_words, view_path}
-use Rattle.ml_trees.specs.WellFormed.{is_bare, is_bracketed, is_operator, op_level, keyword_level, infix_level, begins_among, begins_power}
+use Rattle.ml_trees.specs.View.{view, view_words}
+use Rattle.ml_trees.specs.WellFormed.{is_bare, is_bracketed, is_operator, op_level, infix_level, begins_among, begins_power}
 use Rattle.parse_base.specs.Steps.{Read, ◌>>=◌, expect}
 use Rattle.parse_base.specs.Pieces.{operator_at}
 use Rattle.parse_base.specs.Gives.{starts}

@@ -12,7 +12,7 @@ use Rattle.std.proofs.lemmas.List.{length-map, get_or-map}
 use Rattle.std.proofs.lemmas.Option.{slice_get_within, slice_get-get_or, get_or_from_slice_get}
 use Rattle.std.proofs.lemmas.Slice.Eq.{bytes_eq-Decides}
 use Rattle.rotor_base.specs.Files as files
-use Rattle.rotor_base.specs.Files.{FileSet, IsProject, are_twins, doubled_units, double_unit, least_word, lesser}
+use Rattle.rotor_base.specs.Files.{FileSet, are_twins, doubled_units, double_unit, least_word, lesser}
 use Rattle.rotor_base.specs.declared.refusal.LoadError.TheVariants.{DoubleUnit}
 use Rattle.rotor_base.specs.declared.source.SourceFile.{SourceFile}
 use Rattle.rotor_base.specs.declared.unit.SourceUnit.{SourceUnit}

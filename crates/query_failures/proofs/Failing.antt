@@ -1,5 +1,5 @@
 -- The failures that are told, by what they are told from.
-use Rattle.std.proofs.Common.{◌≡◌, ◌∙◌, List, Option, Result, Ok, Err, IfOk, ap, subst, sym}
+use Rattle.std.proofs.Common.{◌≡◌, ◌∙◌, List, Option, Result, IfOk, ap, subst}
 use Rattle.std.proofs.lemmas.Result.{IfOk-weaker}
 use Rattle.serde_json.specs.Data.{Data}
 use Rattle.rotor_base.specs.Files.{FileSet, names_of}
@@ -16,8 +16,8 @@ use Rattle.explain.specs.Says.{SaysRename}
 use Rattle.explain.specs.declared.told.Told.{Told}
 use Rattle.lsp_answers.specs.declared.answer.ErrorCode.{ErrorCode}
 use Rattle.lsp_answers.specs.declared.answer.Failure.{Failure}
-use Rattle.std.specs.Prelude.{Bool, false}
-use Rattle.query_failures.specs.Failure.{IsFailure, IsNoted, IsSaid}
+use Rattle.std.specs.Prelude.{false}
+use Rattle.query_failures.specs.Failure.{IsNoted, IsSaid}
 use Rattle.query_failures.specs.Folder.{IsProjectFailure, folder_sentence}
 use Rattle.query_failures.specs.Renaming.{IsRenamingFailure, first_sentence}
 

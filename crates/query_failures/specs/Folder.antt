@@ -1,5 +1,5 @@
 -- The failures of folders that are refused (own).
-use Rattle.std.specs.Prelude.{List, [], Option, None, Some, codes, map}
+use Rattle.std.specs.Prelude.{List, [], Option, None, Some, codes}
 use Rattle.rotor_base.specs.Files.{FileSet, names_of}
 use Rattle.rotor_base.specs.declared.refusal.LoadError.{LoadError}
 use Rattle.rotor_base.specs.declared.refusal.Refusal.{Refusal}

@@ -1,5 +1,5 @@
 -- An accepted renaming is undone by the renaming back.
-use Rattle.std.proofs.Common.{◌<◌, ◌≤◌, ◌≡◌, ◌⊎◌, inl, inr, ◌||◌, ℕ, suc, List, [], ◌∷◌, Bool, true, false, true≢false, length, Option}
+use Rattle.std.proofs.Common.{◌<◌, ◌≤◌, ◌≡◌, ◌⊎◌, inl, inr, ◌||◌, List, Bool, true, false, true≢false, length, Option}
 use Rattle.std.proofs.Common.{Some, None, refl, ap, sym, subst, ◌∙◌, slice_get}
 use Rattle.std.specs.Prelude.{IsTrue}
 use Rattle.rotor_base.specs.Name.{is_value_name}
@@ -17,10 +17,9 @@ use Rattle.rotor_base.specs.declared.report.Renamed.{Renamed}
 use Rattle.rotor_base.specs.declared.source.SourceFile.{SourceFile}
 use Rattle.rotor_base.specs.declared.target.Target.TheVariants.{At}
 use Rattle.rotor_base.specs.Files.{names_of, FileSet, are_over}
-use Rattle.ml_lexer.specs.Lexed.{Lexeme}
 use Rattle.ml_syntax.specs.Places.{Site}
 use Rattle.ml_syntax.specs.RespelledSource.{AreRespelled}
-use Rattle.ml_trees.specs.Tree.{FileTree, UnitTree}
+use Rattle.ml_trees.specs.Tree.{UnitTree}
 use Rattle.shape_core.specs.Shape.{Name}
 use Rattle.dependency_kernel.specs.Foot.{IsFoot}
 use Rattle.dependency_kernel.specs.Foot as links
@@ -30,7 +29,6 @@ use Rattle.binding_model.specs.Renaming.{renaming}
 use Rattle.binding_model.specs.Renaming.{places, at_place, site_name, name_of, IsFixedSite, in_file}
 use Rattle.capture_check.specs.Fault.{IsMet, IsLeastRepeat, IsFirstDiffering, of_ref, of_link, before}
 use Rattle.project_reading.specs.Reads.{Reads}
-use Rattle.project_reading.specs.Sources.{ReadAll, AreCut}
 use Rattle.project_reading.proofs.Cut.{all_cut}
 use Rattle.respelled_reading.proofs.Back.{renamed_back_are_the_files}
 use Rattle.renamed_sources.proofs.Limits.{nothing_is_over}

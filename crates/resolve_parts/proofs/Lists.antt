@@ -1,5 +1,5 @@
 -- Rows of parts, as steps.
-use Rattle.std.proofs.Common.{◌≡◌, ℕ, List, refl, ap, ◌∙◌}
+use Rattle.std.proofs.Common.{◌≡◌, ℕ, List, refl, ap}
 use Rattle.ml_syntax.specs.Places.{Site}
 use Rattle.ml_trees.specs.Tree.{Pats, no_pat, more_pat}
 use Rattle.binding_model.specs.Scopes.{bound}

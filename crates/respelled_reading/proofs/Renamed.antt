@@ -19,7 +19,7 @@ use Rattle.ml_syntax.specs.Each.{Each}
 use Rattle.binding_model.specs.Facts.{facts}
 use Rattle.binding_model.specs.Renaming.{renaming}
 use Rattle.binding_model.specs.Renaming as model
-use Rattle.binding_model.specs.Renaming.{Renaming, places, at_place, in_file, goal_at, new_word, words_of, IsFixedSite}
+use Rattle.binding_model.specs.Renaming.{Renaming, places, at_place, in_file, goal_at, new_word, IsFixedSite}
 use Rattle.binding_model.specs.Steps.{refs_of}
 use Rattle.binding_model.specs.Walk.{steps}
 use Rattle.binding_model.proofs.LastEntries.{same_is}

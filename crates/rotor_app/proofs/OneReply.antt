@@ -1,5 +1,5 @@
 -- A command over a folder has at most one reply.
-use Rattle.std.proofs.Common.{◌≡◌, ◌<◌, ◌≤◌, ℕ, List, [], ◌∷◌, Bool, false, Option, Some, None, Result, Ok, Err, length, map, flat_map, codes, refl}
+use Rattle.std.proofs.Common.{◌≡◌, ◌<◌, ◌≤◌, ℕ, List, [], Bool, false, Option, Some, None, Result, Ok, Err, length, codes, refl}
 use Rattle.std.proofs.Common.{sym, ap, subst, ◌∙◌, arith}
 use Rattle.std.specs.FinMap.{get}
 use Rattle.rotor_base.specs.Files.{FileSet, names_of}
@@ -12,8 +12,6 @@ use Rattle.rotor_base.specs.declared.report.Outcome.TheVariants as outcome
 use Rattle.rotor_base.specs.declared.report.SampleReport.{SampleReport}
 use Rattle.rotor_base.specs.declared.source.SourceFile.{SourceFile}
 use Rattle.rotor_base.specs.declared.target.Target.{Target}
-use Rattle.report.specs.Lines.{number_line}
-use Rattle.report.specs.Text.{ended}
 use Rattle.tree_io.specs.Outside.{FileMap}
 use Rattle.project_load.specs.Load.{loaded}
 use Rattle.project_load.specs.Listed.{Lists}

@@ -1,16 +1,14 @@
 -- The last value of a list that a test accepts.
 use Rattle.std.proofs.lemmas.List.{drop_more, length-take-le, take-append-drop}
-use Rattle.std.proofs.Common.{◌≡◌, ℕ, suc, ◌+◌, ◌-◌, ◌<◌, ◌≤◌, Bool, true, List, [], ◌∷◌, ◌++◌, length, take, drop, get_or, Option, Some, None, refl, sym}
+use Rattle.std.proofs.Common.{◌≡◌, ℕ, ◌+◌, ◌-◌, ◌<◌, ◌≤◌, Bool, true, List, [], ◌∷◌, ◌++◌, length, take, drop, get_or, Option, Some, None, sym}
 use Rattle.std.proofs.Common.{ap, ◌∙◌, arith}
 use Rattle.rotor_base.specs.declared.place.Place.{Place}
 use Rattle.rotor_base.specs.declared.place.Goal.{Goal}
 use Rattle.shape_core.specs.declared.shared.SharedEntry.{SharedEntry}
 use Rattle.shape_core.specs.declared.shared.SharedEntry.TheVariants as e
-use Rattle.shape_core.specs.Node.{entries_of, and_then}
-use Rattle.shape_core.specs.Shape.{Name, Shape, none, or_else, some_if, darks, last_place, decl_of}
+use Rattle.shape_core.specs.Node.{entries_of}
+use Rattle.shape_core.specs.Shape.{Name, none, or_else, some_if, darks, decl_of}
 use Rattle.shape_core.specs.Looks.{Test, Spot, moved, last_where, some_place}
-use Rattle.shape_core.proofs.Lists.{or_else_none, or_else_assoc, darks-append, last_place-append}
-use Rattle.shape_core.proofs.Shown.{entries_of-append}
 
 abbrev spot : ℕ → Place → ℕ → Option Spot
 spot n p k = Some (n, p, k)

@@ -1,9 +1,7 @@
 -- `check` and `footprint` answer the same.
-use Rattle.std.proofs.Common.{◌≡◌, inl, inr, Ok, Err, ap, ◌∙◌}
-use Rattle.rotor_base.specs.declared.report.Counts.{Counts}
+use Rattle.std.proofs.Common.{inl, inr, Ok, Err, ap, ◌∙◌}
 use Rattle.binding_model.specs.Facts.{facts}
 use Rattle.rename_model.specs.Project.{binder_count}
-use Rattle.rename_files.specs.Answer.{Shown}
 use Rattle.token_laws.specs.Laws.{ChecksAreTheSame, FootprintsAreTheSame}
 use Rattle.token_laws.proofs.Files.{accepts_the_same, aims_the_same, as_many, no_target_the_same, rejects_the_same}
 use Rattle.std.proofs.Common.{ℕ, length}

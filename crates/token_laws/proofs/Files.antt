@@ -1,12 +1,11 @@
 -- Files of the same tokens are read as the same project, or refused for the same reason, and targets name the same.
-use Rattle.std.proofs.Common.{◌≡◌, ℕ, suc, inl, inr, List, [], ◌∷◌, Bool, true, false, cond, Option, Some, None, option_map, map, length}
+use Rattle.std.proofs.Common.{◌≡◌, ℕ, suc, inl, inr, List, [], ◌∷◌, Bool, true, false, cond, Some, option_map, map, length}
 use Rattle.std.proofs.Common.{refl, ap, sym, subst, ◌∙◌}
 use Rattle.std.specs.Prelude.{bytes_eq}
 use Rattle.std.specs.BTreeSet.{insert_key}
 use Rattle.std.specs.Cmp.Lexicographic.{slice_cmp}
 use Rattle.std.specs.Ordering.{nat_cmp}
 use Rattle.rotor_base.specs.Files.{FileSet}
-use Rattle.rotor_base.specs.Stem.{is_body_name}
 use Rattle.rotor_base.specs.Unit.{unit_of}
 use Rattle.rotor_base.specs.declared.place.Place.{Place}
 use Rattle.rotor_base.specs.declared.refusal.Refusal.{Refusal}
@@ -15,14 +14,13 @@ use Rattle.rotor_base.specs.declared.target.Target.{Target}
 use Rattle.ml_trees.specs.Tree.{FileTree, UnitTree}
 use Rattle.shape_core.specs.Shape.{Name}
 use Rattle.unit_order.specs.Order.{order_of, takes_all}
-use Rattle.project_reading.specs.Reads.{Reads, Unread, AreStuck}
+use Rattle.project_reading.specs.Reads.{Unread, AreStuck}
 use Rattle.project_reading.specs.Units.{in_order, is_part, part_of, unit_from, unit_names, units_of}
-use Rattle.rename_model.specs.Project.{refusals_of_project}
 use Rattle.rename_model.specs.Renaming.{HasNoTarget}
 use Rattle.rename_model.specs.Target.{Aims, Names, number_of}
 use Rattle.rename_model.proofs.One.{one_name}
 use Rattle.rotor_base.specs.declared.refusal.Refusal.TheVariants as refusal
-use Rattle.rotor_base.specs.declared.target.Target.TheVariants.{At, Spot, Dotted}
+use Rattle.rotor_base.specs.declared.target.Target.TheVariants.{Spot}
 use Rattle.rename_files.specs.Answer.{Accepts, Rejects}
 use Rattle.token_laws.specs.Tokens.{AllHaveSameTokens, DifferInBlanks, NameTheSame, by_number, by_path, by_spot}
 use Rattle.token_laws.specs.Laws.{ReadingsAreTheSame}

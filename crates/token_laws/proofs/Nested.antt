@@ -1,14 +1,10 @@
 -- The nesting depends on the kinds and texts of tokens.
 use Rattle.std.proofs.Common.{◌≡◌, ◌<◌, ◌≤◌, ◌+◌, ℕ, zero, suc, List, [], ◌∷◌, Option, Some, None, map, drop, length, refl, ap, sym, subst, ◌∙◌}
 use Rattle.rotor_base.specs.Limits.{max_nesting}
-use Rattle.rotor_base.specs.declared.token.Class.{Class}
-use Rattle.rotor_base.specs.declared.token.Token.{Token}
 use Rattle.ml_lexer.specs.Lexed.{Lexeme}
-use Rattle.ml_trees.specs.Tok.{Tok, toks_from}
-use Rattle.parse_base.specs.declared.depth.Role.{Role}
-use Rattle.parse_base.specs.declared.depth.Mark.{Mark}
+use Rattle.ml_trees.specs.Tok.{toks_from}
 use Rattle.parse_base.specs.Tokens.{from, lexeme}
-use Rattle.parse_base.specs.Nesting.{after, first_role, marks, nesting, role_at, role_before, IsFirstDeep}
+use Rattle.parse_base.specs.Nesting.{after, first_role, marks, nesting, role_at, role_before}
 use Rattle.project_reading.specs.Source.{tokens_of, IsDeepAt}
 use Rattle.token_laws.specs.Tokens.{texts_of}
 

@@ -16,12 +16,10 @@ use Rattle.shape_core.specs.Shape.{Name}
 use Rattle.dependency_kernel.proofs.Only.{is_the_only}
 use Rattle.binding_model.specs.Facts.{facts}
 use Rattle.binding_model.specs.Renaming.{renaming}
-use Rattle.capture_check.specs.Fault.{IsMet, before}
-use Rattle.project_reading.specs.Reads.{Reads}
 use Rattle.project_reading.proofs.OneReading.{one_project, read_or_refused}
 use Rattle.rename_model.specs.Foot.{IsTheFoot, hits}
 use Rattle.rename_model.specs.Project.{refusals_of_project}
-use Rattle.rename_model.specs.Renaming.{ForTarget, HasNoTarget, refusals_of_binder, watch_of}
+use Rattle.rename_model.specs.Renaming.{HasNoTarget, refusals_of_binder, watch_of}
 use Rattle.rename_model.specs.Report.{IsRenaming, hit_files}
 use Rattle.rename_model.specs.Target.{Aims}
 use Rattle.rename_model.proofs.One.{one_binder, targets_have_one_goal}
@@ -30,10 +28,10 @@ use Rattle.rename_files.proofs.One.{one_check}
 use Rattle.rename_laws.proofs.Accepted.{renamable}
 use Rattle.rename_laws.proofs.Kept.{gives}
 use Rattle.token_laws.specs.Tokens.{AllHaveSameTokens, DifferInBlanks, DoTheSame, NameTheSame}
-use Rattle.token_laws.specs.Laws.{IsGrownAnswer, RenamingsAreTheSame, SayTheSame}
+use Rattle.token_laws.specs.Laws.{IsGrownAnswer, RenamingsAreTheSame}
 use Rattle.token_laws.proofs.Files.{accepts_the_same, aims_the_same, differ_turned, no_target_the_same, readings_are_the_same, rejects_the_same}
 use Rattle.token_laws.proofs.Files.{target_turned}
-use Rattle.token_laws.proofs.Ladders.{Bare, IsOfGrowth, none_without, without}
+use Rattle.token_laws.proofs.Ladders.{IsOfGrowth, none_without, without}
 use Rattle.token_laws.proofs.Respelled.{renamed_again}
 
 -- ---- one files' refusals

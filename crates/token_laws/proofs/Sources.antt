@@ -1,8 +1,7 @@
 -- Sources of the same tokens are read as the same trees, or refused for the same reason.
-use Rattle.std.proofs.Common.{◌≡◌, ℕ, suc, inl, inr, List, [], ◌∷◌, Option, Some, None, refl, ap, sym, subst, ◌∙◌}
+use Rattle.std.proofs.Common.{◌≡◌, ℕ, suc, inl, inr, List, [], ◌∷◌, Option, Some, None, ap, sym, subst, ◌∙◌}
 use Rattle.rotor_base.specs.declared.refusal.Refusal.{Refusal}
 use Rattle.rotor_base.specs.declared.source.SourceFile.{SourceFile}
-use Rattle.rotor_base.specs.declared.token.FormKind.{FormKind}
 use Rattle.ml_lexer.specs.Lexed.{Lexeme, Lexed}
 use Rattle.ml_lexer.proofs.OneCutting.{one_lexed, not_both}
 use Rattle.ml_syntax.specs.RespelledFile.{lexeme_toks}

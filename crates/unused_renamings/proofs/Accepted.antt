@@ -1,5 +1,5 @@
 -- A renaming to a name that nothing has is accepted if nothing is hidden.
-use Rattle.std.proofs.Common.{◌≡◌, inl, inr, List, length, refl}
+use Rattle.std.proofs.Common.{inl, inr, length, refl}
 use Rattle.rotor_base.specs.declared.refusal.Refusal.{Refusal}
 use Rattle.rotor_base.specs.declared.report.Renamed.{Renamed}
 use Rattle.binding_model.specs.Facts.{facts}

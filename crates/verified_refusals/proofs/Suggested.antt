@@ -1,6 +1,6 @@
 -- What the words of respelled files suggest is the renaming.
-use Rattle.std.proofs.Common.{◌≡◌, ◌≢◌, ◌||◌, ◌⊎◌, inl, inr, ℕ, List, [], ◌∷◌, Bool, true, false, cond, Option, Some, None, map, filter, Contains}
-use Rattle.std.proofs.Common.{refl, ap, sym, subst, ◌∙◌, unwrap_or, arith}
+use Rattle.std.proofs.Common.{◌≡◌, ◌||◌, ◌⊎◌, inl, inr, ℕ, List, [], ◌∷◌, Bool, true, false, cond, Option, Some, None, map, Contains}
+use Rattle.std.proofs.Common.{refl, ap, sym, subst, ◌∙◌, unwrap_or}
 use Rattle.std.specs.Prelude.{IsTrue}
 use Rattle.rotor_base.specs.Files.{FileSet, IsProject, names_of}
 use Rattle.rotor_base.specs.declared.place.Goal.{Goal}

@@ -1,6 +1,6 @@
 -- A fault of `rename` is the verdict of `verify` on the respelled files.
 use Rattle.std.proofs.Common.{◌≡◌, inl, inr, List, Result, Ok, Err, refl, ap, sym, subst}
-use Rattle.rotor_base.specs.Files.{FileSet, IsProject}
+use Rattle.rotor_base.specs.Files.{FileSet}
 use Rattle.rotor_base.specs.declared.place.Foot.{Foot}
 use Rattle.rotor_base.specs.declared.place.Place.{Place}
 use Rattle.rotor_base.specs.declared.refusal.Refusal.{Refusal}
@@ -26,9 +26,8 @@ use Rattle.rename_verify.specs.declared.verdict.Verdict.TheVariants.{Yes, No}
 use Rattle.rename_verify.specs.declared.verdict.Why.{Why}
 use Rattle.rename_verify.specs.declared.verdict.Why.TheVariants.{Broken}
 use Rattle.rename_verify.specs.Laws.{AreSameAnswers}
-use Rattle.rename_verify.specs.Verdict.{reasons}
 use Rattle.rename_verify.proofs.One.{verdicts_are_one}
-use Rattle.verified_refusals.specs.Laws.{AreRespelledTo, FaultsAreVerdicts, FaultsAreTheOnlyVerdicts, FaultsHaveFiles}
+use Rattle.verified_refusals.specs.Laws.{FaultsAreVerdicts, FaultsAreTheOnlyVerdicts, FaultsHaveFiles}
 use Rattle.verified_refusals.proofs.Late.{no_fault_rejects, has_target, is_fault_of, faulted}
 use Rattle.verified_refusals.proofs.Refused.{is_giving}
 use Rattle.verified_refusals.proofs.Suggested.{is_reason}

@@ -1,5 +1,5 @@
 -- A renaming without the entries that an earlier one of the same place hides.
-use Rattle.std.proofs.Common.{◌≡◌, ◌⊎◌, inl, inr, List, [], ◌∷◌, Bool, true, false, cond, not, Some, Contains, filter, refl, ap, sym, subst, ◌∙◌}
+use Rattle.std.proofs.Common.{◌≡◌, inl, inr, List, [], ◌∷◌, Bool, true, false, cond, not, Some, Contains, filter, refl, ap, sym, subst, ◌∙◌}
 use Rattle.rotor_base.specs.Place.{same_place}
 use Rattle.rotor_base.specs.declared.place.Place.{Place}
 use Rattle.shape_core.specs.Shape.{Name, or_else, some_if}

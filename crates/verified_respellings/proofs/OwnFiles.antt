@@ -1,5 +1,5 @@
 -- Two maps of words that give the name of each place of a project the same word respell its sources alike.
-use Rattle.std.proofs.Common.{◌≡◌, ◌⊎◌, inl, inr, ℕ, suc, ◌+◌, ◌<◌, List, [], ◌∷◌, Bool, true, false, Some, Contains, length, refl, ap, sym, subst, ◌∙◌, arith}
+use Rattle.std.proofs.Common.{◌≡◌, ◌⊎◌, inl, inr, ℕ, suc, ◌<◌, List, [], ◌∷◌, Bool, true, false, Some, Contains, length, ap, sym, subst, ◌∙◌, arith}
 use Rattle.rotor_base.specs.Files.{FileSet, IsProject}
 use Rattle.rotor_base.specs.Files as files
 use Rattle.rotor_base.specs.Stem.{is_body_name}

@@ -4,7 +4,7 @@ use Rattle.rotor_base.specs.Files.{FileSet, IsProject}
 use Rattle.rotor_base.specs.declared.source.SourceFile.{SourceFile}
 use Rattle.rotor_base.specs.declared.token.Class.{Class}
 use Rattle.rotor_base.specs.declared.token.Class.TheVariants as class
-use Rattle.ml_lexer.specs.Lexed.{Lexeme, Lexed}
+use Rattle.ml_lexer.specs.Lexed.{Lexeme}
 use Rattle.ml_lexer.specs.Respelled.{respelled, respelled_lexemes, respelled_lexemes_from}
 use Rattle.ml_lexer.proofs.Back.{respelled_back}
 use Rattle.ml_lexer.proofs.OneCutting.{one_lexed}

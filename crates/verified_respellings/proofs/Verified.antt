@@ -1,10 +1,9 @@
 -- Files that are validly renamed, and the verdicts on them.
-use Rattle.std.proofs.Common.{◌≡◌, ◌≢◌, zero, suc, List, [], ◌∷◌, Bool, true, false, Contains, Ok, map, refl, ap, sym, subst, ◌∙◌, arith}
+use Rattle.std.proofs.Common.{◌≡◌, ◌≢◌, zero, suc, List, [], ◌∷◌, Bool, true, false, Contains, Ok, refl, ap, sym, subst, arith}
 use Rattle.std.proofs.lemmas.Slice.Eq.{bytes_eq-Decides}
 use Rattle.std.specs.Str.{bytes_eq}
 use Rattle.rotor_base.specs.Files.{FileSet, IsProject}
 use Rattle.rotor_base.specs.declared.place.Place.{Place}
-use Rattle.rotor_base.specs.declared.source.SourceFile.{SourceFile}
 use Rattle.ml_syntax.specs.RespelledSource.{AreRespelled}
 use Rattle.ml_syntax.specs.Sound.{IsSound}
 use Rattle.ml_trees.specs.Tree.{UnitTree}
@@ -14,7 +13,7 @@ use Rattle.binding_model.specs.Renaming.{Renaming, in_file, name_of, respell, wo
 use Rattle.project_reading.proofs.Cut.{all_cut}
 use Rattle.project_reading.proofs.OneReading.{one_project}
 use Rattle.project_reading.proofs.Soundness.{read_is_sound}
-use Rattle.respelled_reading.specs.Renamed.{AreRenamed, GivesValueNames}
+use Rattle.respelled_reading.specs.Renamed.{GivesValueNames}
 use Rattle.respelled_reading.proofs.Renamed.{changes_places}
 use Rattle.renamed_sources.proofs.Respelling.{renamed_keep_names}
 use Rattle.valid_renamings.proofs.Together.{at_contains}

@@ -1,5 +1,5 @@
 -- Files that are validly renamed are validly renamed back.
-use Rattle.std.proofs.Common.{◌≡◌, ◌⊎◌, inl, inr, ℕ, zero, suc, List, [], ◌∷◌, Bool, true, false, ◌||◌, Option, Some, None, Contains, length, refl, ap, sym, subst}
+use Rattle.std.proofs.Common.{◌≡◌, ◌⊎◌, inl, inr, suc, List, [], ◌∷◌, Bool, true, false, ◌||◌, Option, Some, None, Contains, length, refl, ap, sym, subst}
 use Rattle.std.proofs.Common.{◌∙◌, arith}
 use Rattle.std.specs.Prelude.{IsTrue}
 use Rattle.rotor_base.specs.Files.{FileSet, IsProject}
@@ -9,7 +9,6 @@ use Rattle.rotor_base.specs.declared.place.Facts.{Facts}
 use Rattle.rotor_base.specs.declared.place.Goal.{Goal}
 use Rattle.rotor_base.specs.declared.place.Goal.TheVariants.{Decl, Outside, Missing, Hidden, Blur}
 use Rattle.rotor_base.specs.declared.place.Place.{Place}
-use Rattle.rotor_base.specs.declared.place.Ref.{Ref}
 use Rattle.rotor_base.specs.declared.refusal.Refusal.{Refusal}
 use Rattle.rotor_base.specs.declared.refusal.Refusal.TheVariants as refusal
 use Rattle.ml_syntax.specs.Places.{Site}
@@ -18,9 +17,8 @@ use Rattle.ml_trees.specs.Tree.{UnitTree}
 use Rattle.shape_core.specs.Respell.{Words, over}
 use Rattle.shape_core.specs.Shape.{Name, or_else, or_value, some_if}
 use Rattle.binding_model.specs.Facts.{facts, unmatched, unmatched_items, least, IsGood}
-use Rattle.binding_model.specs.Renaming.{Renaming, places, at_place, site_name, name_of, goal_at, new_word, words_of, respell, in_file, IsFixedSite, IsValid}
+use Rattle.binding_model.specs.Renaming.{Renaming, places, at_place, site_name, name_of, goal_at, new_word, words_of, respell, IsFixedSite, IsValid}
 use Rattle.binding_model.specs.Sums.{heavy}
-use Rattle.binding_model.proofs.LastEntries.{same_is}
 use Rattle.binding_model.proofs.NamesSpelled.{spelled_at}
 use Rattle.binding_model.proofs.Sounds.{same_self}
 use Rattle.binding_model.proofs.Staying.{places_stay}
@@ -34,7 +32,7 @@ use Rattle.respelled_reading.specs.Renamed.{AreRenamed, GivesValueNames}
 use Rattle.respelled_reading.proofs.Renamed.{changes_places, renamed_files_are_read}
 use Rattle.renamed_sources.proofs.ValueNames.{names_are_value_names}
 use Rattle.rename_model.specs.Ladder.{no_more}
-use Rattle.rename_model.specs.Project.{IsDuplicate, IsHeavy, IsUnmatched, refusals_of_project}
+use Rattle.rename_model.specs.Project.{IsDuplicate, IsHeavy, IsUnmatched}
 use Rattle.rename_files.specs.Answer.{Accepts}
 use Rattle.rename_laws.proofs.Free.{none_heavy, none_repeats, none_unmatched}
 use Rattle.rename_laws.proofs.Ladder.{none_met}

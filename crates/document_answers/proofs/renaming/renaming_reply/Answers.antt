@@ -1,7 +1,6 @@
 use Rattle.std.proofs.Common.{List, subst}
 use Rattle.std.proofs.lemmas.Result.{IfOk-weaker}
 use Rattle.ml_trees.specs.View.{view_project}
-use Rattle.report.specs.Pieces.{Word}
 use Rattle.rotor_base.specs.declared.source.SourceFile.{SourceFile}
 use Rattle.lsp_answers.specs.declared.answer.ErrorCode.TheVariants as code
 use Rattle.query_failures.specs.Failure.{IsSaid}

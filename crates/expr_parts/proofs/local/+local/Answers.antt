@@ -3,7 +3,7 @@ use Rattle.ml_trees.specs.Tree as pure
 use Rattle.parse_base.specs.Steps.{always}
 use Rattle.parse_base.specs.Tokens.{from}
 use Rattle.expr_reading.specs.ExprReading as r
-use Rattle.expr_reading.specs.ExprReading.{read_expr, read_local}
+use Rattle.expr_reading.specs.ExprReading.{read_local}
 use Rattle.expr_parts.specs.Rows.{local_of}
 use Rattle.parse_base.proofs.Turns.{turn_none, turn_end, pushed}
 use Rattle.expr_parts.proofs.Rows.{locals_before}

@@ -1,4 +1,4 @@
-use Rattle.std.proofs.Common.{◌≡◌, refl, ◌+◌, ◌∷◌, drop, take, sym, ap, ◌∙◌, length, arith}
+use Rattle.std.proofs.Common.{refl, ◌+◌, ◌∷◌, drop, take, sym, ap, ◌∙◌, length, arith}
 use Rattle.std.proofs.lemmas.List.{drop_more, drop_all}
 use Rattle.ml_trees.specs.declared.word.Word.{Word}
 use Rattle.ml_trees.specs.declared.expression.Expr.{Expr}

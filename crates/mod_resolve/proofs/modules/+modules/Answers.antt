@@ -1,4 +1,4 @@
-use Rattle.std.proofs.Common.{◌≡◌, ◌≤◌, refl, ◌+◌, [], ◌∷◌, ◌++◌, append_assoc, drop, take, sym, ap, ◌∙◌, length, arith}
+use Rattle.std.proofs.Common.{◌≡◌, ◌≤◌, ◌+◌, [], ◌∷◌, ◌++◌, append_assoc, drop, take, sym, ap, ◌∙◌, length, arith}
 use Rattle.std.proofs.lemmas.List.{drop_more, drop_all}
 use Rattle.ml_trees.specs.declared.module.Item.{Item}
 use Rattle.ml_trees.specs.declared.module.SigItem.{SigItem}

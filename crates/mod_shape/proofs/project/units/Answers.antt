@@ -1,10 +1,10 @@
-use Rattle.std.proofs.Common.{◌≡◌, ◌+◌, List, ◌∷◌, drop, sym, ap, ◌∙◌, length, map, arith}
+use Rattle.std.proofs.Common.{◌≡◌, ◌+◌, List, ◌∷◌, drop, sym, ap, ◌∙◌, map, arith}
 use Rattle.std.proofs.lemmas.List.{drop_more}
 use Rattle.ml_trees.specs.declared.module.UnitTree.{UnitTree}
 use Rattle.ml_trees.specs.View.{view_unit}
 use Rattle.shape_core.specs.Shape.{◌⊕◌, a_mod, none}
 use Rattle.shape_core.specs.Node.{entries_of}
-use Rattle.binding_model.specs.Scopes.{unit_shape, after_unit, after_units}
+use Rattle.binding_model.specs.Scopes.{after_unit, after_units}
 use Rattle.binding_model.specs.Taken.{taken, Going}
 use Rattle.binding_model.specs.Walk.{units_steps}
 use Rattle.binding_model.proofs.Takings.{heavy_stays}

@@ -1,4 +1,4 @@
-use Rattle.std.proofs.Common.{◌≡◌, None, map}
+use Rattle.std.proofs.Common.{None, map}
 use Rattle.ml_trees.specs.View.{view_project, view_unit}
 use Rattle.shape_core.specs.Node.{entries_of}
 use Rattle.binding_model.specs.Walk.{units_steps}

@@ -1,4 +1,4 @@
-use Rattle.std.proofs.Common.{◌≡◌, ◌+◌, ◌≤◌, length, take, reverse}
+use Rattle.std.proofs.Common.{◌≡◌, ◌+◌, length, take, reverse}
 use Rattle.parse_base.specs.Nesting.{down_to}
 use Rattle.parse_base.specs.Stops.{test_of}
 use Rattle.parse_base.proofs.depth.kept.Given as goal

@@ -1,5 +1,5 @@
-use Rattle.std.proofs.Common.{◌≡◌, ℕ, ◌+◌, ◌≤◌, ◌<◌, length, reverse, refl, sym, ap, ◌∙◌, arith}
-use Rattle.parse_base.specs.Nesting.{marks, nesting}
+use Rattle.std.proofs.Common.{◌+◌, refl, ◌∙◌, arith}
+use Rattle.parse_base.specs.Nesting.{marks}
 use Rattle.parse_base.proofs.MarkSteps.{one_more_token, behind_next, no_marks, shallow_none, shallow_more, nesting_is}
 use Rattle.parse_base.proofs.depth.scan_depth.Goals as goal
 

@@ -1,12 +1,10 @@
-use Rattle.std.proofs.Common.{◌≡◌, ◌-◌, ◌∷◌, [], List, Some, None, map, refl, ap, ◌∙◌}
-use Rattle.ml_trees.specs.Tok.{Name}
+use Rattle.std.proofs.Common.{◌-◌, ◌∷◌, [], map}
 use Rattle.ml_trees.specs.Tree as pure
 use Rattle.ml_trees.specs.declared.fixed.Fixed.TheVariants as key
-use Rattle.ml_trees.specs.View.{view_word, view_name, view_pat, view_pat_field}
+use Rattle.ml_trees.specs.View.{view_word}
 use Rattle.parse_base.specs.Steps.{many, always}
-use Rattle.parse_base.specs.Pieces.{dot_upper, upper_dot}
+use Rattle.parse_base.specs.Pieces.{upper_dot}
 use Rattle.parse_base.specs.PatReading as r
-use Rattle.parse_base.specs.PatReading.{read_pat}
 use Rattle.parse_base.specs.Tokens.{from}
 use Rattle.parse_base.proofs.Turns.{Left}
 use Rattle.parse_base.proofs.names.qualifiers.Given as goal

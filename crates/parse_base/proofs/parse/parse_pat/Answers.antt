@@ -1,4 +1,3 @@
-use Rattle.std.proofs.Common.{◌≡◌, Err}
 use Rattle.ml_trees.specs.View.{view_pat}
 use Rattle.parse_base.proofs.Ends.{longest_pat, no_pattern}
 use Rattle.parse_base.proofs.parse.parse_pat.Goals as goal

@@ -1,4 +1,4 @@
-use Rattle.std.proofs.Common.{◌≡◌, ℕ, suc, ◌-◌, ◌<◌, ap, arith}
+use Rattle.std.proofs.Common.{arith}
 use Rattle.parse_base.specs.PatReading.{read_pat}
 use Rattle.parse_base.specs.Tokens.{from}
 use Rattle.parse_base.proofs.Turns.{deeper}

@@ -1,8 +1,7 @@
-use Rattle.std.proofs.Common.{◌≡◌, ℕ, ◌+◌, ◌-◌, ◌<◌, ◌≤◌, List, [], ◌∷◌, reverse, Some, None, refl, sym, ap, ◌∙◌, arith}
+use Rattle.std.proofs.Common.{◌≡◌, ◌+◌, ◌-◌, List, reverse, Some, sym, ap, ◌∙◌, arith}
 use Rattle.ml_trees.specs.declared.fixed.Fixed.{Fixed}
 use Rattle.parse_base.specs.Pieces.{longest}
 use Rattle.parse_base.specs.RunRows.{is_inside, is_beside, is_first, first_after, run_length, counted, or_later, count_after}
-use Rattle.parse_base.specs.Gives.{Gives}
 use Rattle.parse_base.specs.Tokens.{from}
 use Rattle.parse_base.proofs.Places.{from_end, from_next}
 use Rattle.parse_base.proofs.RunTurns.{run_ends, run_stops, run_goes_on, run_begins, run_begins_not, count_at_once, count_least, steps_on, steps_off}

@@ -1,4 +1,4 @@
-use Rattle.std.proofs.Common.{◌≡◌, Err, Some, ap, sym, ◌∙◌}
+use Rattle.std.proofs.Common.{Some, ap, sym, ◌∙◌}
 use Rattle.ml_trees.specs.declared.expression.Expr.{Expr}
 use Rattle.parse_base.specs.Tokens.{from}
 use Rattle.ml_trees.specs.View.{view}

@@ -1,4 +1,4 @@
-use Rattle.std.proofs.Common.{◌≡◌, ◌∙◌, Option, IfSome, ap, string_bytes, subst}
+use Rattle.std.proofs.Common.{◌∙◌, Option, ap, string_bytes, subst}
 use Rattle.std.proofs.lemmas.Result.{IfOk-weaker}
 use Rattle.tree_io.specs.Outside.{FileMap}
 use Rattle.open_documents.specs.Documents.{documents}

@@ -1,4 +1,4 @@
-use Rattle.std.proofs.Common.{◌≡◌, ◌∙◌, ℕ, List, Option, IfNone, IfSome, ap, string_bytes, subst, sym}
+use Rattle.std.proofs.Common.{◌∙◌, ℕ, List, Option, IfNone, IfSome, ap, string_bytes, subst, sym}
 use Rattle.std.proofs.lemmas.Result.{IfOk-weaker}
 use Rattle.rotor_base.specs.Stem.{is_source_name}
 use Rattle.document_uris.specs.Uris.{IsFile}

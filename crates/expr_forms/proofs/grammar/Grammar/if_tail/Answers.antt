@@ -3,7 +3,7 @@ use Rattle.ml_trees.specs.Tree as pure
 use Rattle.ml_trees.specs.View.{view, tail_before}
 use Rattle.parse_base.specs.Tokens.{from}
 use Rattle.expr_reading.specs.ExprReading as r
-use Rattle.expr_reading.specs.ExprReading.{read_expr, read_local}
+use Rattle.expr_reading.specs.ExprReading.{read_expr}
 use Rattle.expr_parts.specs.Rows.{branch_of}
 use Rattle.expr_forms.specs.Forms.{otherwise_of}
 use Rattle.parse_base.proofs.Turns.{before, turn_none, turn_end, turn_off, pushed, pushed_last, before_last}

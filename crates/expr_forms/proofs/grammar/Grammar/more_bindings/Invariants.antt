@@ -4,7 +4,7 @@ use Rattle.ml_trees.specs.View.{view_binding}
 use Rattle.parse_base.specs.Steps.{many, always}
 use Rattle.parse_base.specs.Tokens.{from}
 use Rattle.expr_reading.specs.ExprReading as r
-use Rattle.expr_reading.specs.ExprReading.{read_expr, read_local}
+use Rattle.expr_reading.specs.ExprReading.{read_expr}
 use Rattle.parse_base.proofs.Turns.{Left}
 use Rattle.expr_forms.proofs.grammar.Grammar.more_bindings.Given as goal
 

@@ -3,7 +3,7 @@ use Rattle.ml_trees.specs.Tree as pure
 use Rattle.ml_trees.specs.View.{view_case}
 use Rattle.parse_base.specs.Tokens.{from}
 use Rattle.expr_reading.specs.ExprReading as r
-use Rattle.expr_reading.specs.ExprReading.{read_expr, read_local}
+use Rattle.expr_reading.specs.ExprReading.{read_expr}
 use Rattle.parse_base.proofs.Turns.{turn_none, turn_end, pushed, pushed_last}
 use Rattle.expr_parts.proofs.Rows.{cases_before}
 use Rattle.expr_forms.proofs.grammar.Grammar.more_cases.Goals as goal

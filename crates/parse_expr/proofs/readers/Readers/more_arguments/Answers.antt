@@ -4,7 +4,7 @@ use Rattle.ml_trees.specs.View.{view_argument}
 use Rattle.parse_base.specs.Steps.{always}
 use Rattle.parse_base.specs.Tokens.{from}
 use Rattle.expr_reading.specs.ExprReading as r
-use Rattle.expr_reading.specs.ExprReading.{read_expr, read_local}
+use Rattle.expr_reading.specs.ExprReading.{read_expr}
 use Rattle.parse_base.proofs.Turns.{turn_none, turn_end, pushed}
 use Rattle.expr_parts.proofs.Rows.{arguments_before}
 use Rattle.parse_expr.proofs.readers.Readers.more_arguments.Goals as goal

@@ -3,7 +3,7 @@ use Rattle.ml_trees.specs.Tree as pure
 use Rattle.ml_trees.specs.View.{view_field}
 use Rattle.parse_base.specs.Tokens.{from}
 use Rattle.expr_reading.specs.ExprReading as r
-use Rattle.expr_reading.specs.ExprReading.{read_expr, read_local}
+use Rattle.expr_reading.specs.ExprReading.{read_expr}
 use Rattle.parse_base.proofs.Turns.{turn_none, turn_end, pushed, pushed_last}
 use Rattle.expr_parts.proofs.Rows.{fields_before}
 use Rattle.parse_expr.proofs.readers.Readers.more_fields.Goals as goal

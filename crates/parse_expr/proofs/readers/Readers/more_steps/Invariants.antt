@@ -3,7 +3,7 @@ use Rattle.ml_trees.specs.Tree as pure
 use Rattle.parse_base.specs.Steps.{many}
 use Rattle.parse_base.specs.Tokens.{from}
 use Rattle.expr_reading.specs.ExprReading as r
-use Rattle.expr_reading.specs.ExprReading.{read_expr, read_local}
+use Rattle.expr_reading.specs.ExprReading.{read_expr}
 use Rattle.expr_parts.specs.Rows.{link_of}
 use Rattle.expr_parts.specs.Rows.{item_of}
 use Rattle.parse_base.proofs.Turns.{Left}
