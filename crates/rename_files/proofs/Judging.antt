@@ -24,7 +24,7 @@ use Rattle.rename_model.specs.Bytes.{position_with}
 use Rattle.rename_model.specs.Foot.{hits}
 use Rattle.rename_model.specs.Renaming.{watch_of, renamed_words, IsGrown, refusals_of_binder}
 use Rattle.rename_model.proofs.One.{one_sources}
-use Rattle.watched.specs.Members.{HasPlaces}
+use Rattle.shape_core.specs.Places.{HasPlaces}
 use Rattle.rename_steps.specs.Findings.{IsFree, IsRefused}
 use Rattle.rename_steps.specs.Sources.{AreMade}
 use Rattle.rename_steps.proofs.Bridge.{watched, all_made}

@@ -14,11 +14,11 @@ ghost use Rattle.binding_model.specs.Renaming.{IsBinder};
 ghost use Rattle.binding_model.specs.Local.{IsWatched};
 ghost use Rattle.binding_model.specs.Renaming.{name_of, in_file};
 ghost use Rattle.binding_model.specs.Sums.{heavy};
+ghost use Rattle.shape_core.specs.Places.{HasPlaces};
 ghost use Rattle.project_reading.specs.Sources.{AreCut};
 ghost use Rattle.rename_model.specs.Bytes.{position_with};
 ghost use Rattle.rename_model.specs.Foot.{hits};
 ghost use Rattle.rename_model.specs.Renaming.{refusals_of_binder, renamed_words};
-ghost use Rattle.rename_parts.specs.Members.{IsSetOf};
 ghost use Rattle.rename_steps.specs.Sources.{AreMade};
 ghost use Rattle.rename_project.specs.Steps.{IsRefusedFor, IsFreeOf};
 ghost use Rattle.rename_files.specs.Steps.{LastRungs};
@@ -57,7 +57,7 @@ pub fn judge(
     requires binds { IsBinder (view_project read.now.project) binder }
     requires foot { IsFoot (facts_of (view_project read.now.project)).links binder watch.now.foot }
     requires old { watch.now.old ≡ name_of (view_project read.now.project) binder }
-    requires members { IsSetOf watch.now.foot members.now }
+    requires members { HasPlaces watch.now.foot.decls members.now }
     ensures places { IfOk result (λ done. done.places.items ≡ hits (facts_of (view_project read.now.project)).refs watch.now.foot) }
     ensures sources { IfOk result (λ done. AreRespelled (in_file (renamed_words (view_project read.now.project) watch.now)) 0 files.now.entries done.sources.items) }
     ensures small { IfOk result (λ done. position_with are_over done.sources.items ≡ None) }

@@ -13,7 +13,7 @@ use Rattle.ml_trees.specs.Tree.{FileTree, Body, Face}
 use Rattle.binding_model.specs.Scopes.{here}
 use Rattle.binding_model.specs.Renaming.{placed_sites, file_places}
 use Rattle.capture_check.specs.Tables.{number_of}
-use Rattle.watched.specs.Members.{HasPlaces}
+use Rattle.shape_core.specs.Places.{HasPlaces}
 use Rattle.rename_parts.specs.declared.checks.Hit.{Hit}
 use Rattle.rename_parts.specs.Hits.{hit_of, hits_in}
 use Rattle.rename_parts.specs.Members.{HasFiles}

@@ -7,3 +7,4 @@ pub mod Hitting
 pub mod Words
 pub mod Blurring
 pub mod Filing
+pub mod References

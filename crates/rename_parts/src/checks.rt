@@ -11,7 +11,7 @@ ghost use Rattle.binding_model.specs.Scopes.{here};
 ghost use Rattle.rename_parts.specs.Hits.{all_hits, hits_in};
 ghost use Rattle.rename_parts.specs.Leasts.{IsLeastOrNone};
 ghost use Rattle.rename_parts.specs.Members.{HasFiles};
-ghost use Rattle.watched.specs.Members.{HasPlaces};
+ghost use Rattle.shape_core.specs.Places.{HasPlaces};
 ghost use Rattle.rename_parts.specs.declared.checks.Hit.{Hit};
 
 use crate::binders::number_of_file;

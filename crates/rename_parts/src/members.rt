@@ -5,10 +5,11 @@ ghost use Rattle.std.specs.BTreeSet.{contains};
 ghost use Rattle.std.specs.List.{list_any};
 ghost use Rattle.std.specs.Ordering.{nat_cmp};
 ghost use Rattle.rotor_base.specs.declared.place.Foot.{Foot};
+ghost use Rattle.shape_core.specs.Places.{HasPlaces};
 ghost use Rattle.rename_model.specs.Foot.{hits, refs_to};
-ghost use Rattle.rename_parts.specs.Members.{IsSetOf, leads_into};
 
-use rotor_base::{Foot, Goal, Memory, Place, Ref};
+use rotor_base::{Foot, Memory, Place, Ref};
+use shape_core::is_among;
 use std::alloc::Global;
 use std::collections::BTreeSet;
 
@@ -19,13 +20,13 @@ pub fn hit_places(
     foot: &Foot,
     members: &BTreeSet<Place>,
 ) -> Result<Vec<Place>, Memory>
-    requires { IsSetOf foot.now members.now }
+    requires { HasPlaces foot.now.decls members.now }
     ensures { IfOk result (λ list. list.items ≡ hits refs.now foot.now) }
 {
     let mut list = Vec::new(alloc);
     list.extend_from_slice(foot.decls.as_slice())?;
     for reference in refs {
-        if leads_into(reference.goal, members) {
+        if is_among(reference.goal, members) {
             list.push(reference.at)?;
         }
     }
@@ -34,25 +35,15 @@ pub fn hit_places(
 
 /// The number of references to members of a footprint.
 pub fn count_refs(refs: &[Ref], members: &BTreeSet<Place>) -> u64
-    ensures { (foot : Foot) → IsSetOf foot members.now → result ≡ length (refs_to foot refs.now) }
+    ensures { (foot : Foot) → HasPlaces foot.decls members.now → result ≡ length (refs_to foot refs.now) }
 {
     let mut count: u64 = 0;
     for reference in refs {
-        if leads_into(reference.goal, members) {
+        if is_among(reference.goal, members) {
             count += 1;
         }
     }
     count
-}
-
-/// Whether a goal is the declaration of a member.
-fn leads_into(goal: Goal, members: &BTreeSet<Place>) -> bool
-    ensures { result ≡ leads_into members.now goal }
-{
-    match goal {
-        Goal::Decl(place) => members.contains(&place),
-        _ => false,
-    }
 }
 
 /// The numbers of the files of some places. `Memory` is the only error.

@@ -27,8 +27,7 @@ use Rattle.rename_parts.specs.declared.checks.Hit.{Hit}
 use Rattle.rename_parts.specs.Blurs.{in_set, behind_in, item_in, blurred_item, place_if, BlursRef, BlursLink}
 use Rattle.rename_parts.specs.Hits.{hit_of, hits_in, all_hits}
 use Rattle.rename_parts.specs.Leasts.{IsLeastOrNone}
-use Rattle.watched.specs.Members.{HasPlaces}
-use Rattle.rename_parts.specs.Members.{IsSetOf}
+use Rattle.shape_core.specs.Places.{HasPlaces}
 use Rattle.rename_parts.proofs.Earliest.{least_same}
 use Rattle.rename_steps.proofs.Having.{Has, has_as, has_left, has_right, has_split, has_mapped, has_unmapped, has_filtered, has_unfiltered, has_any}
 use Rattle.rename_steps.proofs.Having.{any_has, has_contained, contained_has, has_each}
@@ -185,7 +184,7 @@ module _ (us : List UnitTree) (foot : Foot) (set : BTreeSet Place) (sound : IsSo
 
 -- ---- what outside modules hide
 
-module _ (fs : Facts) (foot : Foot) (set : BTreeSet Place) (has : IsSetOf foot set) where
+module _ (fs : Facts) (foot : Foot) (set : BTreeSet Place) (has : HasPlaces foot.decls set) where
   member_if : (d q : Place) → in_set set d ≡ Some q → (d ≡ q) × IsIn foot d
   member_if d q h = by (contains place_cmp set d) refl h where
     by : (b : Bool) → contains place_cmp set d ≡ b → cond b (Some d) None ≡ Some q → (d ≡ q) × IsIn foot d

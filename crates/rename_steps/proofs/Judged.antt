@@ -18,15 +18,14 @@ use Rattle.rename_parts.specs.declared.checks.Hit.{Hit}
 use Rattle.rename_parts.specs.Blurs.{BlursRef, BlursLink}
 use Rattle.rename_parts.specs.Hits.{all_hits}
 use Rattle.rename_parts.specs.Leasts.{IsLeastOrNone}
-use Rattle.watched.specs.Members.{HasPlaces}
-use Rattle.rename_parts.specs.Members.{IsSetOf}
+use Rattle.shape_core.specs.Places.{HasPlaces}
 use Rattle.rename_steps.specs.declared.findings.Findings.{Findings}
 use Rattle.rename_steps.specs.Findings.{refusal_of}
 use Rattle.rename_steps.proofs.Found.{operator_met, operator_none, pun_least, blurred_least}
 use Rattle.rename_steps.proofs.Rungs.{told, Told}
 
 module _ (us : List UnitTree) (fs : Facts) (foot : Foot) (new old : Name) (members set : BTreeSet Place) (marks : List Hit) (sound : IsSound us)
-    (fs_is : fs ≡ facts us) (members_of : IsSetOf foot members) (places : HasPlaces (hits (facts us).refs foot) set)
+    (fs_is : fs ≡ facts us) (members_of : HasPlaces foot.decls members) (places : HasPlaces (hits (facts us).refs foot) set)
     (marks_are : marks ≡ all_hits set us) where
   -- what a scan says of its list, it says of the hits
   as_hits : (Q : List Hit → Type 0) → Q marks → Q (all_hits set us)

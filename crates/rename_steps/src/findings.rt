@@ -12,8 +12,7 @@ ghost use Rattle.rename_model.specs.Foot.{hits};
 ghost use Rattle.rename_parts.specs.declared.checks.Hit.{Hit};
 ghost use Rattle.rename_parts.specs.Blurs.{BlursRef, BlursLink};
 ghost use Rattle.rename_parts.specs.Leasts.{IsLeastOrNone};
-ghost use Rattle.watched.specs.Members.{HasPlaces};
-ghost use Rattle.rename_parts.specs.Members.{IsSetOf};
+ghost use Rattle.shape_core.specs.Places.{HasPlaces};
 ghost use Rattle.rename_steps.specs.Findings.{IsFree, IsRefused, refusal_of};
 
 use ml_trees::Project;
@@ -54,7 +53,7 @@ pub fn judge_foot(
 ) -> Result<Hits, Refusal>
     requires sound { IsSound (view_project project.now) }
     requires facts { facts.now ≡ facts_of (view_project project.now) }
-    requires members { IsSetOf watch.now.foot members.now }
+    requires members { HasPlaces watch.now.foot.decls members.now }
     ensures list { IfOk result (λ found. found.list.items ≡ hits (facts_of (view_project project.now)).refs watch.now.foot) }
     ensures set { IfOk result (λ found. HasPlaces (hits (facts_of (view_project project.now)).refs watch.now.foot) found.set) }
     ensures free { OnOk result ((d : Place) → watch.now.old ≡ name_of (view_project project.now) d → IsFree (view_project project.now) d watch.now.foot watch.now.new) }

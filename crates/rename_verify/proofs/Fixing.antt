@@ -20,7 +20,7 @@ use Rattle.binding_model.proofs.Telltale.{apart_of}
 use Rattle.rename_parts.specs.declared.checks.Hit.{Hit}
 use Rattle.rename_parts.specs.Hits.{all_hits, hit_of}
 use Rattle.rename_parts.specs.Leasts.{IsLeastOrNone}
-use Rattle.watched.specs.Members.{HasPlaces}
+use Rattle.shape_core.specs.Places.{HasPlaces}
 use Rattle.rename_steps.proofs.Found.{set_has, has_set, hits_down, hits_up, site_found}
 use Rattle.rename_steps.proofs.Having.{Has, has_as, has_mapped, has_unmapped, has_filtered, has_unfiltered, has_contained, contained_has, has_each}
 use Rattle.rename_verify.specs.Changed.{Changed}

@@ -8,7 +8,7 @@ ghost use Rattle.ml_trees.specs.View.{view_project};
 ghost use Rattle.binding_model.specs.Facts.{earlier, facts as facts_of};
 ghost use Rattle.binding_model.specs.Renaming.{places, at_place, IsFixedSite};
 ghost use Rattle.rename_parts.specs.Leasts.{IsLeastOrNone};
-ghost use Rattle.watched.specs.Members.{HasPlaces};
+ghost use Rattle.shape_core.specs.Places.{HasPlaces};
 ghost use Rattle.rename_verify.specs.Changed.{Changed};
 ghost use Rattle.rename_verify.specs.Fixed.{behind, fixed_by, fixed_by_link, fixed_by_ref, joined, HasFixedUses, IsLeastHeld};
 

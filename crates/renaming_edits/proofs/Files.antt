@@ -12,7 +12,7 @@ use Rattle.rotor_base.specs.Place.{same_place, place_cmp}
 use Rattle.ml_syntax.specs.RespelledSource.{Spellings, IsRespelled, AreRespelled}
 use Rattle.binding_model.specs.Scopes.{here}
 use Rattle.rename_model.specs.Report.{hit_files}
-use Rattle.watched.specs.Members.{HasPlaces}
+use Rattle.shape_core.specs.Places.{HasPlaces}
 
 -- an item within a list
 pub got : {X : Type 0} (xs : List X) (i : ℕ) → i < length xs → (x : X) × (slice_get xs i ≡ Some x)

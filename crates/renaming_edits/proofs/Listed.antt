@@ -15,7 +15,7 @@ use Rattle.ml_lexer.specs.Respelled.{respelled}
 use Rattle.ml_syntax.specs.RespelledSource.{Spellings}
 use Rattle.binding_model.specs.Facts.{facts as facts_of}
 use Rattle.binding_model.specs.Renaming.{in_file}
-use Rattle.watched.specs.Members.{HasPlaces}
+use Rattle.shape_core.specs.Places.{HasPlaces}
 use Rattle.rename_model.specs.Foot.{hits}
 use Rattle.rename_model.specs.Renaming.{watch_of, renamed_words}
 use Rattle.rename_model.specs.Report.{hit_files}

@@ -2,7 +2,7 @@
 
 ghost use Rattle.std.specs.Prelude.{◌≡◌, ◌<◌, ◌≤◌, All, IfErr, IfNone, IfOk, IfSome, OnOk, length};
 ghost use Rattle.rotor_base.specs.Limits.{max_file_bytes};
-ghost use Rattle.watched.specs.Members.{HasPlaces};
+ghost use Rattle.shape_core.specs.Places.{HasPlaces};
 ghost use Rattle.rename_model.specs.Foot.{hits};
 ghost use Rattle.renaming_edits.specs.Edits.{AreEdits, AreListed, IsDone, IsNoText, IsRefused, IsText};
 

@@ -5,16 +5,16 @@ use Rattle.std.proofs.lemmas.List.{append-nil, take-append-le}
 use Rattle.std.proofs.lemmas.Bool.{eqb-true}
 use Rattle.rotor_base.specs.declared.place.Place.{Place}
 use Rattle.rotor_base.specs.declared.place.Goal.{Goal}
-use Rattle.rotor_base.specs.declared.place.Goal.TheVariants.{Decl, Outside, Missing, Hidden, Blur}
 use Rattle.rotor_base.specs.declared.looks.Watch.{Watch}
 use Rattle.shape_core.specs.declared.shared.SharedEntry.{SharedEntry}
 use Rattle.shape_core.specs.declared.shared.SharedEntry.TheVariants as e
 use Rattle.shape_core.specs.declared.index.Spot.{Spot}
 use Rattle.shape_core.specs.declared.members.Members.{Members}
 use Rattle.shape_core.specs.Index.{moved, one_more, position_is, position_of}
-use Rattle.shape_core.specs.Members.{HasMembers, behind, behind_dark, dark_of, final, is_among, spot_at, spots_of}
+use Rattle.shape_core.specs.Members.{HasMembers, behind, behind_dark, dark_of, final, spot_at, spots_of}
+use Rattle.shape_core.specs.Places.{is_among}
 use Rattle.shape_core.specs.Looks as looks
-use Rattle.shape_core.specs.Looks.{last_where, in_foot, is_member, some_place}
+use Rattle.shape_core.specs.Looks.{last_where, in_foot, some_place}
 use Rattle.shape_core.specs.Node.{entries_of}
 use Rattle.shape_core.specs.Shape.{or_else, some_if, darks, decl_of}
 use Rattle.shape_core.proofs.Lists.{or_else_none}
@@ -119,13 +119,6 @@ final_first : (b : Bool) (s : Spot) (ss : List Spot) → final (cond b (s ∷ ss
 final_first true s ss = refl
 final_first false s ss = sym (or_else_none (final ss))
 
-same_test : (w : Watch) (g : Goal) → is_member w g ≡ is_among w.foot.decls g
-same_test w (Decl d) = refl
-same_test w Outside = refl
-same_test w Missing = refl
-same_test w Hidden = refl
-same_test w (Blur by n behind) = refl
-
 pub last_noted : (w : Watch) (es : List SharedEntry)
     → last_where (in_foot w) (entries_of es) ≡ looked (length (darks (entries_of es))) (final (spots_of w.foot.decls es))
 last_noted w [] = refl
@@ -134,8 +127,7 @@ last_noted w (e.Val x g ∷ es) =
     let n = length (darks (entries_of es)) in
     let ss = spots_of ds es in
     let here : Spot = record { goal = g; position = 0; darks = 0 } in
-    ap (λ o. or_else (looks.moved o) (some_if (is_member w g) (0, some_place (decl_of g), n))) (last_noted w es)
-    ∙ ap (λ b. or_else (looks.moved (looked n (final ss))) (some_if b (0, some_place (decl_of g), n))) (same_test w g)
+    ap (λ o. or_else (looks.moved o) (some_if (is_among ds g) (0, some_place (decl_of g), n))) (last_noted w es)
     ∙ past_value n (final ss) (is_among ds g) g
     ∙ ap (λ o. looked n (or_else o (some_if (is_among ds g) here))) (sym (final_moved ss))
     ∙ ap (looked n) (sym (final_first (is_among ds g) here (map behind ss)))

@@ -2,6 +2,7 @@ pub mod Shape
 pub mod Codes
 pub mod View
 pub mod Links
+pub mod Places
 pub mod Looks
 pub mod Node
 pub mod Index

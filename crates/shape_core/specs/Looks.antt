@@ -1,16 +1,14 @@
 -- Looks' part on the links of Match and Pin: what each look-up of the old or of the new name would
 -- find (own).
-use Rattle.std.specs.Prelude.{ℕ, suc, Bool, false, ◌||◌, ◌&&◌, not, is_some, List, [], ◌∷◌, length, Option, Some, None, bytes_eq}
-use Rattle.std.specs.List.{list_any}
-use Rattle.rotor_base.specs.Place.{same_place}
+use Rattle.std.specs.Prelude.{ℕ, suc, Bool, ◌||◌, ◌&&◌, not, is_some, List, [], ◌∷◌, length, Option, Some, None, bytes_eq}
 use Rattle.rotor_base.specs.declared.place.Place.{Place}
 use Rattle.rotor_base.specs.declared.place.Goal.{Goal}
-use Rattle.rotor_base.specs.declared.place.Goal.TheVariants.{Decl, Outside, Missing, Hidden, Blur}
 use Rattle.rotor_base.specs.declared.looks.Watch.{Watch}
 use Rattle.rotor_base.specs.declared.looks.LinkLook.{LinkLook}
 use Rattle.rotor_base.specs.declared.looks.Looks.{Looks}
 use Rattle.shape_core.specs.Shape.{Name, Shape, Entries, none, a_val, a_mod, a_mty, a_dark, or_else, some_if, darks, last_place, decl_of}
 use Rattle.shape_core.specs.Links.{matched, pin}
+use Rattle.shape_core.specs.Places.{is_among}
 
 -- a test of a value by its name and its goal
 abbrev pub Test : Type 0
@@ -18,11 +16,7 @@ Test = Name → Goal → Bool
 
 -- the goal is a member of the footprint
 abbrev pub is_member : Watch → Goal → Bool
-is_member w (Decl d) = list_any (same_place d) w.foot.decls
-is_member w Outside = false
-is_member w Missing = false
-is_member w Hidden = false
-is_member w (Blur by n behind) = false
+is_member w g = is_among w.foot.decls g
 
 -- a member of the footprint; another value of the old name; a value of the new name
 abbrev pub in_foot : Watch → Test

@@ -1,29 +1,13 @@
 -- The members of a footprint among the entries of a list (own).
-use Rattle.std.specs.Prelude.{◌≡◌, ◌≤◌, ℕ, suc, Bool, false, List, [], ◌∷◌, Option, Some, None, cond, length, map, take}
-use Rattle.std.specs.List.{list_any}
-use Rattle.std.specs.BTreeSet.{BTreeSet, contains}
-use Rattle.rotor_base.specs.Place.{place_cmp, same_place}
+use Rattle.std.specs.Prelude.{◌≡◌, ◌≤◌, ℕ, suc, List, [], ◌∷◌, Option, Some, None, cond, length, map, take}
 use Rattle.rotor_base.specs.declared.place.Place.{Place}
-use Rattle.rotor_base.specs.declared.place.Goal.{Goal}
-use Rattle.rotor_base.specs.declared.place.Goal.TheVariants.{Decl, Outside, Missing, Hidden, Blur}
 use Rattle.shape_core.specs.declared.shared.SharedEntry.{SharedEntry}
 use Rattle.shape_core.specs.declared.shared.SharedEntry.TheVariants as e
 use Rattle.shape_core.specs.declared.index.Spot.{Spot}
 use Rattle.shape_core.specs.declared.members.Members.{Members}
 use Rattle.shape_core.specs.Node.{entries_of}
 use Rattle.shape_core.specs.Shape.{darks, or_else}
-
--- the goal is one of some declarations
-abbrev pub is_among : List Place → Goal → Bool
-is_among ds (Decl d) = list_any (same_place d) ds
-is_among ds Outside = false
-is_among ds Missing = false
-is_among ds Hidden = false
-is_among ds (Blur by n behind) = false
-
--- the set has these declarations, and no more
-abbrev pub IsSetOf : List Place → BTreeSet Place → Type 0
-IsSetOf ds set = (p : Place) → contains place_cmp set p ≡ list_any (same_place p) ds
+use Rattle.shape_core.specs.Places.{is_among}
 
 -- one entry more in front, and one Dark entry more
 abbrev pub behind : Spot → Spot

@@ -13,6 +13,7 @@ mod sharing;
 pub use error::FactError;
 pub use index::{LookSpot, place_of};
 pub use kinds::Kind;
+pub use members::is_among;
 pub use scope::{Scope, darks_in, last_val_in, mod_in, mty_in, val_in};
 pub use shape::{
     Entry, GREATEST_WEIGHT, Shape, copy, find_mod, find_mty, find_val, visible, walk, weight,

@@ -6,7 +6,8 @@ ghost use Rattle.shape_core.specs.Shape as pure;
 ghost use Rattle.shape_core.specs.declared.shared.SharedEntry.{SharedEntry};
 ghost use Rattle.shape_core.specs.Node.{entries_of};
 ghost use Rattle.shape_core.specs.Looks as looks;
-ghost use Rattle.shape_core.specs.Members.{HasMembers, IsSetOf, dark_of, final, is_among, spot_at};
+ghost use Rattle.shape_core.specs.Members.{HasMembers, dark_of, final, spot_at};
+ghost use Rattle.shape_core.specs.Places.{HasPlaces, is_among};
 
 use crate::index::{LookSpot, Spot, is_spot, place_of};
 use crate::shared::SharedEntry;
@@ -67,7 +68,7 @@ impl Members {
 
     /// Notes the members among all entries of the list.
     pub fn note_all(&mut self, entries: &[SharedEntry], set: &BTreeSet<Place>) -> Result<(), Memory>
-        requires members { IsSetOf self.old.decls.items set.now }
+        requires members { HasPlaces self.old.decls.items set.now }
         requires has { HasMembers self.old entries.now }
         ensures has { HasMembers self.new entries.now }
         ensures same { self.new.decls ≡ self.old.decls }
@@ -81,7 +82,7 @@ impl Members {
 
     // Notes the next entry.
     fn note_next(&mut self, entries: &[SharedEntry], set: &BTreeSet<Place>) -> Result<(), Memory>
-        requires members { IsSetOf self.old.decls.items set.now }
+        requires members { HasPlaces self.old.decls.items set.now }
         requires has { HasMembers self.old entries.now }
         requires more { self.old.noted < length entries.now }
         ensures has { HasMembers self.new entries.now }
@@ -96,7 +97,7 @@ impl Members {
 
     // Adds what the next entry is.
     fn add(&mut self, entry: &SharedEntry, set: &BTreeSet<Place>) -> Result<(), Memory>
-        requires members { IsSetOf self.old.decls.items set.now }
+        requires members { HasPlaces self.old.decls.items set.now }
         ensures spots { OnOk result (self.new.spots.items ≡ self.old.spots.items ++ spot_at self.old.decls.items self.old.noted self.old.darks entry.now) }
         ensures darks { OnOk result (self.new.darks ≡ self.old.darks + dark_of entry.now) }
         ensures spots_kept { OnErr result (self.new.spots.items ≡ self.old.spots.items) }
@@ -106,7 +107,7 @@ impl Members {
     {
         match entry {
             SharedEntry::Val(_, goal) => {
-                if is_member(*goal, set) {
+                if is_among(*goal, set) {
                     self.spots.push(Spot {
                         goal: *goal,
                         position: self.noted,
@@ -157,9 +158,9 @@ impl Members {
     }
 }
 
-// Whether a goal is in a set of declarations.
-fn is_member(goal: Goal, set: &BTreeSet<Place>) -> bool
-    ensures { (decls : List Place) → IsSetOf decls set.now → result ≡ is_among decls goal }
+/// Whether a goal is the declaration at a place of a set. It takes no memory.
+pub fn is_among(goal: Goal, set: &BTreeSet<Place>) -> bool
+    ensures { (places : List Place) → HasPlaces places set.now → result ≡ is_among places goal }
 {
     match goal {
         Goal::Decl(place) => set.contains(&place),

@@ -4,7 +4,7 @@ ghost use Rattle.std.specs.Prelude.{◌≡◌, ◌≤◌, [], ◌∷◌, ◌++�
 ghost use Rattle.shape_core.specs.Looks as looks;
 ghost use Rattle.shape_core.specs.Shape as pure;
 ghost use Rattle.shape_core.specs.Node.{entries_of};
-ghost use Rattle.shape_core.specs.Members.{IsSetOf};
+ghost use Rattle.shape_core.specs.Places.{HasPlaces};
 ghost use Rattle.rotor_base.specs.declared.looks.Watch.{Watch};
 
 use crate::index::{Index, LookSpot};
@@ -119,7 +119,7 @@ impl Scope {
         decls: &[Place],
         set: &BTreeSet<Place>,
     ) -> Result<Option<LookSpot>, Memory>
-        requires { IsSetOf decls.now set.now }
+        requires { HasPlaces decls.now set.now }
         ensures found { IfOk result (λ spot. (w : Watch) → w.foot.decls ≡ decls.now → spot ≡ looks.last_where (looks.in_foot w) (entries_of self.old)) }
         ensures kept { self.new ≡ self.old }
     {

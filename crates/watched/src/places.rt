@@ -1,6 +1,6 @@
 // Sets of places.
 ghost use Rattle.std.specs.Prelude.{IfOk};
-ghost use Rattle.watched.specs.Members.{HasPlaces};
+ghost use Rattle.shape_core.specs.Places.{HasPlaces};
 
 use rotor_base::{Memory, Place};
 use std::alloc::Global;

@@ -5,7 +5,7 @@ ghost use Rattle.shape_core.specs.Node.{entries_of};
 
 use crate::places::set_of;
 use rotor_base::{Foot, Goal, Memory, Name, Place, Row, Watch};
-use shape_core::{LookSpot, Scope};
+use shape_core::{LookSpot, Scope, is_among};
 use std::alloc::Global;
 use std::collections::BTreeSet;
 use std::marker::Model;
@@ -19,7 +19,7 @@ pub struct Watched {
 
 impl Model for Watched {
     ghost use Rattle.rotor_base.specs.declared.looks.Watch.{Watch};
-    ghost use Rattle.watched.specs.Members.{HasPlaces};
+    ghost use Rattle.shape_core.specs.Places.{HasPlaces};
 
     ghost Value = { Watch };
 
@@ -53,10 +53,7 @@ impl Watched {
     pub fn is_member(&self, goal: Goal) -> bool
         ensures { result ≡ pure.is_member self.now goal }
     {
-        match goal {
-            Goal::Decl(place) => self.members.contains(&place),
-            _ => false,
-        }
+        is_among(goal, &self.members)
     }
 
     /// The last value of a scope that is a member of the footprint. The scope keeps what was found for the next call.

@@ -9,8 +9,7 @@ use Rattle.ml_trees.specs.View.{view_project}
 use Rattle.dependency_kernel.specs.Foot.{IsFoot}
 use Rattle.binding_model.specs.Facts.{facts}
 use Rattle.rename_model.specs.Foot.{refs_to}
-use Rattle.watched.specs.Members.{HasPlaces}
-use Rattle.rename_parts.specs.Members.{IsSetOf}
+use Rattle.shape_core.specs.Places.{HasPlaces}
 use Rattle.rename_files.specs.Answer.{Shows}
 use Rattle.rename_project.specs.Steps.{IsRefusedFor}
 use Rattle.rename_project.proofs.Refusals.{stopped}
@@ -46,7 +45,7 @@ returns-clause-shown c =
     let d = c.in_ok-aim.aim.place in
     let foot = c.in_ok-foot.foot in
     let fs = c.requires.facts in
-    let members : IsSetOf foot c.in_ok-members.members =
+    let members : HasPlaces foot.decls c.in_ok-members.members =
     subst (λ (ps : List Place). HasPlaces ps c.in_ok-members.members) c.as_slice.ensures c.in_ok-members.ensures in
     let refs : c.as_slice-2.result.now ≡ (facts us).refs = c.as_slice-2.ensures ∙ ap (λ (f : Facts). f.refs) fs in
     record {

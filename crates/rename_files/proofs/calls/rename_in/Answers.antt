@@ -15,8 +15,7 @@ use Rattle.binding_model.specs.Renaming.{in_file}
 use Rattle.rename_model.specs.Foot.{refs_to, hits}
 use Rattle.rename_model.specs.Report.{hit_files}
 use Rattle.rename_model.specs.Renaming.{watch_of, renamed_words, refusals_of_binder}
-use Rattle.watched.specs.Members.{HasPlaces}
-use Rattle.rename_parts.specs.Members.{IsSetOf}
+use Rattle.shape_core.specs.Places.{HasPlaces}
 use Rattle.rename_files.specs.Answer.{Renames}
 use Rattle.rename_project.specs.Steps.{IsRefusedFor, IsFreeOf}
 use Rattle.rename_project.proofs.Aimed.{mark_name}
@@ -98,7 +97,7 @@ returns-clause-done c =
     let is : IsFoot (facts us).links d foot = subst (λ (f : Facts). IsFoot f.links d foot) fs c.in_ok-foot.ensures.foot in
     let old = mark_name us d c.in_ok-aim.aim.mark c.in_ok-aim.ensures.mark in
     let watch = same_watch c.in_ok-aim.aim.mark.name _ c.in_ok-new.new new foot old c.in_ok-new.ensures in
-    let members : IsSetOf foot c.in_ok-members.members =
+    let members : HasPlaces foot.decls c.in_ok-members.members =
     subst (λ (ps : List Place). HasPlaces ps c.in_ok-members.members) c.as_slice.ensures c.in_ok-members.ensures in
     let refs : c.as_slice-2.result.now ≡ (facts us).refs = c.as_slice-2.ensures ∙ ap (λ (f : Facts). f.refs) fs in
     let sources : AreRespelled (in_file (renamed_words us (watch_of us d foot new))) 0 files.entries c.in_ok-judged.judged.sources.items =

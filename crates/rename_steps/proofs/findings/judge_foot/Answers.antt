@@ -5,7 +5,7 @@ use Rattle.rotor_base.specs.declared.place.Facts.{Facts}
 use Rattle.ml_trees.specs.View.{view_project}
 use Rattle.binding_model.specs.Facts.{facts}
 use Rattle.rename_model.specs.Foot.{hits}
-use Rattle.watched.specs.Members.{HasPlaces}
+use Rattle.shape_core.specs.Places.{HasPlaces}
 use Rattle.rename_steps.proofs.Judged.{judged}
 use Rattle.rename_steps.proofs.Rungs.{Told}
 use Rattle.rename_steps.proofs.findings.judge_foot.Goals as goal

@@ -1,7 +1,7 @@
 use Rattle.std.proofs.Common.{◌≡◌, ◌∙◌, ◌||◌, List, filter, map, subst}
 use Rattle.ml_trees.specs.View.{view_project}
 use Rattle.rename_parts.specs.declared.checks.Hit.{Hit}
-use Rattle.watched.specs.Members.{HasPlaces}
+use Rattle.shape_core.specs.Places.{HasPlaces}
 use Rattle.rename_verify.specs.Fixed.{HasFixedUses}
 use Rattle.rename_verify.proofs.Answered.{ok_more}
 use Rattle.rename_verify.proofs.Fixing.{has_fixed_uses}

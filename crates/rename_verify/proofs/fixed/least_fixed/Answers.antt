@@ -1,7 +1,7 @@
 use Rattle.std.proofs.Common.{◌∙◌, ap, subst}
 use Rattle.rotor_base.specs.declared.place.Facts.{Facts}
 use Rattle.ml_trees.specs.View.{view_project}
-use Rattle.watched.specs.Members.{HasPlaces}
+use Rattle.shape_core.specs.Places.{HasPlaces}
 use Rattle.rename_verify.specs.Fixed.{HasFixedUses, fixed_by}
 use Rattle.rename_verify.proofs.Fixing.{least_is}
 use Rattle.rename_verify.proofs.fixed.least_fixed.Goals as goal
