@@ -85,7 +85,7 @@ fn declared(alloc: Global, values: &[SharedEntry]) -> Result<Row<Place>, Memory>
 
 /// Ends a weighed site: `Heavy` if its shape, the sum of weights or the work so far is over its bound.
 pub fn weighed_site(found: &mut Found, at: Place, shape: &Shared) -> Result<(), FactError>
-    ensures done { HasTaken result found.old found.new (WeighedSite at shape.now) }
+    ensures taken { HasTaken result found.old found.new (WeighedSite at shape.now) }
     ensures heavy { HasStopped result found.old (WeighedSite at shape.now) }
 {
     let weight = weight_of(shape);
@@ -101,7 +101,7 @@ pub fn weighed_site(found: &mut Found, at: Place, shape: &Shared) -> Result<(), 
 
 /// Ends an opening site: `Heavy` if the weights that the unit has opened are over their bound.
 pub fn opened_site(found: &mut Found, at: Place, shape: &Shared) -> Result<(), FactError>
-    ensures done { HasTaken result found.old found.new (OpenedSite at shape.now) }
+    ensures taken { HasTaken result found.old found.new (OpenedSite at shape.now) }
     ensures heavy { HasStopped result found.old (OpenedSite at shape.now) }
 {
     let weight = weight_of(shape);
@@ -114,7 +114,7 @@ pub fn opened_site(found: &mut Found, at: Place, shape: &Shared) -> Result<(), F
 
 /// Ends an opening site of a module of which nothing is known: it opens no weight.
 pub fn opened_nothing(found: &mut Found, at: Place) -> Result<(), FactError>
-    ensures done { HasTaken result found.old found.new (OpenedSite at Opaque) }
+    ensures taken { HasTaken result found.old found.new (OpenedSite at Opaque) }
     ensures heavy { HasStopped result found.old (OpenedSite at Opaque) }
 {
     if found.sums.opened > MAX_OPENED {
