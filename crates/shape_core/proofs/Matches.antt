@@ -1,18 +1,11 @@
 -- Matches: their equations without the number of levels.
-use Rattle.std.proofs.Common.{◌≡◌, ℕ, zero, suc, ◌+◌, ◌<◌, ◌≤◌, List, [], ◌∷◌, ◌++◌, Option, Some, refl, ap, ◌∙◌, arith}
+use Rattle.std.proofs.Common.{◌≡◌, ℕ, zero, suc, ◌+◌, ◌<◌, ◌≤◌, List, ◌++◌, Option, Some, refl, ap, ◌∙◌, arith}
+use Rattle.std.proofs.lemmas.List.{append_assoc, append-nil}
 use Rattle.rotor_base.specs.declared.place.Goal.{Goal}
 use Rattle.shape_core.specs.Shape.{Name, Shape, Struct, Functor, Unitary, Opaque, Entries, none, a_val, a_mod, a_mty, a_dark, find_mod, find_mty}
 use Rattle.shape_core.specs.Shape.{unless_some, depth, depths}
 use Rattle.shape_core.specs.Links.{Trace, ◌&◌, nothing, a_step, one, or_empty, pin_vals, match_entries, match_step, match_to, matched}
 use Rattle.shape_core.proofs.Founds.{mod_or_empty, mty_or_empty}
-
-nil_right : {A : Type 0} (a : List A) → a ++ [] ≡ a
-nil_right [] = refl
-nil_right (x ∷ a) = ap (λ l. x ∷ l) (nil_right a)
-
-assoc : {A : Type 0} (a b c : List A) → (a ++ b) ++ c ≡ a ++ (b ++ c)
-assoc [] b c = refl
-assoc (x ∷ a) b c = ap (λ l. x ∷ l) (assoc a b c)
 
 abbrev made : {A : Type 0} → List A → ℕ → Trace A
 made l n = record { told = l; work = n }
@@ -22,13 +15,13 @@ pub then_assoc : {A : Type 0} (a b c : Trace A) → (a & b) & c ≡ a & (b & c)
 unfolding ◌&◌
 then_assoc a b c =
     let e : (a.work + b.work) + c.work ≡ a.work + (b.work + c.work) = omega arith in
-    ap (λ l. made l ((a.work + b.work) + c.work)) (assoc a.told b.told c.told) ∙ ap (λ n. made (a.told ++ (b.told ++ c.told)) n) e
+    ap (λ l. made l ((a.work + b.work) + c.work)) (append_assoc a.told b.told c.told) ∙ ap (λ n. made (a.told ++ (b.told ++ c.told)) n) e
 
 pub then_nothing : {A : Type 0} (a : Trace A) → a & nothing ≡ a
 unfolding ◌&◌
 then_nothing a =
     let e : a.work + 0 ≡ a.work = omega arith in
-    ap (λ l. made l (a.work + 0)) (nil_right a.told) ∙ ap (λ n. made a.told n) e
+    ap (λ l. made l (a.work + 0)) (append-nil a.told) ∙ ap (λ n. made a.told n) e
 
 pub nothing_then : {A : Type 0} (a : Trace A) → nothing & a ≡ a
 unfolding ◌&◌

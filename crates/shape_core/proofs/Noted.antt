@@ -1,8 +1,9 @@
 -- The members of a footprint in a list that grows at its end and is cut back.
-use Rattle.std.proofs.Common.{◌≡◌, ℕ, zero, suc, ◌+◌, ◌-◌, ◌<◌, ◌≤◌, ◌==◌, List, [], ◌∷◌, ◌++◌, Bool, true, false, cond, Option, Some, None, map, take}
+use Rattle.std.proofs.Common.{◌≡◌, ℕ, suc, ◌+◌, ◌-◌, ◌<◌, ◌≤◌, ◌==◌, List, [], ◌∷◌, ◌++◌, Bool, true, false, cond, Option, Some, None, map, take}
 use Rattle.std.proofs.Common.{length, get_or, slice_get, refl, ap, sym, subst, ◌∙◌, arith, length-append}
-use Rattle.std.proofs.lemmas.List.{append-nil, take-append-le}
-use Rattle.std.proofs.lemmas.Bool.{eqb-true}
+use Rattle.std.proofs.Math.Seq.{take-length}
+use Rattle.std.proofs.lemmas.List.{append-nil, length-take-le, map-append, take-append-le}
+use Rattle.std.proofs.lemmas.Bool.{eq-eqb, eqb-true}
 use Rattle.rotor_base.specs.declared.place.Place.{Place}
 use Rattle.rotor_base.specs.declared.place.Goal.{Goal}
 use Rattle.rotor_base.specs.declared.looks.Watch.{Watch}
@@ -22,10 +23,6 @@ use Rattle.shape_core.proofs.Looked.{looked, past_value, past_module, past_dark}
 use Rattle.shape_core.proofs.Telling.{taken}
 
 -- ---- one entry more at the end
-
-map_joined : {A B : Type 0} (f : A → B) (xs ys : List A) → map f (xs ++ ys) ≡ map f xs ++ map f ys
-map_joined f [] ys = refl
-map_joined f (x ∷ xs) ys = ap (λ l. f x ∷ l) (map_joined f xs ys)
 
 spot_behind : (ds : List Place) (n k : ℕ) (d : SharedEntry) → map behind (spot_at ds n k d) ≡ spot_at ds (suc n) k d
 spot_behind ds n k (e.Val x g) = by (is_among ds g)
@@ -67,24 +64,24 @@ spots_more ds (e.Val x g ∷ es) d =
     let n = length es in
     let k = length (darks (entries_of es)) in
     let rest : map behind (spots_of ds (es ++ d ∷ [])) ≡ map behind (spots_of ds es) ++ spot_at ds (suc n) k d =
-    ap (map behind) (spots_more ds es d) ∙ map_joined behind (spots_of ds es) (spot_at ds n k d)
+    ap (map behind) (spots_more ds es d) ∙ map-append behind (spots_of ds es) (spot_at ds n k d)
     ∙ ap (λ l. map behind (spots_of ds es) ++ l) (spot_behind ds n k d) in
     ap (λ l. cond (is_among ds g) (record { goal = g; position = 0; darks = 0 } ∷ l) l) rest
     ∙ in_front (is_among ds g) (record { goal = g; position = 0; darks = 0 }) (map behind (spots_of ds es)) (spot_at ds (suc n) k d)
 spots_more ds (e.Mod x s ∷ es) d =
     let n = length es in
     let k = length (darks (entries_of es)) in
-    ap (map behind) (spots_more ds es d) ∙ map_joined behind (spots_of ds es) (spot_at ds n k d)
+    ap (map behind) (spots_more ds es d) ∙ map-append behind (spots_of ds es) (spot_at ds n k d)
     ∙ ap (λ l. map behind (spots_of ds es) ++ l) (spot_behind ds n k d)
 spots_more ds (e.Mty x s ∷ es) d =
     let n = length es in
     let k = length (darks (entries_of es)) in
-    ap (map behind) (spots_more ds es d) ∙ map_joined behind (spots_of ds es) (spot_at ds n k d)
+    ap (map behind) (spots_more ds es d) ∙ map-append behind (spots_of ds es) (spot_at ds n k d)
     ∙ ap (λ l. map behind (spots_of ds es) ++ l) (spot_behind ds n k d)
 spots_more ds (e.Dark at ∷ es) d =
     let n = length es in
     let k = length (darks (entries_of es)) in
-    ap (map behind_dark) (spots_more ds es d) ∙ map_joined behind_dark (spots_of ds es) (spot_at ds n k d)
+    ap (map behind_dark) (spots_more ds es d) ∙ map-append behind_dark (spots_of ds es) (spot_at ds n k d)
     ∙ ap (λ l. map behind_dark (spots_of ds es) ++ l) (spot_behind_dark ds n k d)
 
 pub darks_step : (es : List SharedEntry) (d : SharedEntry) → length (darks (entries_of (es ++ d ∷ []))) ≡ length (darks (entries_of es)) + dark_of d
@@ -201,19 +198,10 @@ final_below n (s ∷ ss) h = by (final ss) (final_below n ss h.1)
 
 -- ---- what is noted
 
-take_all : {A : Type 0} (xs : List A) → take (length xs) xs ≡ xs
-take_all [] = refl
-take_all (x ∷ xs) = ap (λ l. x ∷ l) (take_all xs)
-
-length_take : {A : Type 0} (n : ℕ) (xs : List A) → n ≤ length xs → length (take n xs) ≡ n
-length_take zero xs h = refl
-length_take (suc n) [] h = absurd (omega (arith, h))
-length_take (suc n) (x ∷ xs) h = ap suc (length_take n xs (omega (arith, h)))
-
 pub members_last : (m : Members) (list : List SharedEntry) (w : Watch) → w.foot.decls ≡ m.decls.items → HasMembers m list → m.noted ≡ length list
     → last_where (in_foot w) (entries_of list) ≡ looked (length (darks (entries_of list))) (final m.spots.items)
 members_last m list w e h n =
-    let whole : take m.noted list ≡ list = ap (λ k. take k list) n ∙ take_all list in
+    let whole : take m.noted list ≡ list = ap (λ k. take k list) n ∙ take-length list in
     let spots : spots_of w.foot.decls list ≡ m.spots.items = ap (λ ds. spots_of ds list) e ∙ ap (spots_of m.decls.items) (sym whole) ∙ sym h.spots in
     last_noted w list ∙ ap (λ ss. looked (length (darks (entries_of list))) (final ss)) spots
 
@@ -224,7 +212,7 @@ pub noted_more : (ds : List Place) (list : List SharedEntry) (n k k' : ℕ) (d :
 noted_more ds list n k k' d old new lt is h i j l =
     let front = take n list in
     let more : take (n + 1) list ≡ front ++ d ∷ [] = taken list n d lt is in
-    let len : length front ≡ n = length_take n list (omega (arith, lt)) in
+    let len : length front ≡ n = length-take-le n list (omega (arith, lt)) in
     let spots : spots_of ds (take (n + 1) list) ≡ spots_of ds front ++ spot_at ds n k d = ap (spots_of ds) more ∙ spots_more ds front d
     ∙ ap (λ m. spots_of ds front ++ spot_at ds m (length (darks (entries_of front))) d) len
     ∙ ap (λ m. spots_of ds front ++ spot_at ds n m d) (sym i) in
@@ -249,7 +237,7 @@ pub was_noted : (m : Members) (list : List SharedEntry) (d : SharedEntry) → Ha
 was_noted m list d h lt =
     let len : length (list ++ d ∷ []) ≡ length list + 1 = length-append list (d ∷ []) in
     let all : m.noted ≡ length (list ++ d ∷ []) = omega (arith, h.few, len, lt) in
-    let whole : take m.noted (list ++ d ∷ []) ≡ list ++ d ∷ [] = ap (λ k. take k (list ++ d ∷ [])) all ∙ take_all (list ++ d ∷ []) in (
+    let whole : take m.noted (list ++ d ∷ []) ≡ list ++ d ∷ [] = ap (λ k. take k (list ++ d ∷ [])) all ∙ take-length (list ++ d ∷ []) in (
       h.spots ∙ ap (spots_of m.decls.items) whole ∙ spots_more m.decls.items list d,
       h.darks ∙ ap (λ (xs : List SharedEntry). length (darks (entries_of xs))) whole ∙ darks_step list d,
     )
@@ -258,15 +246,12 @@ was_noted m list d h lt =
 pub noted_all : (m : Members) (list : List SharedEntry) → m.noted ≡ length list → m.spots.items ≡ spots_of m.decls.items list
     → m.darks ≡ length (darks (entries_of list)) → HasMembers m list
 noted_all m list n h k =
-    let whole : take m.noted list ≡ list = ap (λ i. take i list) n ∙ take_all list in
+    let whole : take m.noted list ≡ list = ap (λ i. take i list) n ∙ take-length list in
     record {
       few = omega (arith, n);
       spots = h ∙ ap (spots_of m.decls.items) (sym whole);
       darks = k ∙ ap (λ (xs : List SharedEntry). length (darks (entries_of xs))) (sym whole);
     }
-
-same_position : (n : ℕ) → (n == n) ≡ true
-same_position n = grind arith
 
 -- whether the last spot is that of a value at the end
 pub ends_so : (ds : List Place) (list : List SharedEntry) (n k : ℕ) (x : List ℕ) (g : Goal) (ss : List Spot) → n ≡ length list
@@ -285,7 +270,7 @@ ends_so ds list n k x g ss e h found is = by (is_among ds g) refl found is
         let s : Spot = record { goal = g; position = n; darks = k } in
         let there : position_is n (position_of (final ss)) ≡ true = ap (λ xs. position_is n (position_of (final xs)))
         (h ∙ ap (λ b. spots_of ds list ++ cond b (s ∷ []) []) q) ∙ ap (λ o. position_is n (position_of o)) (final_more (spots_of ds list) s)
-        ∙ same_position n in
+        ∙ eq-eqb n n refl in
         absurd (let wrong : false ≡ true = is ∙ there in cc)
     by false q true is =
         let here : ss ≡ spots_of ds list = h ∙ ap (λ b. spots_of ds list ++ cond b (record { goal = g; position = n; darks = k } ∷ []) []) q

@@ -1,5 +1,6 @@
 -- What a look-up of a value has seen after one entry more.
 use Rattle.std.proofs.Common.{◌≡◌, ℕ, ◌+◌, List, [], ◌∷◌, ◌++◌, length, Option, Some, None, true, false, refl, sym, ap, subst, ◌∙◌, length-append}
+use Rattle.std.proofs.lemmas.List.{append-nil}
 use Rattle.std.specs.Prelude.{bytes_eq}
 use Rattle.rotor_base.specs.declared.place.Place.{Place}
 use Rattle.rotor_base.specs.declared.place.Goal.{Goal}
@@ -12,10 +13,6 @@ use Rattle.shape_core.proofs.Lists.{find_vals, passed-append, last_place-append}
 
 abbrev made : Option Goal → Option Place → ℕ → Seen
 made f b n = record { found = f; by = b; passed = n }
-
-nil_right : {A : Type 0} (a : List A) → a ++ [] ≡ a
-nil_right [] = refl
-nil_right (x ∷ a) = ap (λ l. x ∷ l) (nil_right a)
 
 -- a value of the name
 pub sees_val : (es : pure.Entries) (x y : List ℕ) (g : Goal) → bytes_eq y x ≡ true → Sees (es ⊕ pure.a_val y g pure.none) x (made (Some g) None 0)
@@ -37,7 +34,7 @@ still es new x s e f h = record {
 } where
   p : pure.passed (es ⊕ new) x ≡ pure.passed es x
   p = passed-append es new x ∙ ap (λ o. pure.unless_some o (pure.passed es x ++ pure.passed new x) (pure.passed new x)) e
-      ∙ ap (λ l. pure.passed es x ++ l) f ∙ nil_right (pure.passed es x)
+      ∙ ap (λ l. pure.passed es x ++ l) f ∙ append-nil (pure.passed es x)
 
 pub sees_other : (es : pure.Entries) (x y : List ℕ) (g : Goal) (s : Seen) → bytes_eq y x ≡ false → Sees es x s
     → Sees (es ⊕ pure.a_val y g pure.none) x s

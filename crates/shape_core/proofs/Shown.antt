@@ -1,6 +1,7 @@
 -- Lists of shared entries, and the position of the last entry of a name in them.
 use Rattle.std.proofs.Common.{◌≡◌, ℕ, zero, suc, ◌<◌, ◌-◌, Bool, true, false, List, [], ◌∷◌, ◌++◌, length, drop, slice_get, Option, Some, None, refl}
 use Rattle.std.proofs.Common.{sym, ap, ◌∙◌, arith}
+use Rattle.std.proofs.lemmas.List.{append_assoc, append-nil}
 use Rattle.std.proofs.lemmas.Slice.Eq.{bytes_eq-Decides}
 use Rattle.std.specs.Prelude.{bytes_eq, nat_eq}
 use Rattle.rotor_base.specs.declared.place.Place.{Place}
@@ -13,15 +14,8 @@ use Rattle.shape_core.specs.Index.{moved, one_more, is_val, position_of, positio
 use Rattle.shape_core.specs.Index.{mod_at, mty_at, there}
 use Rattle.shape_core.specs.Shape.{Name, Shape, Entries, none, a_val, a_mod, a_mty, a_dark, ◌⊕◌, or_else, some_if, unless_some, darks, vals, mods}
 use Rattle.shape_core.specs.Shape.{mtys, last_of, passed, last_place, entries_from, is_shown}
-use Rattle.shape_core.proofs.Lists.{append_assoc, or_else_none, or_else_assoc}
-
-nil_right : {A : Type 0} (a : List A) → a ++ [] ≡ a
-nil_right [] = refl
-nil_right (x ∷ a) = ap (λ l. x ∷ l) (nil_right a)
-
-assoc : {A : Type 0} (a b c : List A) → (a ++ b) ++ c ≡ a ++ (b ++ c)
-assoc [] b c = refl
-assoc (x ∷ a) b c = ap (λ l. x ∷ l) (assoc a b c)
+use Rattle.shape_core.proofs.Lists as lists
+use Rattle.shape_core.proofs.Lists.{or_else_none, or_else_assoc}
 
 then_append : (d : SharedEntry) (rest : Entries) → and_then d rest ≡ and_then d none ⊕ rest
 then_append (e.Val x g) rest = refl
@@ -34,7 +28,7 @@ entries_of-append [] ys = refl
 entries_of-append (d ∷ xs) ys =
     ap (and_then d) (entries_of-append xs ys)
     ∙ then_append d (entries_of xs ⊕ entries_of ys)
-    ∙ sym (append_assoc (and_then d none) (entries_of xs) (entries_of ys))
+    ∙ sym (lists.append_assoc (and_then d none) (entries_of xs) (entries_of ys))
     ∙ ap (λ l. l ⊕ entries_of ys) (sym (then_append d (entries_of xs)))
 
 -- how many entries there are
@@ -100,10 +94,10 @@ last_at-push test (c ∷ list) d =
 -- what entries change, after one more
 pub befores-push : (done list : List SharedEntry) (d : SharedEntry) → befores_from done (list ++ d ∷ []) ≡ befores_from done list ++ before_of
     (done ++ list) d ∷ []
-befores-push done [] d = ap (λ l. before_of l d ∷ []) (sym (nil_right done))
+befores-push done [] d = ap (λ l. before_of l d ∷ []) (sym (append-nil done))
 befores-push done (c ∷ list) d =
     ap (λ l. before_of done c ∷ l)
-    (befores-push (done ++ c ∷ []) list d ∙ ap (λ z. befores_from (done ++ c ∷ []) list ++ before_of z d ∷ []) (assoc done (c ∷ []) list))
+    (befores-push (done ++ c ∷ []) list d ∙ ap (λ z. befores_from (done ++ c ∷ []) list ++ before_of z d ∷ []) (append_assoc done (c ∷ []) list))
 
 pub length-befores : (done list : List SharedEntry) → length (befores_from done list) ≡ length list
 length-befores done [] = refl

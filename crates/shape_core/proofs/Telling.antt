@@ -3,7 +3,7 @@ use Rattle.std.proofs.Common.{◌≡◌, ℕ, suc, ◌+◌, ◌<◌, ◌≤◌, 
 use Rattle.std.proofs.Common.{Some, None, refl, sym, ap, subst, ◌∙◌, arith, length-append, length-drop, true≢false}
 use Rattle.std.proofs.lemmas.Slice.Eq.{bytes_eq-Decides}
 use Rattle.std.proofs.Math.Seq.{take-append_seam}
-use Rattle.std.proofs.lemmas.List.{drop_all, take_more}
+use Rattle.std.proofs.lemmas.List.{append-nil, drop_all, take_more}
 use Rattle.std.specs.Prelude.{vec_len, max}
 use Rattle.std.specs.Prelude.{bytes_eq, if◌then◌else◌, IsSome}
 use Rattle.std.specs.Global.{Vec}
@@ -29,10 +29,6 @@ use Rattle.shape_core.proofs.Lists.{darks-append, weights-append, depths-append}
 use Rattle.shape_core.proofs.Shown.{number, spot, number_of, entries_of-append, spot_val, spot_still, last_at-push, befores-push, length-befores}
 use Rattle.shape_core.proofs.Shown.{told, Told, last_drop, last_get}
 
-nil_right : {A : Type 0} (a : List A) → a ++ [] ≡ a
-nil_right [] = refl
-nil_right (x ∷ a) = ap (λ l. x ∷ l) (nil_right a)
-
 or_if : {V : Type 0} (b : Bool) (v : V) (o : Option V) → (if b then Some v else o) ≡ or_else (some_if b v) o
 or_if true v o = refl
 or_if false v o = refl
@@ -50,7 +46,7 @@ darks_more list d = ap darks (entries_of-append list (d ∷ [])) ∙ darks-appen
 
 darks_still : (list : List SharedEntry) (d : SharedEntry) → darks (and_then d none) ≡ []
     → darks (entries_of (list ++ d ∷ [])) ≡ darks (entries_of list)
-darks_still list d h = darks_more list d ∙ ap (λ l. darks (entries_of list) ++ l) h ∙ nil_right (darks (entries_of list))
+darks_still list d h = darks_more list d ∙ ap (λ l. darks (entries_of list) ++ l) h ∙ append-nil (darks (entries_of list))
 
 at_still : (test : SharedEntry → Bool) (list : List SharedEntry) (d : SharedEntry) → test d ≡ false
     → last_at test (list ++ d ∷ []) ≡ last_at test list
@@ -250,7 +246,7 @@ values_more vs ws list d p k h e =
 -- the position of an entry taken out
 pub value_left : (ws front : List ℕ) (d : SharedEntry) (n : ℕ) → values_from n (and_then d none) ≡ [] → ws ≡ front ++ values_from n (and_then d none)
     → ws ≡ front
-value_left ws front d n h k = k ∙ ap (λ l. front ++ l) h ∙ nil_right front
+value_left ws front d n h k = k ∙ ap (λ l. front ++ l) h ∙ append-nil front
 
 -- what a look-up of a value has seen
 pub sees_none : (es : Entries) (x : Name) (s : Seen) → last_spot es x ≡ None → s.found ≡ None → s.by ≡ last_place (darks es)

@@ -7,7 +7,7 @@ use Rattle.rotor_base.specs.declared.place.Goal.{Goal}
 use Rattle.shape_core.specs.declared.shared.SharedEntry.{SharedEntry}
 use Rattle.shape_core.specs.declared.shared.SharedEntry.TheVariants as e
 use Rattle.shape_core.specs.Node.{entries_of}
-use Rattle.shape_core.specs.Shape.{Name, none, or_else, some_if, darks, decl_of}
+use Rattle.shape_core.specs.Shape.{Name, or_else, some_if, darks, decl_of}
 use Rattle.shape_core.specs.Looks.{Test, Spot, moved, last_where, some_place}
 
 abbrev spot : ℕ → Place → ℕ → Option Spot

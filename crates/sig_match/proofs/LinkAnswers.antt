@@ -2,7 +2,7 @@
 use Rattle.std.proofs.Common.{◌≡◌, ℕ, ◌+◌, ◌<◌, ◌≤◌, Bool, true, false, List, [], ◌∷◌, ◌++◌, map, length, take, get_or, Option, Some, None, refl, sym}
 use Rattle.std.proofs.Common.{ap, subst, ◌∙◌, arith}
 use Rattle.std.proofs.lemmas.List.{take_more, append-nil, map-append}
-use Rattle.std.specs.Prelude.{Result, Ok, Err, IfOk}
+use Rattle.std.specs.Prelude.{Result, Ok, Err}
 use Rattle.rotor_base.specs.declared.place.Goal.{Goal}
 use Rattle.rotor_base.specs.declared.place.Goal.TheVariants.{Hidden}
 use Rattle.rotor_base.specs.declared.place.Link.{Link}
@@ -22,11 +22,6 @@ use Rattle.sig_match.specs.Walk.{Met, met, met_first, met_at, mets, trace_of, Wa
 use Rattle.sig_match.specs.Matched.{IsMatched, IsAnswer, link_of}
 use Rattle.sig_match.proofs.Walks.{mets-push}
 use Rattle.sig_match.proofs.Firsts.{end_in}
-
--- a clause on an answer, weakened
-pub if_ok : {A E : Type 0} (r : Result A E) (P Q : A → Type 0) → ((a : A) → P a → Q a) → IfOk r P → IfOk r Q
-if_ok (Ok a) P Q h p = h a p
-if_ok (Err x) P Q h p = tt
 
 -- what a walk from nothing has found
 pub answered : (r : Result Unit Stop) (room : ℕ) (f : Found) (t : Trace Met) (l : Trace Link) (m : Matched) → mapped link_of t ≡ l

@@ -9,18 +9,12 @@ use Rattle.std.proofs.lemmas.List.{drop_more}
 use Rattle.rotor_base.specs.Place.{same_place, place_cmp}
 use Rattle.rotor_base.specs.declared.place.Place.{Place}
 use Rattle.rotor_base.proofs.Places.{place_found, place_total}
-use Rattle.std.proofs.Common.{arith, ◌==◌, ◌&&◌}
-use Rattle.std.proofs.lemmas.Bool.{eqb-true}
-
--- two tests for a place
-both_true : (a b : Bool) → (a && b) ≡ true → (a ≡ true) × (b ≡ true)
-both_true true true h = (refl, refl)
-both_true true false h = absurd cc
-both_true false b h = absurd cc
+use Rattle.std.proofs.Common.{arith, ◌==◌}
+use Rattle.std.proofs.lemmas.Bool.{and_parts, eqb-true}
 
 same_is : (p q : Place) → same_place p q ≡ true → p ≡ q
 same_is p q h =
-    let b = both_true (p.file == q.file) (p.token == q.token) h in
+    let b = and_parts (p.file == q.file) (p.token == q.token) h in
     ap (λ n. record { file = n; token = p.token }) (eqb-true p.file q.file b.0)
     ∙ ap (λ n. record { file = q.file; token = n }) (eqb-true p.token q.token b.1)
 

@@ -1,13 +1,14 @@
+use Rattle.std.proofs.lemmas.Result.{IfOk-weaker}
 use Rattle.sig_match.specs.Walk.{met, trace_of}
 use Rattle.sig_match.specs.Matched.{IsMatched, IsAnswer}
-use Rattle.sig_match.proofs.LinkAnswers.{if_ok, answered, matched_links, from_start}
+use Rattle.sig_match.proofs.LinkAnswers.{answered, matched_links, from_start}
 use Rattle.shape_core.specs.Links as links
 use Rattle.sig_match.proofs.links.match_shapes.Goals as goal
 
 pub returns : goal.returns
 returns c =
     let room = c.args.room in
-    if_ok c.matched_of.result (IsAnswer c.match_both-walked.result c.match_both-walked.new.found)
+    IfOk-weaker c.matched_of.result (IsAnswer c.match_both-walked.result c.match_both-walked.new.found)
     (IsMatched room (links.links c.args.src.now c.args.tgt.now))
     (λ m a. answered c.match_both-walked.result room c.match_both-walked.new.found (links.matched met c.args.src.now c.args.tgt.now)
     (links.links c.args.src.now c.args.tgt.now) m (matched_links c.args.src.now c.args.tgt.now)
