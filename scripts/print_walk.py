@@ -2,7 +2,8 @@
 """Prints the proofs that go over the trees form by form, from the clauses of crates/ml_trees/specs/Events.antt.
 
 It writes crates/tree_walk/specs/Told.antt, crates/tree_walk/proofs/Tells.antt, crates/ml_syntax/proofs/Placed.antt,
-crates/unit_order/proofs/Needing.antt and crates/group_walk/proofs/Grouped.antt. Run it after a change of Events.antt, and then `rt fmt` in these crates.
+crates/ml_syntax/proofs/SpelledEvents.antt and crates/group_walk/proofs/Grouped.antt. Run it after a change of Events.antt,
+and then `rt fmt` in these crates.
 """
 import os
 import re
@@ -320,132 +321,87 @@ def print_tells():
     write("crates/tree_walk/proofs/Tells.antt", head, uses, body)
 
 
-NO_HEADS = ["names", "variable"]
-GROWS = {
-    "functor_param": ("bound_by_param", "behind_param"),
-    "functor_params": ("bound_by_params", "behind_params"),
-    "items": ("bound_by_items", "behind_items"),
-    "sig_items": ("bound_by_sig_items", "behind_sig_items"),
-}
-BINDS = {"item": "bound_by_item", "sig_item": "bound_by_sig_item", "brings": "bound_by_name"}
+RESPELLED = f"{TOP}/crates/ml_syntax/specs/Respelled.antt"
+SPELLINGS = {type_of: name for name, type_of in re.findall(r"pub (spell_\w+) : Spelling → (.+) → \2$", open(RESPELLED).read(), re.M)}
+SPELL_EVENT = """-- an event with other words in the place of its lower-case ones
+abbrev pub spell_event : Spelling → Event → Event
+spell_event w (said t) = said (spell_tok w t)
+spell_event w (run_of ts) = run_of (spell_run w ts)
+spell_event w (value binds x) = value binds (spell_value_name w x)
+spell_event w (field binds x) = field binds (spell w x)
+spell_event w (operator t) = operator (spell_tok w t)
+spell_event w e = e
 
-
-def heads(function):
-    return {"base": "maybe", "guard": "maybe"}.get(kind(function), kind(function)) + "_heads"
-
-
-def after(function, args, bound, found):
-    """The names that are bound and the heads that are found behind a tree."""
-    k = kind(function)
-    if k in NO_HEADS:
-        return bound, found
-    if k == "brings":
-        return f"(bound_by_name {bound} {args[0]})", found
-    of = args[1:] if k == "pats" else args
-    found = f"({heads(function)} {bound} {found} {' '.join(of)})"
-    if k in GROWS:
-        return f"({GROWS[k][0]} {bound} {' '.join(args)})", found
-    if k in BINDS:
-        return f"({BINDS[k]} {bound} {args[0]})", found
-    return bound, found
-
-
-def needs(parts):
-    """The equations from what the steps make of a state to the heads."""
-    bound, outer, found, front, around, out = "bound", ["outer"], "found", None, [], []
-    for i, x in enumerate(parts):
-        rest = parts[i + 1 :]
-        if x[0] == "ev":
-            event = atoms(x[1])
-            head, given = event[0], [show(y) for y in event[1:]]
-            if head in ("module_path", "qualifier"):
-                found = f"(module_head {bound} {found} {given[0]})"
-            elif head == "last_path":
-                found = f"(prefix_head {bound} {found} {given[0]})"
-            elif head == "scope_begins":
-                around.append(bound)
-                outer, front = [f"(length {bound} ∷ {outer[0]})", *outer], None
-            elif head == "brings":
-                name = event[1][1]
-                front, bound = f"behind_name {bound} {name}.text", f"({bound} ++ {name}.text ∷ [])"
-            elif head == "scope_ends":
-                before, outer = around.pop(), outer[1:]
-                out.append(f"ap (λ w. {bare(told_of(rest, f'(needed w {outer[0]} {found})', 'hears'))}) ({front or f'all {before}'})")
-                bound = before
-            continue
-        k = kind(x[1])
-        if k in SILENT:
-            continue
-        law, left = f"{k}_needs {' '.join(x[2])} {bound} {outer[0]} {found}", told_of(rest, "w", "hears")
-        out.append(law if left == "w" else f"ap (λ w. {bare(left)}) ({law})")
-        if k in GROWS:
-            front = f"{GROWS[k][1]} {bound} {' '.join(x[2])}"
-        bound, found = after(x[1], x[2], bound, found)
-    return out
-
-
-ITEMS = """-- behind all items
-abbrev bound_by_items : List (List ℕ) → Items → List (List ℕ)
-bound_by_items bound no_item = bound
-bound_by_items bound (more_item i is) = bound_by_items (bound_by_item bound i) is
-
-abbrev bound_by_sig_items : List (List ℕ) → SigItems → List (List ℕ)
-bound_by_sig_items bound no_sig_item = bound
-bound_by_sig_items bound (more_sig_item i is) = bound_by_sig_items (bound_by_sig_item bound i) is
-
-behind_items : (bound : List (List ℕ)) (is : Items) → take (length bound) (bound_by_items bound is) ≡ bound
-behind_items bound no_item = all bound
-behind_items bound (more_item i is) =
-    in_front bound (bound_by_item bound i) (bound_by_items (bound_by_item bound i) is) (behind_item bound i) (behind_items (bound_by_item bound i) is)
-
-behind_sig_items : (bound : List (List ℕ)) (is : SigItems) → take (length bound) (bound_by_sig_items bound is) ≡ bound
-behind_sig_items bound no_sig_item = all bound
-behind_sig_items bound (more_sig_item i is) =
-    in_front bound (bound_by_sig_item bound i) (bound_by_sig_items (bound_by_sig_item bound i) is) (behind_sig_item bound i)
-    (behind_sig_items (bound_by_sig_item bound i) is)
+-- what each event keeps, all events of a part keep
+module _ {A B : Type 0} (◌▹◌ : Event → A → A) (◌▸◌ : Event → B → B) (R : A → B → Type 0) (w : Spelling)
+    (keeps : (e : Event) (a : A) (b : B) → R a b → R (spell_event w e ▹ a) (e ▸ b)) where
+  infixr 35 ◌▹◌
+  infixr 35 ◌▸◌
+  kept : (e : Event) {a : A} {b : B} → R a b → R (spell_event w e ▹ a) (e ▸ b)
+  kept e h = keeps e _ _ h
 
 """
-FILES = """-- the heads of a file, behind those that were found before
-pub file_needs : (t : FileTree) (found : List (List ℕ)) → (file_told hears (needed [] [] found) t).found ≡ file_heads found (Some t)
-file_needs (Body file is) found = ap (λ w. w.found) (told_Body hears (needed [] [] found) file is ∙ items_needs is [] [] found)
-file_needs (Face file is) found = ap (λ w. w.found) (told_Face hears (needed [] [] found) file is ∙ sig_items_needs is [] [] found)
-"""
 
 
-def print_needs():
-    body, rules = ITEMS, {"told_Body", "told_Face"}
-    functions = [f for f in KINDS if kind(f) != "file"]
+def spelled(function, args):
+    """The arguments of a function of Events, respelled."""
+    out = []
+    for x, type_of in zip(args, TYPES[function]):
+        inner = type_of.removeprefix("List ")
+        if type_of in SPELLINGS:
+            out.append(f"({SPELLINGS[type_of]} w {x})")
+        elif inner != type_of and inner in SPELLINGS:
+            out.append(f"(map ({SPELLINGS[inner]} w) {x})")
+        elif function == "lowers_out":
+            out.append(f"(map (spell w) {x})")
+        else:
+            out.append(x)
+    return " ".join(out)
+
+
+def spelled_clause(parts):
+    """What the events of a clause keep, one behind another."""
+    told_so = "h"
+    for x in reversed(parts):
+        name, given = x[1], x[2] if x[0] == "call" else None
+        if name == "brings_out":
+            name, given = f"brings {given[0]}", None
+        law = f"kept {argument(name)}" if given is None else f"{kind(name)}_spelled {' '.join(given)}"
+        told_so = f"{law} {argument(told_so)}"
+    return told_so
+
+
+def in_two(left, right):
+    """A line, or its two parts in two lines if it is too long."""
+    indent = " " * (len(left) - len(left.lstrip()) + 4)
+    return f"{left} {right}\n" if len(f"{left} {right}") <= MOST_COLUMNS else f"{left}\n{indent}{right}\n"
+
+
+def print_spelled():
+    body = SPELL_EVENT
     for block in BLOCKS:
-        here = [f for f in block if f in functions]
-        if not here:
+        functions = [f for f in block if f != "brings_out"]
+        if not functions:
             continue
-        indent = "  " if len(here) > 1 else ""
-        if indent:
-            body += "mutual\n"
-        for f in here:
+        indent = "    " if len(functions) > 1 else "  "
+        if len(functions) > 1:
+            body += "  mutual\n"
+        for f in functions:
             names, typed = arguments(f)
-            bound, found = after(f, names, "bound", "found")
-            body += f"{indent}{kind(f)}_needs : {typed} (bound : List (List ℕ)) (outer : List ℕ) (found : List (List ℕ))\n"
-            body += f"{indent}    → {told(f)} hears (needed bound outer found) {' '.join(names)} ≡ needed {bound} outer {found}\n"
-            for g, pattern, parts in FLAT:
+            law, xs = kind(f) + "_spelled", " ".join(names)
+            says = f"→ R a b → R ({f} ◌▹◌ {spelled(f, names)} a) ({f} ◌▸◌ {xs} b)"
+            body += in_two(f"{indent}pub {law} : {typed} {{a : A}} {{b : B}}", says)
+            for g, pattern, parts in CLAUSES:
                 if g == f:
-                    rules.add(rule(f, pattern))
-                    first = f"{rule(f, pattern)} hears (needed bound outer found)" + "".join(f" {v}" for v, _ in variables(f, pattern))
-                    body += f"{indent}{kind(f)}_needs {pattern} bound outer found = " + f"\n{indent}    ∙ ".join([first, *needs(parts)]) + "\n"
+                    body += in_two(f"{indent}{law} {pattern} h =", spelled_clause(parts))
             body += "\n"
-    body += FILES
     words = words_of(body)
-    uses = [std_names(body, "Rattle.std.proofs.Common", ["length", "take"]), *uses_of(body)]
-    uses += use("Rattle.tree_walk.specs.Told", [told(f) for f in KINDS if told(f) in words])
-    uses += use("Rattle.tree_walk.proofs.Tells", sorted(rules))
-    named = {heads(f) for f in functions if kind(f) not in NO_HEADS + ["brings"]} | {"file_heads", "module_head", "prefix_head"}
-    named |= {"bound_by_name", "bound_by_param", "bound_by_params", "bound_by_item", "bound_by_sig_item"}
-    uses += use("Rattle.unit_order.specs.Heads", sorted(named))
-    uses.append("use Rattle.unit_order.specs.Hearing.{needed, hears}")
-    fronts = ["all", "in_front", "behind_name", "behind_param", "behind_params", "behind_item", "behind_sig_item"]
-    uses += use("Rattle.unit_order.proofs.Fronts", [x for x in fronts if x in words])
-    head = "What a unit needs is what its events say. Printed by scripts/print_walk.py."
-    write("crates/unit_order/proofs/Needing.antt", head, uses, body)
+    outs = [f for b in BLOCKS for f in b if f in words]
+    signs = [x for x in "truth opening closing wrap direction".split() if x in words]
+    uses = [std_names(body, "Rattle.std.proofs.Common", ["map"]), *uses_of(body), *use("Rattle.ml_trees.specs.Events", signs + outs)]
+    uses += use("Rattle.ml_syntax.specs.Respelled", [x for x in ["Spelling", "spell", *SPELLINGS.values()] if x in words])
+    head = "What holds of the events of a respelled tree and of the tree, if each event keeps it. Printed by scripts/print_walk.py."
+    write("crates/ml_syntax/proofs/SpelledEvents.antt", head, uses, body)
 
 
 # what a tree declares in the group around it, and the groups inside it
@@ -759,5 +715,5 @@ if __name__ == "__main__":
     print_told()
     print_tells()
     print_places()
-    print_needs()
+    print_spelled()
     print_groups()

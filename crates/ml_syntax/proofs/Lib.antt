@@ -6,6 +6,7 @@ pub mod Numbers
 pub mod Sited
 pub mod KeptSites
 pub mod SpelledSites
+pub mod SpelledEvents
 pub mod RespelledFile
 pub mod RespelledNames
 pub mod SiteWords

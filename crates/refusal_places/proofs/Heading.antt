@@ -14,15 +14,15 @@ use Rattle.refusal_places.specs.Heads.{heads_of}
 use Rattle.refusal_places.proofs.Fronts.{toks_same, viewed}
 
 pub body_heads : (ts : List Token) (is : Items) (rest : List Tok) → Some (body_start (length ts + 1) (from ts 0)) ≡ Some (is, rest)
-    → items_heads [] [] is ≡ heads_of kind.Body (view_tokens ts)
+    → items_heads [] is ≡ heads_of kind.Body (view_tokens ts)
 body_heads ts is rest h =
-    sym (ap (λ (n : ℕ). items_heads [] [] (body_start (n + 1) (lexeme_toks 1 (view_tokens ts))).0) (viewed ts)
-    ∙ ap (λ (l : List Tok). items_heads [] [] (body_start (length ts + 1) l).0) (toks_same ts)
-    ∙ ap (λ (x : Items × List Tok). items_heads [] [] x.0) (some_is h))
+    sym (ap (λ (n : ℕ). items_heads [] (body_start (n + 1) (lexeme_toks 1 (view_tokens ts))).0) (viewed ts)
+    ∙ ap (λ (l : List Tok). items_heads [] (body_start (length ts + 1) l).0) (toks_same ts)
+    ∙ ap (λ (x : Items × List Tok). items_heads [] x.0) (some_is h))
 
 pub face_heads : (ts : List Token) (is : SigItems) (rest : List Tok) → Some (face_start (length ts + 1) (from ts 0)) ≡ Some (is, rest)
-    → sig_items_heads [] [] is ≡ heads_of kind.Face (view_tokens ts)
+    → sig_items_heads [] is ≡ heads_of kind.Face (view_tokens ts)
 face_heads ts is rest h =
-    sym (ap (λ (n : ℕ). sig_items_heads [] [] (face_start (n + 1) (lexeme_toks 1 (view_tokens ts))).0) (viewed ts)
-    ∙ ap (λ (l : List Tok). sig_items_heads [] [] (face_start (length ts + 1) l).0) (toks_same ts)
-    ∙ ap (λ (x : SigItems × List Tok). sig_items_heads [] [] x.0) (some_is h))
+    sym (ap (λ (n : ℕ). sig_items_heads [] (face_start (n + 1) (lexeme_toks 1 (view_tokens ts))).0) (viewed ts)
+    ∙ ap (λ (l : List Tok). sig_items_heads [] (face_start (length ts + 1) l).0) (toks_same ts)
+    ∙ ap (λ (x : SigItems × List Tok). sig_items_heads [] x.0) (some_is h))

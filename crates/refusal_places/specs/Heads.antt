@@ -14,8 +14,8 @@ use Rattle.refusal_words.specs.Cut.{Cut}
 -- those of the items with which lexemes begin, read one after another; of a source that is read, these are all its
 -- items
 abbrev pub heads_of : FileKind → List Lexeme → List (List ℕ)
-heads_of kind.Body xs = items_heads [] [] (body_start (length xs + 1) (lexeme_toks 1 xs)).0
-heads_of kind.Face xs = sig_items_heads [] [] (face_start (length xs + 1) (lexeme_toks 1 xs)).0
+heads_of kind.Body xs = items_heads [] (body_start (length xs + 1) (lexeme_toks 1 xs)).0
+heads_of kind.Face xs = sig_items_heads [] (face_start (length xs + 1) (lexeme_toks 1 xs)).0
 
 -- the unit of a source, and the heads in the source
 abbrev pub cut_heads : Cut → UnitHeads

@@ -1,7 +1,6 @@
 pub mod Counted
 pub mod Positioned
-pub mod Fronts
-pub mod Needing
+pub mod Heard
 pub mod Chains
 pub mod Spread
 pub mod Stacks

@@ -1,5 +1,4 @@
 pub mod Heads
-pub mod Hearing
 pub mod Counts
 pub mod Order
 pub mod Positions

@@ -23,7 +23,7 @@ struct Heads {
 
 impl Visitor for Heads {
     ghost use Rattle.std.specs.Prelude.{reverse};
-    ghost use Rattle.unit_order.specs.Hearing.{Needed, needed, hears};
+    ghost use Rattle.unit_order.specs.Heads.{Needed, needed, hears};
 
     ghost State = { Needed };
 
@@ -64,7 +64,7 @@ impl Visitor for Heads {
 }
 
 /// The heads that were found, and then those of a file.
-#[tactic(auto, using(crate::proofs::Needing::file_needs))]
+#[tactic(auto, using(crate::proofs::Heard::file_heard))]
 pub fn with_heads(alloc: Global, found: Vec<Name>, file: &FileTree) -> Result<Vec<Name>, Memory>
     ensures { IfOk result (λ heads. heads.items ≡ file_heads found.items (Some (view_file file.now))) }
 {
