@@ -7,32 +7,27 @@ use Rattle.ml_trees.specs.declared.fixed.Fixed.TheVariants as key
 use Rattle.ml_trees.specs.Tok.{Name, Tok, fixed, placed, word}
 use Rattle.ml_trees.specs.Runs.{Bracketing, bracketing, after_bracket, is_matched, in_type, beside_type, begins_type, is_type_run, in_declaration}
 use Rattle.ml_trees.specs.Runs.{is_declaration_run, opens, closes, neither}
-use Rattle.ml_trees.specs.Tree.{ValueName, Pat, Pats, PatField, PatFields, Variable, LocalModule, LocalArguments, Expr, Links, MaybeExpr, Tail}
-use Rattle.ml_trees.specs.Tree.{Binding, Bindings, Case, Cases, Argument, Arguments, Param, Params, Part, Parts, Field, Fields, ModuleName}
+use Rattle.ml_trees.specs.Tree.{ValueName, Pat, Pats, PatField, PatFields, Expr, Links, MaybeExpr, Tail}
+use Rattle.ml_trees.specs.Tree.{Binding, Bindings, Case, Cases, Argument, Arguments, Param, Params, Part, Parts, Field, Fields}
 use Rattle.ml_trees.specs.Tree.{Constraint, WithClause, ModExpr, ModArgument, ModArguments, FunctorParam, FunctorParams, ModType, MaybeType, Item}
-use Rattle.ml_trees.specs.Tree.{Items, SigItem, SigItems, PlainName, OperatorName, AsPat, OrPat, TuplePat, ConsPat, ConstrApplyPat, TagApplyPat}
+use Rattle.ml_trees.specs.Tree.{Items, SigItem, SigItems, FileTree, PlainName, OperatorName, AsPat, OrPat, TuplePat, ConsPat, ConstrApplyPat, TagApplyPat}
 use Rattle.ml_trees.specs.Tree.{LazyPat, ExceptionPat, AnyPat, ValuePat, LiteralPat, NegativePat, RangePat, ConstrPat, TagPat, BoolPat, UnitPat}
 use Rattle.ml_trees.specs.Tree.{ParenPat, TypedPat, EmptyPat, ListPat, RecordPat, OpenedPat, no_pat, more_pat, PunnedField, MatchedField}
-use Rattle.ml_trees.specs.Tree.{no_pat_field, more_pat_field, PlainVariable, AnyVariable, LocalPath, no_local, more_local, no_module, Seq, Let}
+use Rattle.ml_trees.specs.Tree.{no_pat_field, more_pat_field, Seq, Let}
 use Rattle.ml_trees.specs.Tree.{LetOpen, LetModule, Fun, Function, Match, Try, If, Chain, Minus, Apply, ConstrApply, TagApply, Assert, Lazy, Postfix}
 use Rattle.ml_trees.specs.Tree.{Prefixed, Literal, BoolExpr, Value, Constr, Tag, UnitExpr, Paren, Typed, Coerced, EmptyBegin, Begin, EmptyList}
 use Rattle.ml_trees.specs.Tree.{ListExpr, Record, Opened, While, For, no_link, more_link, no_expr, some_expr, no_else, or_else, or_if, PlainBinding}
 use Rattle.ml_trees.specs.Tree.{AppliedBinding, no_binding, more_binding, CaseOf, no_case, more_case, Positional, LabelPun, Labelled, no_argument}
 use Rattle.ml_trees.specs.Tree.{more_argument, PatternParam, LabelParam, LabelPattern, DefaultParam, WrappedParam, WrappedDefault, TypesParam}
 use Rattle.ml_trees.specs.Tree.{no_param, more_param, LabelPart, IndexPart, CharPart, no_part, more_part, FieldPun, AssignedField, no_field}
-use Rattle.ml_trees.specs.Tree.{more_field, UpperName, AnyName, ConstraintOf, WithOf, ModPath, Struct, Functor, ModApply, ModParen, Sealed}
+use Rattle.ml_trees.specs.Tree.{more_field, ConstraintOf, WithOf, ModPath, Struct, Functor, ModApply, ModParen, Sealed}
 use Rattle.ml_trees.specs.Tree.{ModuleArgument, SealedArgument, NoArgument, no_mod_argument, more_mod_argument, NamedParam, NoParam}
 use Rattle.ml_trees.specs.Tree.{no_functor_param, more_functor_param, TypePath, Sig, TypeOf, TypeParen, With, FunctorType, ParamArrow, Arrow}
 use Rattle.ml_trees.specs.Tree.{no_type, some_type, ExprItem, SeparatorItem, ValueItem, ExternalItem, TypeItem, ExceptionItem, ModuleItem}
 use Rattle.ml_trees.specs.Tree.{ModuleTypeItem, OpenItem, IncludeItem, no_item, more_item, SeparatorSig, ValSig, ExternalSig, TypeSig, ExceptionSig}
 use Rattle.ml_trees.specs.Tree.{ModuleSig, AliasSig, ModuleTypeSig, OpenSig, IncludeSig, no_sig_item, more_sig_item, Body, Face}
-use Rattle.ml_trees.proofs.Words.{dotted_then, path_then, qualified_then, name_then, names_then, type_then, optional_then, bang_then, truth, opening}
-use Rattle.ml_trees.proofs.Words.{closing, open_then, pat_then, pats_then, pat_field_then, pat_fields_then, variable_then, local_then, locals_then}
-use Rattle.ml_trees.proofs.Words.{lowers_then, wrap, direction, expr_then, links_then, base_then, guard_then, tail_then, binding_then, bindings_then}
-use Rattle.ml_trees.proofs.Words.{case_then, cases_then, argument_then, arguments_then, param_then, params_then, part_then, parts_then, field_then}
-use Rattle.ml_trees.proofs.Words.{fields_then, module_name_then, constraint_then, constraints_then, withs_then, texts_then, external_then}
-use Rattle.ml_trees.proofs.Words.{open_item_then, mod_then, mod_argument_then, mod_arguments_then, functor_param_then, functor_params_then}
-use Rattle.ml_trees.proofs.Words.{mod_type_then, signature_then, item_then, items_then, sig_item_then, sig_items_then}
+use Rattle.ml_trees.specs.Events.{Event, said, run_of, value, field, label, operator, minus, module_path, last_path, qualifier}
+use Rattle.ml_trees.specs.Words.{dotted_then, path_then, qualified_then, name_then, add_words, words}
 use Rattle.ml_trees.specs.WellFormed.{is_operator, WfName, WfNames, WfType, pat_level, is_exception, WfPat, WfPats, WfPatField, WfPatFields, level}
 use Rattle.ml_trees.specs.WellFormed.{op_level, is_form, is_if, has_else, is_open_if, has_cases, on_edge, on_links, on_body, on_cases, on_tail}
 use Rattle.ml_trees.specs.WellFormed.{NoForm, Calm, NoOpenIf, NoCases, IsOperand, is_postfix, CanBeAssigned, is_bare, is_constr, is_bracketed}
@@ -41,12 +36,13 @@ use Rattle.ml_trees.specs.WellFormed.{WfArguments, WfParam, WfParams, WfPart, Wf
 use Rattle.ml_trees.specs.WellFormed.{WfConstraints, WfWiths, is_functor, is_simple_mod, is_simple_type, is_separator, WfExternal, WfMod}
 use Rattle.ml_trees.specs.WellFormed.{WfModArgument, WfModArguments, WfFunctorParam, WfFunctorParams, WfModType, WfSignature, WfItem, WfItems}
 use Rattle.ml_trees.specs.WellFormed.{WfSigItem, WfSigItems}
-use Rattle.ml_syntax.specs.Respelled.{Spelling, spell, spell_tok, spell_run, spell_type, spell_value_name, spell_pat, spell_pats, spell_pat_field}
-use Rattle.ml_syntax.specs.Respelled.{spell_pat_fields, spell_variable, spell_expr, spell_links, spell_maybe_expr, spell_tail, spell_binding}
+use Rattle.ml_syntax.specs.Respelled.{Spelling, spell_tok, spell_run, spell_type, spell_value_name, spell_pat, spell_pats, spell_pat_field}
+use Rattle.ml_syntax.specs.Respelled.{spell_pat_fields, spell_expr, spell_links, spell_maybe_expr, spell_tail, spell_binding}
 use Rattle.ml_syntax.specs.Respelled.{spell_bindings, spell_case, spell_cases, spell_argument, spell_arguments, spell_param, spell_params, spell_part}
 use Rattle.ml_syntax.specs.Respelled.{spell_parts, spell_field, spell_fields, spell_constraint, spell_with_clause, spell_mod_expr, spell_mod_argument}
 use Rattle.ml_syntax.specs.Respelled.{spell_mod_arguments, spell_functor_param, spell_functor_params, spell_mod_type, spell_maybe_type, spell_item}
-use Rattle.ml_syntax.specs.Respelled.{spell_items, spell_sig_item, spell_sig_items, RespellingKeepsTheTree}
+use Rattle.ml_syntax.specs.Respelled.{spell_items, spell_sig_item, spell_sig_items, spell_file, RespellingKeepsTheTree}
+use Rattle.ml_syntax.proofs.SpelledEvents.{spell_event, file_spelled}
 
 both : {a b c d : Bool} → a ≡ c → b ≡ d → a || b ≡ c || d
 both p q = rw (p, q) refl
@@ -85,326 +81,21 @@ module _ (w : Spelling) where
   name_same (PlainName x) h = one (word class.Lower x) h
   name_same (OperatorName at t) h = one (placed key.LeftParen at) (one t (one (fixed key.RightParen) h))
 
-  names_same : (a : List ValueName) {j k : List Tok} → Spelled w j k → Spelled w (names_then (map (spell_value_name w) a) j) (names_then a k)
-  names_same [] h = h
-  names_same (x ∷ xs) h = one (fixed key.As) (name_same x (names_same xs h))
+  event_same : (e : Event) (j k : List Tok) → Spelled w j k → Spelled w (add_words (spell_event w e) j) (add_words e k)
+  event_same (said t) j k h = one t h
+  event_same (run_of ts) j k h = run_same ts h
+  event_same (value binds x) j k h = name_same x h
+  event_same (field binds x) j k h = one (word class.Lower x) h
+  event_same (label binds x) j k h = one (word class.Label x) h
+  event_same (operator t) j k h = one t h
+  event_same (minus x) j k h = one (word class.Infix x) h
+  event_same (module_path path) j k h = path_same path h
+  event_same (last_path path) j k h = path_same path h
+  event_same (qualifier path) j k h = qualified_same path h
+  event_same _ j k h = h
 
-  type_same : (a : Option (List Tok)) {j k : List Tok} → Spelled w j k → Spelled w (type_then (spell_type w a) j) (type_then a k)
-  type_same None h = h
-  type_same (Some run) h = one (fixed key.Colon) (run_same run h)
-
-  optional_same : (a : Fixed) (b : Bool) {j k : List Tok} → Spelled w j k → Spelled w (optional_then a b j) (optional_then a b k)
-  optional_same x true h = one (fixed x) h
-  optional_same x false h = h
-
-  bang_same : (a : Option Name) {j k : List Tok} → Spelled w j k → Spelled w (bang_then a j) (bang_then a k)
-  bang_same None h = h
-  bang_same (Some x) h = one (word class.Prefix x) h
-
-  open_same : (a : Option ℕ) {j k : List Tok} → Spelled w j k → Spelled w (open_then a j) (open_then a k)
-  open_same None h = h
-  open_same (Some at) h = one (fixed key.Semicolon) (one (placed key.Underscore at) h)
-
-  mutual
-    pat_same : (a : Pat) {j k : List Tok} → Spelled w j k → Spelled w (pat_then (spell_pat w a) j) (pat_then a k)
-    pat_same (AsPat p xs) h = pat_same p (names_same xs h)
-    pat_same (OrPat p ps) h = pat_same p (pats_same key.Bar ps h)
-    pat_same (TuplePat p ps) h = pat_same p (pats_same key.Comma ps h)
-    pat_same (ConsPat p ps) h = pat_same p (pats_same key.ColonColon ps h)
-    pat_same (ConstrApplyPat path p) h = path_same path (pat_same p h)
-    pat_same (TagApplyPat x p) h = one (word class.Tag x) (pat_same p h)
-    pat_same (LazyPat at p) h = one (placed key.Lazy at) (pat_same p h)
-    pat_same (ExceptionPat at p) h = one (placed key.Exception at) (pat_same p h)
-    pat_same (AnyPat at) h = one (placed key.Underscore at) h
-    pat_same (ValuePat x) h = name_same x h
-    pat_same (LiteralPat c x) h = one (word c x) h
-    pat_same (NegativePat x c y) h = one (word class.Infix x) (one (word c y) h)
-    pat_same (RangePat x y) h = one (word class.Char x) (one (fixed key.DotDot) (one (word class.Char y) h))
-    pat_same (ConstrPat path) h = path_same path h
-    pat_same (TagPat x) h = one (word class.Tag x) h
-    pat_same (BoolPat at b) h = one (placed (truth b) at) h
-    pat_same (UnitPat at) h = one (placed key.LeftParen at) (one (fixed key.RightParen) h)
-    pat_same (ParenPat at p) h = one (placed key.LeftParen at) (pat_same p (one (fixed key.RightParen) h))
-    pat_same (TypedPat at p run) h = one (placed key.LeftParen at) (pat_same p (one (fixed key.Colon) (run_same run (one (fixed key.RightParen) h))))
-    pat_same (EmptyPat at b) h = one (placed (opening b) at) (one (fixed (closing b)) h)
-    pat_same (ListPat at b p ps last) h =
-        one (placed (opening b) at) (pat_same p (pats_same key.Semicolon ps (optional_same key.Semicolon last (one (fixed (closing b)) h))))
-    pat_same (RecordPat at f fs rest last) h =
-        one (placed key.LeftBrace at)
-        (pat_field_same f (pat_fields_same fs (open_same rest (optional_same key.Semicolon last (one (fixed key.RightBrace) h)))))
-    pat_same (OpenedPat path at p) h =
-        path_same path (one (fixed key.Dot) (one (placed key.LeftParen at) (pat_same p (one (fixed key.RightParen) h))))
-
-    pats_same : (a : Fixed) (b : Pats) {j k : List Tok} → Spelled w j k → Spelled w (pats_then a (spell_pats w b) j) (pats_then a b k)
-    pats_same sep no_pat h = h
-    pats_same sep (more_pat p ps) h = one (fixed sep) (pat_same p (pats_same sep ps h))
-
-    pat_field_same : (a : PatField) {j k : List Tok} → Spelled w j k → Spelled w (pat_field_then (spell_pat_field w a) j) (pat_field_then a k)
-    pat_field_same (PunnedField path x run) h = qualified_same path (one (word class.Lower x) (type_same run h))
-    pat_field_same (MatchedField path x run at p) h =
-        qualified_same path (one (word class.Lower x) (type_same run (one (placed key.Equals at) (pat_same p h))))
-
-    pat_fields_same : (a : PatFields) {j k : List Tok} → Spelled w j k → Spelled w (pat_fields_then (spell_pat_fields w a) j) (pat_fields_then a k)
-    pat_fields_same no_pat_field h = h
-    pat_fields_same (more_pat_field f fs) h = one (fixed key.Semicolon) (pat_field_same f (pat_fields_same fs h))
-
-  variable_same : (a : Variable) {j k : List Tok} → Spelled w j k → Spelled w (variable_then (spell_variable w a) j) (variable_then a k)
-  variable_same (PlainVariable x) h = one (word class.Lower x) h
-  variable_same (AnyVariable at) h = one (placed key.Underscore at) h
-
-  mutual
-    local_same : (a : LocalModule) {j k : List Tok} → Spelled w j k → Spelled w (local_then a j) (local_then a k)
-    local_same (LocalPath path ms) h = path_same path (locals_same ms h)
-
-    locals_same : (a : LocalArguments) {j k : List Tok} → Spelled w j k → Spelled w (locals_then a j) (locals_then a k)
-    locals_same no_local h = h
-    locals_same (more_local at m ms) h = one (placed key.LeftParen at) (local_same m (one (fixed key.RightParen) (locals_same ms h)))
-    locals_same (no_module at ms) h = one (placed key.LeftParen at) (one (fixed key.RightParen) (locals_same ms h))
-
-  lowers_same : (a : List Name) {j k : List Tok} → Spelled w j k → Spelled w (lowers_then (map (spell w) a) j) (lowers_then a k)
-  lowers_same [] h = h
-  lowers_same (x ∷ xs) h = one (word class.Lower x) (lowers_same xs h)
-
-  mutual
-    expr_same : (a : Expr) {j k : List Tok} → Spelled w j k → Spelled w (expr_then (spell_expr w a) j) (expr_then a k)
-    expr_same (Seq e es last) h = expr_same e (links_same es (optional_same key.Semicolon last h))
-    expr_same (Let at rec b bs e) h =
-        one (placed key.Let at) (optional_same key.Rec rec (binding_same b (bindings_same bs (one (fixed key.In) (expr_same e h)))))
-    expr_same (LetOpen at at' bang path e) h =
-        one (placed key.Let at) (one (placed key.Open at') (bang_same bang (path_same path (one (fixed key.In) (expr_same e h)))))
-    expr_same (LetModule at at' x eq m e) h =
-        one (placed key.Let at) (one (placed key.Module at')
-        (one (word class.Upper x) (one (placed key.Equals eq) (local_same m (one (fixed key.In) (expr_same e h))))))
-    expr_same (Fun at ps e) h = one (placed key.Fun at) (params_same ps (one (fixed key.Arrow) (expr_same e h)))
-    expr_same (Function at bar c cs) h = one (placed key.Function at) (optional_same key.Bar bar (case_same c (cases_same cs h)))
-    expr_same (Match at e bar c cs) h =
-        one (placed key.Match at) (expr_same e (one (fixed key.With) (optional_same key.Bar bar (case_same c (cases_same cs h)))))
-    expr_same (Try at e bar c cs) h =
-        one (placed key.Try at) (expr_same e (one (fixed key.With) (optional_same key.Bar bar (case_same c (cases_same cs h)))))
-    expr_same (If at c a tail) h = one (placed key.If at) (expr_same c (one (fixed key.Then) (expr_same a (tail_same tail h))))
-    expr_same (Chain n e es) h = expr_same e (links_same es h)
-    expr_same (Minus x e) h = one (word class.Infix x) (expr_same e h)
-    expr_same (Apply f es) h = expr_same f (arguments_same es h)
-    expr_same (ConstrApply path e) h = path_same path (expr_same e h)
-    expr_same (TagApply x e) h = one (word class.Tag x) (expr_same e h)
-    expr_same (Assert at e) h = one (placed key.Assert at) (expr_same e h)
-    expr_same (Lazy at e) h = one (placed key.Lazy at) (expr_same e h)
-    expr_same (Postfix e ps) h = expr_same e (parts_same ps h)
-    expr_same (Prefixed x e) h = one (word class.Prefix x) (expr_same e h)
-    expr_same (Literal c x) h = one (word c x) h
-    expr_same (BoolExpr at b) h = one (placed (truth b) at) h
-    expr_same (Value path x) h = qualified_same path (name_same x h)
-    expr_same (Constr path) h = path_same path h
-    expr_same (Tag x) h = one (word class.Tag x) h
-    expr_same (UnitExpr at) h = one (placed key.LeftParen at) (one (fixed key.RightParen) h)
-    expr_same (Paren at e) h = one (placed key.LeftParen at) (expr_same e (one (fixed key.RightParen) h))
-    expr_same (Typed at e run) h = one (placed key.LeftParen at) (expr_same e (one (fixed key.Colon) (run_same run (one (fixed key.RightParen) h))))
-    expr_same (Coerced at e from to) h =
-        one (placed key.LeftParen at) (expr_same e (type_same from (one (fixed key.ColonGreater) (run_same to (one (fixed key.RightParen) h)))))
-    expr_same (EmptyBegin at) h = one (placed key.Begin at) (one (fixed key.End) h)
-    expr_same (Begin at e) h = one (placed key.Begin at) (expr_same e (one (fixed key.End) h))
-    expr_same (EmptyList at b) h = one (placed (opening b) at) (one (fixed (closing b)) h)
-    expr_same (ListExpr at b e es last) h =
-        one (placed (opening b) at) (expr_same e (links_same es (optional_same key.Semicolon last (one (fixed (closing b)) h))))
-    expr_same (Record at base f fs last) h =
-        one (placed key.LeftBrace at)
-        (base_same base (field_same f (fields_same fs (optional_same key.Semicolon last (one (fixed key.RightBrace) h)))))
-    expr_same (Opened path e) h = path_same path (one (fixed key.Dot) (expr_same e h))
-    expr_same (While at c e) h = one (placed key.While at) (expr_same c (one (fixed key.Do) (expr_same e (one (fixed key.Done) h))))
-    expr_same (For at x eq a down b e) h =
-        one (placed key.For at) (variable_same x
-        (one (placed key.Equals eq)
-        (expr_same a (one (fixed (direction down)) (expr_same b (one (fixed key.Do) (expr_same e (one (fixed key.Done) h))))))))
-
-    links_same : (a : Links) {j k : List Tok} → Spelled w j k → Spelled w (links_then (spell_links w a) j) (links_then a k)
-    links_same no_link h = h
-    links_same (more_link t e es) h = one t (expr_same e (links_same es h))
-
-    base_same : (a : MaybeExpr) {j k : List Tok} → Spelled w j k → Spelled w (base_then (spell_maybe_expr w a) j) (base_then a k)
-    base_same no_expr h = h
-    base_same (some_expr e) h = expr_same e (one (fixed key.With) h)
-
-    guard_same : (a : MaybeExpr) {j k : List Tok} → Spelled w j k → Spelled w (guard_then (spell_maybe_expr w a) j) (guard_then a k)
-    guard_same no_expr h = h
-    guard_same (some_expr e) h = one (fixed key.When) (expr_same e h)
-
-    tail_same : (a : Tail) {j k : List Tok} → Spelled w j k → Spelled w (tail_then (spell_tail w a) j) (tail_then a k)
-    tail_same no_else h = h
-    tail_same (or_else e) h = one (fixed key.Else) (expr_same e h)
-    tail_same (or_if at c a tail) h =
-        one (fixed key.Else) (one (placed key.If at) (expr_same c (one (fixed key.Then) (expr_same a (tail_same tail h)))))
-
-    binding_same : (a : Binding) {j k : List Tok} → Spelled w j k → Spelled w (binding_then (spell_binding w a) j) (binding_then a k)
-    binding_same (PlainBinding p run at e) h = pat_same p (type_same run (one (placed key.Equals at) (expr_same e h)))
-    binding_same (AppliedBinding x ps run at e) h = name_same x (params_same ps (type_same run (one (placed key.Equals at) (expr_same e h))))
-
-    bindings_same : (a : Bindings) {j k : List Tok} → Spelled w j k → Spelled w (bindings_then (spell_bindings w a) j) (bindings_then a k)
-    bindings_same no_binding h = h
-    bindings_same (more_binding b bs) h = one (fixed key.And) (binding_same b (bindings_same bs h))
-
-    case_same : (a : Case) {j k : List Tok} → Spelled w j k → Spelled w (case_then (spell_case w a) j) (case_then a k)
-    case_same (CaseOf p guard e) h = pat_same p (guard_same guard (one (fixed key.Arrow) (expr_same e h)))
-
-    cases_same : (a : Cases) {j k : List Tok} → Spelled w j k → Spelled w (cases_then (spell_cases w a) j) (cases_then a k)
-    cases_same no_case h = h
-    cases_same (more_case c cs) h = one (fixed key.Bar) (case_same c (cases_same cs h))
-
-    argument_same : (a : Argument) {j k : List Tok} → Spelled w j k → Spelled w (argument_then (spell_argument w a) j) (argument_then a k)
-    argument_same (Positional e) h = expr_same e h
-    argument_same (LabelPun x) h = one (word class.Label x) h
-    argument_same (Labelled x e) h = one (word class.Label x) (expr_same e h)
-
-    arguments_same : (a : Arguments) {j k : List Tok} → Spelled w j k → Spelled w (arguments_then (spell_arguments w a) j) (arguments_then a k)
-    arguments_same no_argument h = h
-    arguments_same (more_argument a es) h = argument_same a (arguments_same es h)
-
-    param_same : (a : Param) {j k : List Tok} → Spelled w j k → Spelled w (param_then (spell_param w a) j) (param_then a k)
-    param_same (PatternParam p) h = pat_same p h
-    param_same (LabelParam x) h = one (word class.Label x) h
-    param_same (LabelPattern x p) h = one (word class.Label x) (pat_same p h)
-    param_same (DefaultParam x at p run eq e) h =
-        one (word class.Label x)
-        (one (placed key.LeftParen at) (pat_same p (type_same run (one (placed key.Equals eq) (expr_same e (one (fixed key.RightParen) h))))))
-    param_same (WrappedParam at optional at' x run) h =
-        one (placed (wrap optional) at) (one (placed key.LeftParen at') (one (word class.Lower x) (type_same run (one (fixed key.RightParen) h))))
-    param_same (WrappedDefault at at' x run eq e) h =
-        one (placed key.Question at)
-        (one (placed key.LeftParen at')
-        (one (word class.Lower x) (type_same run (one (placed key.Equals eq) (expr_same e (one (fixed key.RightParen) h))))))
-    param_same (TypesParam at xs) h = one (placed key.LeftParen at) (one (fixed key.Type) (lowers_same xs (one (fixed key.RightParen) h)))
-
-    params_same : (a : Params) {j k : List Tok} → Spelled w j k → Spelled w (params_then (spell_params w a) j) (params_then a k)
-    params_same no_param h = h
-    params_same (more_param p ps) h = param_same p (params_same ps h)
-
-    part_same : (a : Part) {j k : List Tok} → Spelled w j k → Spelled w (part_then (spell_part w a) j) (part_then a k)
-    part_same (LabelPart path x) h = one (fixed key.Dot) (qualified_same path (one (word class.Lower x) h))
-    part_same (IndexPart at e) h = one (fixed key.Dot) (one (placed key.LeftParen at) (expr_same e (one (fixed key.RightParen) h)))
-    part_same (CharPart at e) h = one (fixed key.Dot) (one (placed key.LeftBracket at) (expr_same e (one (fixed key.RightBracket) h)))
-
-    parts_same : (a : Parts) {j k : List Tok} → Spelled w j k → Spelled w (parts_then (spell_parts w a) j) (parts_then a k)
-    parts_same no_part h = h
-    parts_same (more_part p ps) h = part_same p (parts_same ps h)
-
-    field_same : (a : Field) {j k : List Tok} → Spelled w j k → Spelled w (field_then (spell_field w a) j) (field_then a k)
-    field_same (FieldPun path x run) h = qualified_same path (one (word class.Lower x) (type_same run h))
-    field_same (AssignedField path x run at e) h =
-        qualified_same path (one (word class.Lower x) (type_same run (one (placed key.Equals at) (expr_same e h))))
-
-    fields_same : (a : Fields) {j k : List Tok} → Spelled w j k → Spelled w (fields_then (spell_fields w a) j) (fields_then a k)
-    fields_same no_field h = h
-    fields_same (more_field f fs) h = one (fixed key.Semicolon) (field_same f (fields_same fs h))
-
-  module_name_same : (a : ModuleName) {j k : List Tok} → Spelled w j k → Spelled w (module_name_then a j) (module_name_then a k)
-  module_name_same (UpperName x) h = one (word class.Upper x) h
-  module_name_same (AnyName at) h = one (placed key.Underscore at) h
-
-  constraint_same : (a : Constraint) {j k : List Tok} → Spelled w j k → Spelled w (constraint_then (spell_constraint w a) j) (constraint_then a k)
-  constraint_same (ConstraintOf a t private b) h = one (fixed key.Type) (run_same a (one t (optional_same key.Private private (run_same b h))))
-
-  constraints_same : (a : List Constraint) {j k : List Tok} → Spelled w j k → Spelled w (constraints_then (map (spell_constraint w) a) j)
-      (constraints_then a k)
-  constraints_same [] h = h
-  constraints_same (c ∷ cs) h = one (fixed key.And) (constraint_same c (constraints_same cs h))
-
-  withs_same : (a : List WithClause) {j k : List Tok} → Spelled w j k → Spelled w (withs_then (map (spell_with_clause w) a) j) (withs_then a k)
-  withs_same [] h = h
-  withs_same (WithOf c cs ∷ ws) h = one (fixed key.With) (constraint_same c (constraints_same cs (withs_same ws h)))
-
-  texts_same : (a : List Name) {j k : List Tok} → Spelled w j k → Spelled w (texts_then a j) (texts_then a k)
-  texts_same [] h = h
-  texts_same (x ∷ xs) h = one (word class.Text x) (texts_same xs h)
-
-  external_same : (a : ValueName) (b : List Tok) (c : ℕ) (d : List Name) {j k : List Tok} → Spelled w j k
-      → Spelled w (external_then (spell_value_name w a) (spell_run w b) c d j) (external_then a b c d k)
-  external_same x run at texts h =
-      one (fixed key.External) (name_same x (one (fixed key.Colon) (run_same run (one (placed key.Equals at) (texts_same texts h)))))
-
-  open_item_same : (a : ℕ) (b : Option Name) (c : List Name) {j k : List Tok} → Spelled w j k
-      → Spelled w (open_item_then a b c j) (open_item_then a b c k)
-  open_item_same at bang path h = one (placed key.Open at) (bang_same bang (path_same path h))
-
-  mutual
-    mod_same : (a : ModExpr) {j k : List Tok} → Spelled w j k → Spelled w (mod_then (spell_mod_expr w a) j) (mod_then a k)
-    mod_same (ModPath path) h = path_same path h
-    mod_same (Struct at is) h = one (placed key.Struct at) (items_same is (one (fixed key.End) h))
-    mod_same (Functor at ps m) h = one (placed key.Functor at) (functor_params_same ps (one (fixed key.Arrow) (mod_same m h)))
-    mod_same (ModApply m ms) h = mod_same m (mod_arguments_same ms h)
-    mod_same (ModParen at m) h = one (placed key.LeftParen at) (mod_same m (one (fixed key.RightParen) h))
-    mod_same (Sealed at m s) h = one (placed key.LeftParen at) (mod_same m (one (fixed key.Colon) (mod_type_same s (one (fixed key.RightParen) h))))
-
-    mod_argument_same : (a : ModArgument) {j k : List Tok} → Spelled w j k
-        → Spelled w (mod_argument_then (spell_mod_argument w a) j) (mod_argument_then a k)
-    mod_argument_same (ModuleArgument at m) h = one (placed key.LeftParen at) (mod_same m (one (fixed key.RightParen) h))
-    mod_argument_same (SealedArgument at m s) h =
-        one (placed key.LeftParen at) (mod_same m (one (fixed key.Colon) (mod_type_same s (one (fixed key.RightParen) h))))
-    mod_argument_same (NoArgument at) h = one (placed key.LeftParen at) (one (fixed key.RightParen) h)
-
-    mod_arguments_same : (a : ModArguments) {j k : List Tok} → Spelled w j k → Spelled w (mod_arguments_then (spell_mod_arguments w a) j)
-        (mod_arguments_then a k)
-    mod_arguments_same no_mod_argument h = h
-    mod_arguments_same (more_mod_argument m ms) h = mod_argument_same m (mod_arguments_same ms h)
-
-    functor_param_same : (a : FunctorParam) {j k : List Tok} → Spelled w j k → Spelled w (functor_param_then (spell_functor_param w a) j)
-        (functor_param_then a k)
-    functor_param_same (NamedParam at x s) h =
-        one (placed key.LeftParen at) (module_name_same x (one (fixed key.Colon) (mod_type_same s (one (fixed key.RightParen) h))))
-    functor_param_same (NoParam at) h = one (placed key.LeftParen at) (one (fixed key.RightParen) h)
-
-    functor_params_same : (a : FunctorParams) {j k : List Tok} → Spelled w j k → Spelled w (functor_params_then (spell_functor_params w a) j)
-        (functor_params_then a k)
-    functor_params_same no_functor_param h = h
-    functor_params_same (more_functor_param p ps) h = functor_param_same p (functor_params_same ps h)
-
-    mod_type_same : (a : ModType) {j k : List Tok} → Spelled w j k → Spelled w (mod_type_then (spell_mod_type w a) j) (mod_type_then a k)
-    mod_type_same (TypePath path) h = path_same path h
-    mod_type_same (Sig at is) h = one (placed key.Sig at) (sig_items_same is (one (fixed key.End) h))
-    mod_type_same (TypeOf at m) h = one (placed key.Module at) (one (fixed key.Type) (one (fixed key.Of) (mod_same m h)))
-    mod_type_same (TypeParen at s) h = one (placed key.LeftParen at) (mod_type_same s (one (fixed key.RightParen) h))
-    mod_type_same (With s ws) h = mod_type_same s (withs_same ws h)
-    mod_type_same (FunctorType at ps s) h = one (placed key.Functor at) (functor_params_same ps (one (fixed key.Arrow) (mod_type_same s h)))
-    mod_type_same (ParamArrow p s) h = functor_param_same p (one (fixed key.Arrow) (mod_type_same s h))
-    mod_type_same (Arrow s s') h = mod_type_same s (one (fixed key.Arrow) (mod_type_same s' h))
-
-    signature_same : (a : MaybeType) {j k : List Tok} → Spelled w j k → Spelled w (signature_then (spell_maybe_type w a) j) (signature_then a k)
-    signature_same no_type h = h
-    signature_same (some_type s) h = one (fixed key.Colon) (mod_type_same s h)
-
-    item_same : (a : Item) {j k : List Tok} → Spelled w j k → Spelled w (item_then (spell_item w a) j) (item_then a k)
-    item_same (ExprItem e) h = expr_same e h
-    item_same SeparatorItem h = one (fixed key.DoubleSemicolon) h
-    item_same (ValueItem at rec b bs) h = one (placed key.Let at) (optional_same key.Rec rec (binding_same b (bindings_same bs h)))
-    item_same (ExternalItem x run at texts) h = external_same x run at texts h
-    item_same (TypeItem run) h = one (fixed key.Type) (run_same run h)
-    item_same (ExceptionItem at run) h = one (placed key.Exception at) (run_same run h)
-    item_same (ModuleItem at x ps s eq m) h =
-        one (placed key.Module at) (module_name_same x (functor_params_same ps (signature_same s (one (placed key.Equals eq) (mod_same m h)))))
-    item_same (ModuleTypeItem at x eq s) h =
-        one (placed key.Module at) (one (fixed key.Type) (one (word class.Upper x) (one (placed key.Equals eq) (mod_type_same s h))))
-    item_same (OpenItem at bang path) h = open_item_same at bang path h
-    item_same (IncludeItem at m) h = one (placed key.Include at) (mod_same m h)
-
-    items_same : (a : Items) {j k : List Tok} → Spelled w j k → Spelled w (items_then (spell_items w a) j) (items_then a k)
-    items_same no_item h = h
-    items_same (more_item i is) h = item_same i (items_same is h)
-
-    sig_item_same : (a : SigItem) {j k : List Tok} → Spelled w j k → Spelled w (sig_item_then (spell_sig_item w a) j) (sig_item_then a k)
-    sig_item_same SeparatorSig h = one (fixed key.DoubleSemicolon) h
-    sig_item_same (ValSig x run) h = one (fixed key.Val) (name_same x (one (fixed key.Colon) (run_same run h)))
-    sig_item_same (ExternalSig x run at texts) h = external_same x run at texts h
-    sig_item_same (TypeSig run) h = one (fixed key.Type) (run_same run h)
-    sig_item_same (ExceptionSig at run) h = one (placed key.Exception at) (run_same run h)
-    sig_item_same (ModuleSig at x ps s) h =
-        one (placed key.Module at) (module_name_same x (functor_params_same ps (one (fixed key.Colon) (mod_type_same s h))))
-    sig_item_same (AliasSig at x eq path) h = one (placed key.Module at) (one (word class.Upper x) (one (placed key.Equals eq) (path_same path h)))
-    sig_item_same (ModuleTypeSig at x eq s) h =
-        one (placed key.Module at) (one (fixed key.Type) (one (word class.Upper x) (one (placed key.Equals eq) (mod_type_same s h))))
-    sig_item_same (OpenSig at bang path) h = open_item_same at bang path h
-    sig_item_same (IncludeSig at s) h = one (placed key.Include at) (mod_type_same s h)
-
-    sig_items_same : (a : SigItems) {j k : List Tok} → Spelled w j k → Spelled w (sig_items_then (spell_sig_items w a) j) (sig_items_then a k)
-    sig_items_same no_sig_item h = h
-    sig_items_same (more_sig_item i is) h = sig_item_same i (sig_items_same is h)
+  words_same : (t : FileTree) → words (spell_file w t) ≡ map (spell_tok w) (words t)
+  words_same t = (file_spelled add_words add_words (Spelled w) w event_same t (record { eq = refl })).eq
 
   -- ---- tokens and runs
 
@@ -973,5 +664,5 @@ module _ (w : Spelling) where
     sig_items_wf (more_sig_item i is) h = (sig_item_wf i h.0, sig_items_wf is h.1)
 
 pub respelling_keeps_the_tree : RespellingKeepsTheTree
-respelling_keeps_the_tree w (Body file is) h = (items_wf w true is h, (items_same w is (record { eq = refl })).eq)
-respelling_keeps_the_tree w (Face file is) h = (sig_items_wf w is h, (sig_items_same w is (record { eq = refl })).eq)
+respelling_keeps_the_tree w (Body file is) h = (items_wf w true is h, words_same w (Body file is))
+respelling_keeps_the_tree w (Face file is) h = (sig_items_wf w is h, words_same w (Face file is))
