@@ -24,6 +24,7 @@ use Rattle.capture_check.proofs.Before.{tested, untested}
 use Rattle.capture_check.proofs.Equal.{items_decl}
 use Rattle.group_laws.specs.Laws.{NoRepeatIsApart, UnrefusedIsGood}
 use Rattle.group_laws.proofs.Firsts.{no_least_is_none}
+use Rattle.ml_syntax.proofs.Placed.{body_placed, face_placed}
 
 -- ---- parts of lists
 
@@ -96,9 +97,9 @@ module _ (us : List UnitTree) where
   file_made : (t : FileTree) (sc : Entries) → Apart (file_places (Some t)) → Each Own (file_places (Some t))
       → Each IsMade (groups_of (file_steps sc t))
   file_made (Body f is) sc a k = let h = items_uses f is sc [] in
-      made f h.added (sites (Body f is)) (groups_of (file_steps sc (Body f is))) h.is a k h.groups
+      made f h.added (sites (Body f is)) (groups_of (file_steps sc (Body f is))) (body_placed f is ∙ h.is) a k h.groups
   file_made (Face f is) sc a k = let h = sig_items_uses f is sc [] in
-      made f h.added (sites (Face f is)) (groups_of (file_steps sc (Face f is))) h.is a k h.groups
+      made f h.added (sites (Face f is)) (groups_of (file_steps sc (Face f is))) (face_placed f is ∙ h.is) a k h.groups
 
   part_made : (o : Option FileTree) (sc : Entries) → Apart (file_places o) → Each Own (file_places o)
       → Each IsMade (groups_of (maybe_file_steps sc o))

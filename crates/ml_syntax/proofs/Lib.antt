@@ -1,3 +1,4 @@
+pub mod SitesByForm
 pub mod Spelling
 pub mod Steps
 pub mod Reading

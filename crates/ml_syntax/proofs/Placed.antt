@@ -1,5 +1,5 @@
 -- The places of trees are those that their events add. Printed by scripts/print_walk.py.
-use Rattle.std.proofs.Common.{◌≡◌, ◌∙◌, ◌∷◌, List, [], true, ap}
+use Rattle.std.proofs.Common.{◌≡◌, ◌∙◌, ◌∷◌, ℕ, List, [], true, refl, ap, sym}
 use Rattle.rotor_base.specs.declared.token.Class.TheVariants as class
 use Rattle.ml_trees.specs.declared.fixed.Fixed.{Fixed}
 use Rattle.ml_trees.specs.declared.fixed.Fixed.TheVariants as key
@@ -31,11 +31,12 @@ use Rattle.ml_trees.specs.Tree.{AliasSig}
 use Rattle.ml_trees.specs.Tree.{ModuleTypeSig, OpenSig, IncludeSig, SigItems, no_sig_item, more_sig_item, FileTree, Body, Face}
 use Rattle.ml_trees.specs.Events.{value, field, operator, minus, module_path, last_path, qualifier, group_begins, group_ends, bindings_begin}
 use Rattle.ml_trees.specs.Events.{part_begins, part_ends, alternatives_end, scope_begins, scope_ends, brings}
+use Rattle.tree_walk.specs.Told.{file_told}
 use Rattle.tree_walk.specs.Told.{names_told, brings_told, pat_told, pats_told, pat_field_told, pat_fields_told, variable_told, local_told}
 use Rattle.tree_walk.specs.Told.{locals_told, expr_told, links_told, base_told, guard_told, tail_told, binding_told, bindings_told, case_told}
 use Rattle.tree_walk.specs.Told.{cases_told, argument_told, arguments_told, param_told, params_told, part_told, parts_told, field_told}
 use Rattle.tree_walk.specs.Told.{fields_told, mod_told, mod_argument_told, mod_arguments_told, functor_param_told, functor_params_told}
-use Rattle.tree_walk.specs.Told.{mod_type_told, signature_told, item_told, items_told, sig_item_told, sig_items_told, file_told}
+use Rattle.tree_walk.specs.Told.{mod_type_told, signature_told, item_told, items_told, sig_item_told, sig_items_told}
 use Rattle.tree_walk.proofs.Tells.{told_AliasSig, told_AnyName, told_AnyPat, told_AnyVariable, told_AppliedBinding, told_Apply, told_Arrow}
 use Rattle.tree_walk.proofs.Tells.{told_AsPat, told_Assert, told_AssignedField, told_Begin, told_Body, told_BoolExpr, told_BoolPat, told_CaseOf}
 use Rattle.tree_walk.proofs.Tells.{told_Chain, told_CharPart, told_Coerced, told_ConsPat, told_Constr, told_ConstrApply, told_ConstrApplyPat}
@@ -62,12 +63,14 @@ use Rattle.tree_walk.proofs.Tells.{told_names_more, told_no_argument, told_no_bi
 use Rattle.tree_walk.proofs.Tells.{told_no_functor_param, told_no_item, told_no_link, told_no_local, told_no_mod_argument, told_no_module}
 use Rattle.tree_walk.proofs.Tells.{told_no_param, told_no_part, told_no_pat, told_no_pat_field, told_no_sig_item, told_no_type, told_or_else}
 use Rattle.tree_walk.proofs.Tells.{told_or_if, told_some_type}
-use Rattle.ml_syntax.specs.Places.{Site, sites, argument_sites, arguments_sites, binding_sites, bindings_sites, case_sites, cases_sites}
-use Rattle.ml_syntax.specs.Places.{expr_sites, field_sites, fields_sites, functor_param_sites, functor_params_sites, item_sites, items_sites}
-use Rattle.ml_syntax.specs.Places.{links_sites, maybe_sites, mod_argument_sites, mod_arguments_sites, mod_sites, mod_type_sites, names_sites}
-use Rattle.ml_syntax.specs.Places.{param_sites, params_sites, part_sites, parts_sites, pat_field_sites, pat_fields_sites, pat_sites, pats_sites}
-use Rattle.ml_syntax.specs.Places.{sig_item_sites, sig_items_sites, signature_sites, tail_sites, variable_sites}
-use Rattle.ml_syntax.specs.Adding.{adds_site}
+use Rattle.ml_syntax.specs.Places.{Site, sites}
+use Rattle.ml_syntax.proofs.SitesByForm.{sites_by_form, argument_sites, arguments_sites, binding_sites, bindings_sites, case_sites, cases_sites}
+use Rattle.ml_syntax.proofs.SitesByForm.{expr_sites, field_sites, fields_sites, functor_param_sites, functor_params_sites, item_sites, items_sites}
+use Rattle.ml_syntax.proofs.SitesByForm.{links_sites, maybe_sites, mod_argument_sites, mod_arguments_sites, mod_sites, mod_type_sites, names_sites}
+use Rattle.ml_syntax.proofs.SitesByForm.{param_sites, params_sites, part_sites, parts_sites, pat_field_sites, pat_fields_sites, pat_sites, pats_sites}
+use Rattle.ml_syntax.specs.Places.{variable_sites}
+use Rattle.ml_syntax.proofs.SitesByForm.{sig_item_sites, sig_items_sites, signature_sites, tail_sites}
+use Rattle.ml_syntax.specs.Places.{adds_site}
 
 names_placed : (x0 : List ValueName) (found : List Site) → names_told adds_site found x0 ≡ names_sites found x0
 names_placed [] found = told_names_end adds_site found
@@ -477,7 +480,19 @@ mutual
       ∙ ap (λ w. sig_items_told adds_site w is) (sig_item_placed i found)
       ∙ sig_items_placed is (sig_item_sites found i)
 
--- the places of a file
-pub file_placed : (t : FileTree) → file_told adds_site [] t ≡ sites t
-file_placed (Body file is) = told_Body adds_site [] file is ∙ items_placed is []
-file_placed (Face file is) = told_Face adds_site [] file is ∙ sig_items_placed is []
+-- the places of a file, as its events make them
+pub file_told_placed : (t : FileTree) → file_told adds_site [] t ≡ sites t
+unfolding file_told
+file_told_placed t = refl
+
+-- and form by form
+pub file_placed : (t : FileTree) → sites t ≡ sites_by_form t
+file_placed (Body file is) = sym (file_told_placed (Body file is)) ∙ told_Body adds_site [] file is ∙ items_placed is []
+file_placed (Face file is) = sym (file_told_placed (Face file is)) ∙ told_Face adds_site [] file is ∙ sig_items_placed is []
+
+-- the same of a body, and of an interface
+pub body_placed : (file : ℕ) (is : Items) → sites (Body file is) ≡ items_sites [] is
+body_placed file is = file_placed (Body file is)
+
+pub face_placed : (file : ℕ) (is : SigItems) → sites (Face file is) ≡ sig_items_sites [] is
+face_placed file is = file_placed (Face file is)

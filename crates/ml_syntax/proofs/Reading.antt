@@ -1,5 +1,5 @@
 -- Reading the words of a well-formed tree one by one finds its places.
-use Rattle.std.proofs.Common.{◌≡◌, ℕ, ◌<◌, ◌≤◌, List, [], ◌∷◌, ◌++◌, Bool, true, false, not, Option, Some, None, refl, ap, subst, arith}
+use Rattle.std.proofs.Common.{◌≡◌, ℕ, ◌<◌, ◌≤◌, List, [], ◌∷◌, ◌++◌, Bool, true, false, not, Option, Some, None, refl, ap, subst, arith, sym}
 use Rattle.rotor_base.specs.declared.token.Class.TheVariants as class
 use Rattle.ml_trees.specs.declared.fixed.Fixed.{Fixed}
 use Rattle.ml_trees.specs.declared.fixed.Fixed.TheVariants as key
@@ -37,13 +37,16 @@ use Rattle.ml_trees.specs.WellFormed.{level, op_level, Wf, WfSeq, WfChain, WfBas
 use Rattle.ml_trees.specs.WellFormed.{WfArgument, WfArguments, WfParam, WfParams, WfPart, WfParts, WfField, WfFields, is_separator, WfMod}
 use Rattle.ml_trees.specs.WellFormed.{WfModArgument, WfModArguments, WfFunctorParam, WfFunctorParams, WfModType, WfSignature, WfItem, WfItems}
 use Rattle.ml_trees.specs.WellFormed.{WfSigItem, WfSigItems, WfFile}
-use Rattle.ml_syntax.specs.Places.{Site, plain, punned, operator_sites, name_sites, names_sites, pat_sites, pats_sites, pat_field_sites}
-use Rattle.ml_syntax.specs.Places.{pat_fields_sites, variable_sites, expr_sites, links_sites, maybe_sites, tail_sites, binding_sites, bindings_sites}
-use Rattle.ml_syntax.specs.Places.{case_sites, cases_sites, argument_sites, arguments_sites, param_sites, params_sites, part_sites, parts_sites}
-use Rattle.ml_syntax.specs.Places.{field_sites, fields_sites, mod_sites, mod_argument_sites, mod_arguments_sites, functor_param_sites}
-use Rattle.ml_syntax.specs.Places.{functor_params_sites, mod_type_sites, signature_sites, item_sites, items_sites, sig_item_sites, sig_items_sites}
+use Rattle.ml_syntax.specs.Places.{Site, plain, punned, operator_sites, name_sites}
+use Rattle.ml_syntax.proofs.SitesByForm.{names_sites, pat_sites, pats_sites, pat_field_sites}
+use Rattle.ml_syntax.specs.Places.{variable_sites}
+use Rattle.ml_syntax.proofs.SitesByForm.{pat_fields_sites, expr_sites, links_sites, maybe_sites, tail_sites, binding_sites, bindings_sites}
+use Rattle.ml_syntax.proofs.SitesByForm.{case_sites, cases_sites, argument_sites, arguments_sites, param_sites, params_sites, part_sites, parts_sites}
+use Rattle.ml_syntax.proofs.SitesByForm.{field_sites, fields_sites, mod_sites, mod_argument_sites, mod_arguments_sites, functor_param_sites}
+use Rattle.ml_syntax.proofs.SitesByForm.{functor_params_sites, mod_type_sites, signature_sites, item_sites, items_sites, sig_item_sites, sig_items_sites}
 use Rattle.ml_syntax.specs.Places.{sites}
 use Rattle.ml_syntax.specs.Standing.{is_brace, begins_bar, is_safe}
+use Rattle.ml_syntax.proofs.Placed.{body_placed, face_placed}
 
 pub type_safe : (run : Option (List Tok)) (k : List Tok) → is_safe k ≡ true → is_safe (type_then run k) ≡ true
 type_safe None k u = u
@@ -585,5 +588,5 @@ mutual
   sig_items_read (more_sig_item i is) h r = sig_items_read is h.1 (sig_item_read i h.0 r)
 
 pub file_read : (t : FileTree) {ts : List Tok} → WfFile t → Read ts false [] (words t) → Read ts true (sites t) []
-file_read (Body file is) h r = items_read true is h r
-file_read (Face file is) h r = sig_items_read is h (loose r)
+file_read (Body file is) {ts} h r = subst (λ (l : List Site). Read ts true l []) (sym (body_placed file is)) (items_read true is h r)
+file_read (Face file is) {ts} h r = subst (λ (l : List Site). Read ts true l []) (sym (face_placed file is)) (sig_items_read is h (loose r))

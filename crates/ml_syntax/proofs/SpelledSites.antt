@@ -1,12 +1,14 @@
 -- The places of a respelled tree are its places, respelled.
-use Rattle.std.proofs.Common.{◌≡◌, List, [], ◌∷◌, ◌++◌, Bool, true, false, map, codes, refl, sym, ap, ◌∙◌}
+use Rattle.std.proofs.Common.{◌≡◌, List, [], ◌∷◌, ◌++◌, Bool, true, false, map, codes, refl, sym, ap, ◌∙◌, subst}
 use Rattle.ml_trees.specs.declared.fixed.Fixed.TheVariants as key
 use Rattle.ml_trees.specs.Tok.{Tok, placed, word}
-use Rattle.ml_syntax.specs.Places.{Site, plain, punned, operated, operator_sites, name_sites, label_site, names_sites, pat_sites, pats_sites}
-use Rattle.ml_syntax.specs.Places.{pat_field_sites, pat_fields_sites, variable_sites, expr_sites, links_sites, maybe_sites, tail_sites, binding_sites}
-use Rattle.ml_syntax.specs.Places.{bindings_sites, case_sites, cases_sites, argument_sites, arguments_sites, param_sites, params_sites, part_sites}
-use Rattle.ml_syntax.specs.Places.{parts_sites, field_sites, fields_sites, mod_sites, mod_argument_sites, mod_arguments_sites, functor_param_sites}
-use Rattle.ml_syntax.specs.Places.{functor_params_sites, mod_type_sites, signature_sites, item_sites, items_sites, sig_item_sites, sig_items_sites}
+use Rattle.ml_syntax.specs.Places.{Site, plain, punned, operated, operator_sites, name_sites, label_site}
+use Rattle.ml_syntax.proofs.SitesByForm.{names_sites, pat_sites, pats_sites}
+use Rattle.ml_syntax.specs.Places.{variable_sites}
+use Rattle.ml_syntax.proofs.SitesByForm.{pat_field_sites, pat_fields_sites, expr_sites, links_sites, maybe_sites, tail_sites, binding_sites}
+use Rattle.ml_syntax.proofs.SitesByForm.{bindings_sites, case_sites, cases_sites, argument_sites, arguments_sites, param_sites, params_sites, part_sites}
+use Rattle.ml_syntax.proofs.SitesByForm.{parts_sites, field_sites, fields_sites, mod_sites, mod_argument_sites, mod_arguments_sites, functor_param_sites}
+use Rattle.ml_syntax.proofs.SitesByForm.{functor_params_sites, mod_type_sites, signature_sites, item_sites, items_sites, sig_item_sites, sig_items_sites}
 use Rattle.ml_syntax.specs.Places.{sites}
 use Rattle.ml_syntax.specs.Respelled.{Spelling, spell_tok, spell_value_name, spell_pat, spell_pats, spell_pat_field, spell_pat_fields, spell_variable}
 use Rattle.ml_syntax.specs.Respelled.{spell_expr, spell_links, spell_maybe_expr, spell_tail, spell_binding, spell_bindings, spell_case, spell_cases}
@@ -37,6 +39,7 @@ use Rattle.ml_syntax.proofs.Sited.{functor_params_stay, mod_type_stay, signature
 use Rattle.ml_syntax.specs.Each.{Each}
 use Rattle.ml_syntax.specs.SpelledSites.{IsKept, spell_site, SitesAreRespelled}
 use Rattle.ml_syntax.proofs.KeptSites.{map-both, one_kept, operator-spell}
+use Rattle.ml_syntax.proofs.Placed.{body_placed, face_placed}
 
 module _ (v : Spelling) where
   abbrev Kept : Site → Type 0
@@ -468,8 +471,11 @@ module _ (v : Spelling) where
 
   -- the places of a file
   pub sites-spell : (t : FileTree) → Each Kept (sites t) → sites (spell_file v t) ≡ map s (sites t)
-  sites-spell (Body file is) h = items_sites-spell is [] h
-  sites-spell (Face file is) h = sig_items_sites-spell is [] h
+  sites-spell (Body file is) h = body_placed file (spell_items v is) ∙ items_sites-spell is [] (subst (Each Kept) (body_placed file is) h)
+      ∙ ap (map s) (sym (body_placed file is))
+  sites-spell (Face file is) h =
+      face_placed file (spell_sig_items v is) ∙ sig_items_sites-spell is [] (subst (Each Kept) (face_placed file is) h)
+      ∙ ap (map s) (sym (face_placed file is))
 
 pub sites_are_respelled : SitesAreRespelled
 sites_are_respelled v t = sites-spell v t

@@ -7,4 +7,3 @@ pub mod Each
 pub mod SpelledSites
 pub mod RespelledFile
 pub mod RespelledSource
-pub mod Adding

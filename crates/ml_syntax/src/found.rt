@@ -22,9 +22,8 @@ struct Found {
 
 impl Visitor for Found {
     ghost use Rattle.std.specs.Prelude.{List};
-    ghost use Rattle.ml_syntax.specs.Places.{Site as PureSite};
+    ghost use Rattle.ml_syntax.specs.Places.{Site as PureSite, adds_site};
     ghost use Rattle.ml_syntax.specs.Sites.{view_sites};
-    ghost use Rattle.ml_syntax.specs.Adding.{adds_site};
 
     ghost State = { List PureSite };
 
@@ -73,7 +72,7 @@ impl Visitor for Found {
 }
 
 /// All places of a file.
-#[tactic(auto, using(crate::proofs::Placed::file_placed))]
+#[tactic(auto, using(crate::proofs::Placed::file_told_placed))]
 pub fn all_sites(alloc: Global, tree: &FileTree) -> Result<Vec<Site>, Memory>
     ensures { IfOk result (λ found. view_sites found.items ≡ sites (view_file tree.now)) }
 {

@@ -38,16 +38,19 @@ use Rattle.ml_trees.specs.WellFormed.{WfArgument, WfArguments, WfParam, WfParams
 use Rattle.ml_trees.specs.WellFormed.{WfModArgument, WfModArguments, WfFunctorParam, WfFunctorParams, WfModType, WfSignature, WfItem, WfItems}
 use Rattle.ml_trees.specs.WellFormed.{WfSigItem, WfSigItems, WfFile}
 use Rattle.ml_trees.specs.WellFormed.{is_operator, keyword_level, WfName, WfNames, WfPat, WfPats, WfPatField, WfPatFields}
-use Rattle.ml_syntax.specs.Places.{Site, plain, punned, operator_sites, name_sites, names_sites, pat_sites, pats_sites, pat_field_sites}
-use Rattle.ml_syntax.specs.Places.{pat_fields_sites, variable_sites, expr_sites, links_sites, maybe_sites, tail_sites, binding_sites, bindings_sites}
-use Rattle.ml_syntax.specs.Places.{case_sites, cases_sites, argument_sites, arguments_sites, param_sites, params_sites, part_sites, parts_sites}
-use Rattle.ml_syntax.specs.Places.{field_sites, fields_sites, mod_sites, mod_argument_sites, mod_arguments_sites, functor_param_sites}
-use Rattle.ml_syntax.specs.Places.{functor_params_sites, mod_type_sites, signature_sites, item_sites, items_sites, sig_item_sites, sig_items_sites}
+use Rattle.ml_syntax.specs.Places.{Site, plain, punned, operator_sites, name_sites}
+use Rattle.ml_syntax.proofs.SitesByForm.{names_sites, pat_sites, pats_sites, pat_field_sites}
+use Rattle.ml_syntax.specs.Places.{variable_sites}
+use Rattle.ml_syntax.proofs.SitesByForm.{pat_fields_sites, expr_sites, links_sites, maybe_sites, tail_sites, binding_sites, bindings_sites}
+use Rattle.ml_syntax.proofs.SitesByForm.{case_sites, cases_sites, argument_sites, arguments_sites, param_sites, params_sites, part_sites, parts_sites}
+use Rattle.ml_syntax.proofs.SitesByForm.{field_sites, fields_sites, mod_sites, mod_argument_sites, mod_arguments_sites, functor_param_sites}
+use Rattle.ml_syntax.proofs.SitesByForm.{functor_params_sites, mod_type_sites, signature_sites, item_sites, items_sites, sig_item_sites, sig_items_sites}
 use Rattle.ml_syntax.specs.Places.{sites}
 use Rattle.ml_syntax.specs.Places.{operated, label_site}
 use Rattle.ml_trees.specs.Runs.{has_colon}
 use Rattle.ml_syntax.specs.Each.{Each}
 use Rattle.binding_model.proofs.Sounds.{each_joined}
+use Rattle.ml_syntax.proofs.Placed.{body_placed, face_placed}
 
 -- ---- the words between two operands
 
@@ -518,8 +521,8 @@ module _ (ts : List Tok) (P : Site → Type 0) (holds : OfKinds ts P) where
     sig_items_read (more_sig_item i is) h r = sig_items_read is h.1 (sig_item_read i h.0 r)
 
   file_read : (t : FileTree) → WfFile t → Read [] (words t) → Read (sites t) []
-  file_read (Body file is) h r = items_read true is h r
-  file_read (Face file is) h r = sig_items_read is h r
+  file_read (Body file is) h r = subst (λ (l : List Site). Read l []) (sym (body_placed file is)) (items_read true is h r)
+  file_read (Face file is) h r = subst (λ (l : List Site). Read l []) (sym (face_placed file is)) (sig_items_read is h r)
 
 pub holds_of_places : (t : FileTree) (P : Site → Type 0) → WfFile t → OfKinds (words t) P → Each P (sites t)
 holds_of_places t P wf holds = let r = file_read (words t) P holds t wf (record { past = []; whole = refl; each = tt }) in r.each
