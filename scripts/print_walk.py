@@ -673,10 +673,22 @@ def placed(parts):
     return out
 
 
-FILES_PLACED = """-- the places of a file
-pub file_placed : (t : FileTree) → file_told adds_site [] t ≡ sites t
-file_placed (Body file is) = told_Body adds_site [] file is ∙ items_placed is []
-file_placed (Face file is) = told_Face adds_site [] file is ∙ sig_items_placed is []
+FILES_PLACED = """-- the places of a file, as its events make them
+pub file_told_placed : (t : FileTree) → file_told adds_site [] t ≡ sites t
+unfolding file_told
+file_told_placed t = refl
+
+-- and form by form
+pub file_placed : (t : FileTree) → sites t ≡ sites_by_form t
+file_placed (Body file is) = sym (file_told_placed (Body file is)) ∙ told_Body adds_site [] file is ∙ items_placed is []
+file_placed (Face file is) = sym (file_told_placed (Face file is)) ∙ told_Face adds_site [] file is ∙ sig_items_placed is []
+
+-- the same of a body, and of an interface
+pub body_placed : (file : ℕ) (is : Items) → sites (Body file is) ≡ items_sites [] is
+body_placed file is = file_placed (Body file is)
+
+pub face_placed : (file : ℕ) (is : SigItems) → sites (Face file is) ≡ sig_items_sites [] is
+face_placed file is = file_placed (Face file is)
 """
 
 
@@ -705,8 +717,9 @@ def print_places():
     uses = [std_names(body, "Rattle.std.proofs.Common"), *uses_of(body)]
     uses += use("Rattle.tree_walk.specs.Told", [told(f) for f in KINDS if told(f) in words])
     uses += use("Rattle.tree_walk.proofs.Tells", sorted(rules))
-    uses += use("Rattle.ml_syntax.specs.Places", ["Site", "sites", *sorted({places(f) for f in functions if places(f) in words})])
-    uses.append("use Rattle.ml_syntax.specs.Adding.{adds_site}")
+    uses += use("Rattle.ml_syntax.specs.Places", ["Site", "adds_site", "sites", "variable_sites"])
+    by_form = {places(f) for f in functions if places(f) in words} - {"variable_sites"}
+    uses += use("Rattle.ml_syntax.proofs.SitesByForm", ["sites_by_form", *sorted(by_form)])
     head = "The places of trees are those that their events add. Printed by scripts/print_walk.py."
     write("crates/ml_syntax/proofs/Placed.antt", head, uses, body)
 

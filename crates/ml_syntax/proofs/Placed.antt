@@ -31,12 +31,11 @@ use Rattle.ml_trees.specs.Tree.{AliasSig}
 use Rattle.ml_trees.specs.Tree.{ModuleTypeSig, OpenSig, IncludeSig, SigItems, no_sig_item, more_sig_item, FileTree, Body, Face}
 use Rattle.ml_trees.specs.Events.{value, field, operator, minus, module_path, last_path, qualifier, group_begins, group_ends, bindings_begin}
 use Rattle.ml_trees.specs.Events.{part_begins, part_ends, alternatives_end, scope_begins, scope_ends, brings}
-use Rattle.tree_walk.specs.Told.{file_told}
 use Rattle.tree_walk.specs.Told.{names_told, brings_told, pat_told, pats_told, pat_field_told, pat_fields_told, variable_told, local_told}
 use Rattle.tree_walk.specs.Told.{locals_told, expr_told, links_told, base_told, guard_told, tail_told, binding_told, bindings_told, case_told}
 use Rattle.tree_walk.specs.Told.{cases_told, argument_told, arguments_told, param_told, params_told, part_told, parts_told, field_told}
 use Rattle.tree_walk.specs.Told.{fields_told, mod_told, mod_argument_told, mod_arguments_told, functor_param_told, functor_params_told}
-use Rattle.tree_walk.specs.Told.{mod_type_told, signature_told, item_told, items_told, sig_item_told, sig_items_told}
+use Rattle.tree_walk.specs.Told.{mod_type_told, signature_told, item_told, items_told, sig_item_told, sig_items_told, file_told}
 use Rattle.tree_walk.proofs.Tells.{told_AliasSig, told_AnyName, told_AnyPat, told_AnyVariable, told_AppliedBinding, told_Apply, told_Arrow}
 use Rattle.tree_walk.proofs.Tells.{told_AsPat, told_Assert, told_AssignedField, told_Begin, told_Body, told_BoolExpr, told_BoolPat, told_CaseOf}
 use Rattle.tree_walk.proofs.Tells.{told_Chain, told_CharPart, told_Coerced, told_ConsPat, told_Constr, told_ConstrApply, told_ConstrApplyPat}
@@ -63,14 +62,12 @@ use Rattle.tree_walk.proofs.Tells.{told_names_more, told_no_argument, told_no_bi
 use Rattle.tree_walk.proofs.Tells.{told_no_functor_param, told_no_item, told_no_link, told_no_local, told_no_mod_argument, told_no_module}
 use Rattle.tree_walk.proofs.Tells.{told_no_param, told_no_part, told_no_pat, told_no_pat_field, told_no_sig_item, told_no_type, told_or_else}
 use Rattle.tree_walk.proofs.Tells.{told_or_if, told_some_type}
-use Rattle.ml_syntax.specs.Places.{Site, sites}
+use Rattle.ml_syntax.specs.Places.{Site, adds_site, sites, variable_sites}
 use Rattle.ml_syntax.proofs.SitesByForm.{sites_by_form, argument_sites, arguments_sites, binding_sites, bindings_sites, case_sites, cases_sites}
-use Rattle.ml_syntax.proofs.SitesByForm.{expr_sites, field_sites, fields_sites, functor_param_sites, functor_params_sites, item_sites, items_sites}
-use Rattle.ml_syntax.proofs.SitesByForm.{links_sites, maybe_sites, mod_argument_sites, mod_arguments_sites, mod_sites, mod_type_sites, names_sites}
-use Rattle.ml_syntax.proofs.SitesByForm.{param_sites, params_sites, part_sites, parts_sites, pat_field_sites, pat_fields_sites, pat_sites, pats_sites}
-use Rattle.ml_syntax.specs.Places.{variable_sites}
-use Rattle.ml_syntax.proofs.SitesByForm.{sig_item_sites, sig_items_sites, signature_sites, tail_sites}
-use Rattle.ml_syntax.specs.Places.{adds_site}
+use Rattle.ml_syntax.proofs.SitesByForm.{expr_sites, field_sites, fields_sites, functor_param_sites, functor_params_sites, item_sites}
+use Rattle.ml_syntax.proofs.SitesByForm.{items_sites, links_sites, maybe_sites, mod_argument_sites, mod_arguments_sites, mod_sites}
+use Rattle.ml_syntax.proofs.SitesByForm.{mod_type_sites, names_sites, param_sites, params_sites, part_sites, parts_sites, pat_field_sites}
+use Rattle.ml_syntax.proofs.SitesByForm.{pat_fields_sites, pat_sites, pats_sites, sig_item_sites, sig_items_sites, signature_sites, tail_sites}
 
 names_placed : (x0 : List ValueName) (found : List Site) → names_told adds_site found x0 ≡ names_sites found x0
 names_placed [] found = told_names_end adds_site found
