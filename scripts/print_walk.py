@@ -2,8 +2,8 @@
 """Prints the proofs that go over the trees form by form, from the clauses of crates/ml_trees/specs/Events.antt.
 
 It writes crates/tree_walk/specs/Told.antt, crates/tree_walk/proofs/Tells.antt, crates/ml_syntax/proofs/Placed.antt,
-crates/ml_syntax/proofs/SpelledEvents.antt and crates/group_walk/proofs/Grouped.antt. Run it after a change of Events.antt,
-and then `rt fmt` in these crates.
+crates/ml_syntax/proofs/SpelledEvents.antt, crates/rename_laws/proofs/FineEvents.antt and crates/group_walk/proofs/Grouped.antt.
+Run it after a change of Events.antt, Respelled.antt or WellFormed.antt, and then `rt fmt` in these crates.
 """
 import os
 import re
@@ -404,6 +404,223 @@ def print_spelled():
     write("crates/ml_syntax/proofs/SpelledEvents.antt", head, uses, body)
 
 
+WELL_FORMED = f"{TOP}/crates/ml_trees/specs/WellFormed.antt"
+# what says that a part is well formed, where its name is not the part's with a `Wf` in front
+WF_NAMES = {"expr": "Wf", "mod": "WfMod", "links": "AreSigns", "external": "WfExternal"}
+# parts of which nothing has to be known: each of their events is a word alone, a path, or a variable
+NOT_ASKED = SILENT + ["brings", "variable", "local", "locals", "open_item"]
+FINE_HEAD = """-- this word is no operator, or one that may be in its place
+abbrev pub is_sign : Tok → Bool
+is_sign (word class.Prefix x) = true
+is_sign (word class.Infix x) = true
+is_sign (word class.Mark x) = bytes_eq x.text (codes ":=")
+is_sign (word class.Keyword x) = nat_le 1 (keyword_level x.text)
+is_sign (word c x) = false
+is_sign (placed x at) = true
+is_sign (fixed x) = true
+
+mark_level : (b : Bool) (n : ℕ) → 3 ≤ n → (if b then 3 else 0) ≡ n → b ≡ true
+mark_level true n low e = refl
+mark_level false n low e = absurd (omega (arith, low, e))
+
+level_sign : (t : Tok) (n : ℕ) → 3 ≤ n → op_level t ≡ n → is_sign t ≡ true
+level_sign (word class.Prefix x) n low e = refl
+level_sign (word class.Infix x) n low e = refl
+level_sign (word class.Mark x) n low e = mark_level (bytes_eq x.text (codes ":=")) n low e
+level_sign (word class.Keyword x) n low e = let more : 1 ≤ keyword_level x.text = omega (arith, low, e) in grind (arith, nat_tests, more)
+level_sign (word c x) n low e = absurd (omega (arith, low, e))
+level_sign (placed x at) n low e = refl
+level_sign (fixed x) n low e = refl
+
+-- each link has such a word, and a well-formed operand
+abbrev AreSigns : Links → Type 0
+AreSigns no_link = Unit {0}
+AreSigns (more_link t e es) = (is_sign t ≡ true) × Wf e × AreSigns es
+
+sign_seq : (e : Expr) (es : Links) (last : Bool) → WfSeq e es last → AreSigns es
+sign_seq e no_link last h = tt
+sign_seq e (more_link t e' es) last h = (ap is_sign h.1, h.3, sign_seq e' es last h.4)
+
+sign_chain : (n : ℕ) (e : Expr) (es : Links) → 3 ≤ n → WfChain n e es → AreSigns es
+sign_chain n e no_link low h = tt
+sign_chain n e (more_link t e' es) low h = (level_sign t n low h.2, h.4, sign_chain n e' es low h.5)
+
+-- what is known of an event of a well-formed tree
+abbrev pub Fine : Event → Type 0
+Fine (value binds x) = WfName x
+Fine (label binds x) = has_colon x.text ≡ false
+Fine (operator t) = is_sign t ≡ true
+Fine _ = Unit {0}
+
+-- what each event keeps of which this is known, all events of a well-formed part keep
+module _ {A B : Type 0} (◌▹◌ : Event → A → A) (◌▸◌ : Event → B → B) (R : A → B → Type 0)
+    (keeps : (e : Event) (a : A) (b : B) → Fine e → R a b → R (e ▹ a) (e ▸ b)) where
+  infixr 35 ◌▹◌
+  infixr 35 ◌▸◌
+  kept : (e : Event) {a : A} {b : B} → Fine e → R a b → R (e ▹ a) (e ▸ b)
+  kept e g h = keeps e _ _ g h
+
+"""
+
+
+def factors(text):
+    """The factors of a type, split at each `×` that is in no parentheses."""
+    out, depth, last = [], 0, 0
+    for i, x in enumerate(text):
+        depth += {"(": 1, ")": -1}.get(x, 0)
+        if x == "×" and depth == 0:
+            out.append(text[last:i])
+            last = i + 1
+    return [x.strip() for x in [*out, text[last:]]]
+
+
+def read_well_formed():
+    """By name: the types of what is said to be well formed, and the clauses (patterns, factors)."""
+    types, clauses = {}, {}
+    for line in open(WELL_FORMED):
+        m = re.match(r"\s*(?:abbrev )?pub (Wf\w*) : (.*) → Type 0$", line)
+        if m:
+            types[m[1]] = m[2].split(" → ")
+        m = re.match(r"\s*(Wf\w*) (.*) = (.*)$", line)
+        if m:
+            clauses.setdefault(m[1], []).append(([show(x) for x in patterns_of(m[2])], factors(m[3])))
+    return types, clauses
+
+
+def patterns_of(text):
+    """The patterns of a clause; `x ∷ xs` stays one in its parentheses."""
+    return atoms(text)
+
+
+WF_TYPES, WF_CLAUSES = read_well_formed()
+WF_TYPES["AreSigns"] = ["Links"]
+WF_CLAUSES["AreSigns"] = [(["no_link"], ["Unit {0}"]), (["(more_link t e es)"], ["is_sign t ≡ true", "Wf e", "AreSigns es"])]
+
+
+def wf_of(function):
+    """What says that a part is well formed."""
+    camel = "".join(x.capitalize() for x in kind(function).split("_"))
+    return WF_NAMES.get(kind(function), "Wf" + camel)
+
+
+def plain_words(text):
+    return re.findall(r"[\w']+", text)
+
+
+def wf_clause(function, pattern):
+    """The clause on the same form of a part, by the names that Events has: what is before the part, and the factors."""
+    tree = [show(x) for x in atoms(pattern)][-1]
+    names = plain_words(tree)
+    for patterns, parts in WF_CLAUSES[wf_of(function)]:
+        for i, x in enumerate(patterns):
+            here = plain_words(x)
+            same_head = here and here[:1] == names[:1] and here[0] in CONSTRUCTORS
+            if x == tree or same_head or ("∷" in x and "∷" in tree):
+                renamed = dict(zip(here, names))
+                changed = [re.sub(r"[\w']+", lambda m: renamed.get(m[0], m[0]), y) for y in parts]
+                before = [y if y not in names else "_" for y in patterns[:i] + patterns[i + 1 :]]
+                return before, changed
+    assert False, (function, pattern)
+
+
+def known(parts, wanted):
+    """Where a factor is, and its words."""
+    for i, x in enumerate(parts):
+        if re.match(wanted, x.strip("()")):
+            return ("g" if len(parts) == 1 else f"g.{i}"), x.strip("()").split()
+    return None, None
+
+
+def fine_clause(steps_of_clause, parts):
+    """What the events of a clause keep, one behind another, by what is known of them."""
+    told_so = "h"
+    for x in reversed(steps_of_clause):
+        if x[1] == "brings_out":
+            x = ("ev", f"brings {x[2][0]}")
+        if x[0] == "ev":
+            words, at = x[1].split(), "tt"
+            if words[0] == "value" and words[-1].isidentifier():
+                at = known(parts, rf"WfName {words[-1]}$")[0]
+            elif words[0] == "label":
+                at = known(parts, rf"has_colon {words[-1]}\.text ≡ false$")[0]
+            elif words[0] == "operator":
+                at = "refl" if "class.Prefix" in x[1] else known(parts, r"is_sign t ≡ true$")[0]
+            told_so = f"kept {argument(x[1])} {at} {argument(told_so)}"
+            continue
+        function, given = x[1], x[2]
+        if kind(function) in NOT_ASKED:
+            told_so = f"{kind(function)}_fine {' '.join(given)} {argument(told_so)}"
+            continue
+        tree, before = given[-1], []
+        at, words = known(parts, rf"{wf_of(function)} (.* )?{re.escape(tree)}$")
+        if kind(function) == "links" and at is None:
+            at, words = known(parts, rf"WfSeq .* {tree} last$")
+            if at:
+                at = f"(sign_seq {' '.join(words[1:])} {at})"
+            else:
+                at, words = known(parts, rf"WfChain .* {tree}$")
+                at = f"(sign_chain {' '.join(words[1:])} g.0 {at})"
+        elif kind(function) == "fields" and at is None:
+            at, words = known(parts, rf"WfFields .* {tree} last$")
+            before = [words[1], words[3]]
+        elif kind(function) == "external":
+            at, words = known(parts, r"WfExternal ")
+        else:
+            joined = " ".join(words[1:])
+            before = [show(y) for y in atoms(joined)][:-1]
+        assert at, (x, parts)
+        told_so = f"{kind(function)}_fine {' '.join([*before, *given])} {at} {argument(told_so)}"
+    return told_so
+
+
+def print_fine():
+    body = FINE_HEAD
+    for block in BLOCKS:
+        functions = [f for f in block if f != "brings_out"]
+        if not functions:
+            continue
+        indent = "    " if len(functions) > 1 else "  "
+        if len(functions) > 1:
+            body += "  mutual\n"
+        for f in functions:
+            names, typed = arguments(f)
+            law, xs, asks = kind(f) + "_fine", " ".join(names), kind(f) not in NOT_ASKED
+            premise, extra = "", ""
+            if asks and kind(f) == "external":
+                premise = "WfExternal x0 x1 x3 → "
+            elif asks:
+                before = WF_TYPES[wf_of(f)][:-1] if kind(f) != "fields" else ["Field", "Bool"]
+                extra = "".join(f"(y{i} : {t}) " for i, t in enumerate(before))
+                ys = [f"y{i}" for i in range(len(before))]
+                said = [ys[0], names[-1], ys[1]] if kind(f) == "fields" else [*ys, names[-1]]
+                premise = f"{wf_of(f)} {' '.join(said)} → "
+            says = f"→ {premise}R a b → R ({f} ◌▹◌ {xs} a) ({f} ◌▸◌ {xs} b)"
+            body += in_two(f"{indent}pub {law} : {extra}{typed} {{a : A}} {{b : B}}", says)
+            for g, pattern, parts in CLAUSES:
+                if g == f and not asks:
+                    body += in_two(f"{indent}{law} {pattern} h =", fine_clause(parts, []))
+                elif g == f and kind(f) == "external":
+                    body += in_two(f"{indent}{law} {pattern} g h =", fine_clause(parts, ["WfName x", "is_type_run run ≡ true", "texts ≢ []"]))
+                elif g == f:
+                    before, is_known = wf_clause(f, pattern)
+                    body += in_two(f"{indent}{law} {' '.join([*before, pattern])} g h =", fine_clause(parts, is_known))
+            body += "\n"
+    words = words_of(body)
+    outs = [f for b in BLOCKS for f in b if f in words]
+    signs = [x for x in "truth opening closing wrap direction".split() if x in words]
+    uses = [
+        "use Rattle.std.proofs.Common.{◌≡◌, ℕ, ◌≤◌, List, [], ◌∷◌, Bool, true, false, if◌then◌else◌, Option, Some, None, codes}",
+        "use Rattle.std.proofs.Common.{bytes_eq, nat_le, refl, ap, arith}",
+        "use Rattle.std.proofs.lemmas.Bool.Decides.{nat_tests}",
+        *uses_of(body),
+        *use("Rattle.ml_trees.specs.Events", signs + outs),
+        *use("Rattle.ml_trees.specs.WellFormed", [x for x in ["keyword_level", "op_level", "is_separator", *WF_TYPES] if x in words and x != "AreSigns"]),
+        "use Rattle.ml_trees.specs.Runs.{has_colon}",
+    ]
+    head = "What holds of the events of a well-formed tree, if each event keeps it. Printed by scripts/print_walk.py."
+    write("crates/rename_laws/proofs/FineEvents.antt", head, uses, body)
+
+
 # what a tree declares in the group around it, and the groups inside it
 DECLARES = {
     "names": "names",
@@ -729,4 +946,5 @@ if __name__ == "__main__":
     print_tells()
     print_places()
     print_spelled()
+    print_fine()
     print_groups()

@@ -8,6 +8,7 @@ pub mod TreesBack
 pub mod Undone
 pub mod Ordered
 pub mod GoOn
+pub mod FineEvents
 pub mod Places
 pub mod Hits
 pub mod Operators

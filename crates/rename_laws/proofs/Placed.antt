@@ -1,10 +1,11 @@
 -- The place of a binder is the place of a token of a source, and the source's name gives its file.
-use Rattle.std.proofs.Common.{◌≡◌, ◌⊎◌, inl, inr, ℕ, zero, suc, ◌+◌, ◌<◌, ◌≤◌, ◌&&◌, List, [], ◌∷◌, ◌++◌, Bool, true, false, cond, length, get_or}
+use Rattle.std.proofs.Common.{◌≡◌, ◌⊎◌, inl, inr, ℕ, zero, suc, ◌+◌, ◌<◌, ◌≤◌, List, [], ◌∷◌, ◌++◌, Bool, true, false, cond, length, get_or}
 use Rattle.std.proofs.Common.{Option, Some, None, option_map, Contains, refl, ap, sym, subst, ◌∙◌, slice_get, bytes_eq, arith}
 use Rattle.std.specs.List.{list_all}
 use Rattle.std.specs.Cmp.Lexicographic.{slice_cmp}
 use Rattle.std.specs.List.Sorted.{IsStrictlySortedBy}
 use Rattle.std.specs.Ordering.{nat_cmp}
+use Rattle.std.proofs.lemmas.Bool.{and_parts}
 use Rattle.std.proofs.lemmas.Slice.Eq.{bytes_eq-Decides}
 use Rattle.rotor_base.specs.declared.place.Place.{Place}
 use Rattle.rotor_base.specs.declared.source.SourceFile.{SourceFile}
@@ -100,14 +101,10 @@ name_at [] k s e = cc
 name_at (x ∷ fs) zero s e = ap (λ (y : SourceFile). Some y.name) (some_is x s e)
 name_at (x ∷ fs) (suc k) s e = name_at fs k s e
 
-both_true : (a b : Bool) → (a && b) ≡ true → (a ≡ true) × (b ≡ true)
-both_true true b e = (refl, e)
-both_true false b e = cc
-
 all_at : (test : List ℕ → Bool) (ns : List (List ℕ)) (k : ℕ) (n : List ℕ) → list_all test ns ≡ true → slice_get ns k ≡ Some n → test n ≡ true
 all_at test [] k n h e = cc
-all_at test (x ∷ ns) zero n h e = ap test (sym (some_is x n e)) ∙ (both_true (test x) (list_all test ns) h).0
-all_at test (x ∷ ns) (suc k) n h e = all_at test ns k n (both_true (test x) (list_all test ns) h).1 e
+all_at test (x ∷ ns) zero n h e = ap test (sym (some_is x n e)) ∙ (and_parts (test x) (list_all test ns) h).0
+all_at test (x ∷ ns) (suc k) n h e = all_at test ns k n (and_parts (test x) (list_all test ns) h).1 e
 
 by_names : (fs : List SourceFile) (n : List ℕ) → number_of fs n ≡ first_at (λ m. bytes_eq m n) (names_of fs)
 by_names [] n = refl

@@ -10,6 +10,7 @@ use Rattle.std.specs.Ordering.{nat_cmp, is_lt, match_ordering}
 use Rattle.std.specs.Cmp.Lexicographic.{slice_cmp}
 use Rattle.std.specs.declared.cmp.Ordering.{Ordering}
 use Rattle.std.specs.declared.cmp.Ordering.TheVariants.{Less, Equal, Greater}
+use Rattle.std.proofs.lemmas.Bool.{and_parts}
 use Rattle.std.proofs.lemmas.Cmp.{nat_list_cmp_total}
 use Rattle.std.proofs.lemmas.List.{length-map}
 use Rattle.rotor_base.specs.Stem.{is_body_name}
@@ -25,10 +26,6 @@ use Rattle.sample_counts.proofs.Walked.{first_unit}
 use Rattle.sample_counts.proofs.Counted.{IsOther, AreOthers}
 use Rattle.sample_counts.proofs.Taking.{same_word, turned, ordered}
 use Rattle.sample_counts.proofs.Numbers.{unit_name, later_numbers, is_later, are_later, first_name, first_body, rises, numbers_rise}
-
-both : (a b : Bool) → a && b ≡ true → (a ≡ true) × (b ≡ true)
-both true b h = (refl, h)
-both false b h = let no : false ≡ true = h in cc
 
 -- ---- the names of the units
 
@@ -52,7 +49,7 @@ above : (i k : ℕ) (ks : List ℕ) → compared i k ≡ Less → rises (k ∷ k
 unfolding rises
 above i k [] h r = (h, tt)
 above i k (j ∷ ks) h r =
-    let b = both (is_lt (compared k j)) (rises (j ∷ ks)) r in
+    let b = and_parts (is_lt (compared k j)) (rises (j ∷ ks)) r in
     (h, above i j ks (nat_list_cmp_total.trans (unit_name i) (unit_name k) (unit_name j) h (less (compared k j) b.0)) b.1)
 
 sorted : (ks : List ℕ) → rises ks ≡ true → AreSorted ks
@@ -60,7 +57,7 @@ unfolding rises
 sorted [] r = tt
 sorted (k ∷ []) r = (tt, tt)
 sorted (k ∷ j ∷ ks) r =
-    let b = both (is_lt (compared k j)) (rises (j ∷ ks)) r in
+    let b = and_parts (is_lt (compared k j)) (rises (j ∷ ks)) r in
     (above k j ks (less (compared k j) b.0) b.1, sorted (j ∷ ks) b.1)
 
 abbrev under : ℕ → List ℕ → List ℕ
@@ -109,14 +106,14 @@ no_true true h = let bad : false ≡ true = h in cc
 later_is : (k : ℕ) → is_later k ≡ true → IsLater k
 unfolding is_later
 later_is k h =
-    let b = both (is_body_name (source_name k)) (not (bytes_eq (unit_name k) (codes "U0")) && nat_lt 0 k) h in
-    let c = both (not (bytes_eq (unit_name k) (codes "U0"))) (nat_lt 0 k) b.1 in
+    let b = and_parts (is_body_name (source_name k)) (not (bytes_eq (unit_name k) (codes "U0")) && nat_lt 0 k) h in
+    let c = and_parts (not (bytes_eq (unit_name k) (codes "U0"))) (nat_lt 0 k) b.1 in
     record { body = b.0; another = no_true (bytes_eq (unit_name k) (codes "U0")) c.0; positive = c.1 }
 
 later_under : (n : ℕ) (ks : List ℕ) → list_all is_later ks ≡ true → AreLater (under n ks)
 later_under n [] h = tt
 later_under n (k ∷ ks) h =
-    let b = both (is_later k) (list_all is_later ks) h in
+    let b = and_parts (is_later k) (list_all is_later ks) h in
     by (nat_lt k n) (later_is k b.0) (later_under n ks b.1)
   where
     by : (b : Bool) → IsLater k → AreLater (under n ks) → AreLater (cond b (k ∷ under n ks) (under n ks))

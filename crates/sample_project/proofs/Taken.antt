@@ -11,6 +11,7 @@ use Rattle.std.specs.declared.cmp.Ordering.TheVariants.{Less, Equal, Greater}
 use Rattle.std.specs.Cmp.Lexicographic.{slice_cmp}
 use Rattle.std.specs.Bool.{beq}
 use Rattle.std.specs.Str.{bytes_eq}
+use Rattle.std.proofs.lemmas.Bool.{and_parts}
 use Rattle.std.proofs.lemmas.Cmp.{nat_list_cmp_total}
 use Rattle.std.proofs.lemmas.Grind.{common_steps}
 use Rattle.std.proofs.lemmas.Map.Text.{is_eq-slice_cmp}
@@ -26,10 +27,6 @@ use Rattle.rotor_base.proofs.Loads.{are_over_with, first_with_miss}
 use Rattle.sample_project.specs.Sources.{numbers, source_name, source_text, source_of, sources_below}
 
 -- ---- what is computed of all numbers
-
-both : (a b : Bool) → a && b ≡ true → (a ≡ true) × (b ≡ true)
-both true b h = (refl, h)
-both false b h = let no : false ≡ true = h in cc
 
 less : (o : Ordering) → is_lt o ≡ true → o ≡ Less
 less Less h = refl
@@ -62,7 +59,7 @@ above : (x : List ℕ) (k : ℕ) (ks : List ℕ) → slice_cmp nat_cmp x (source
 unfolding rises
 above x k [] h r = (h, tt)
 above x k (j ∷ ks) h r =
-    let b = both (is_lt (slice_cmp nat_cmp (source_name k) (source_name j))) (rises (j ∷ ks)) r in (
+    let b = and_parts (is_lt (slice_cmp nat_cmp (source_name k) (source_name j))) (rises (j ∷ ks)) r in (
       h,
       above x j ks (nat_list_cmp_total.trans x (source_name k) (source_name j) h (less (slice_cmp nat_cmp (source_name k) (source_name j)) b.0))
           b.1,
@@ -73,7 +70,7 @@ unfolding IsStrictlySortedBy rises
 sorted [] r = tt
 sorted (k ∷ []) r = (tt, tt)
 sorted (k ∷ j ∷ ks) r =
-    let b = both (is_lt (slice_cmp nat_cmp (source_name k) (source_name j))) (rises (j ∷ ks)) r in
+    let b = and_parts (is_lt (slice_cmp nat_cmp (source_name k) (source_name j))) (rises (j ∷ ks)) r in
     (above (source_name k) j ks (less (slice_cmp nat_cmp (source_name k) (source_name j)) b.0) b.1, sorted (j ∷ ks) b.1)
 
 -- what holds of all names holds of those below a bound
@@ -99,8 +96,8 @@ named_below : (n : ℕ) (ks : List ℕ) → list_all is_named ks ≡ true → li
 unfolding is_named
 named_below n [] h = refl
 named_below n (k ∷ ks) h =
-    let b = both (is_named k) (list_all is_named ks) h in
-    let this = both (is_source_name (source_name k)) (bytes_eq (unit_of (source_name k)) (85 ∷ decimal k)) b.0 in
+    let b = and_parts (is_named k) (list_all is_named ks) h in
+    let this = and_parts (is_source_name (source_name k)) (bytes_eq (unit_of (source_name k)) (85 ∷ decimal k)) b.0 in
     by (nat_lt k n) this.0 (named_below n ks b.1)
   where
     by : (c : Bool) → is_source_name (source_name k) ≡ true → list_all is_source_name (names_of (sources_below n ks)) ≡ true
@@ -172,7 +169,7 @@ unfolding is_named
 apart k j hk hj h = by (bytes_eq (unit_of (source_name k)) (unit_of (source_name j))) refl where
   unit_is : (i : ℕ) → is_named i ≡ true → unit_of (source_name i) ≡ 85 ∷ decimal i
   unit_is i hi = (bytes_eq-Decides (unit_of (source_name i)) (85 ∷ decimal i)).0
-      (both (is_source_name (source_name i)) (bytes_eq (unit_of (source_name i)) (85 ∷ decimal i)) hi).1
+      (and_parts (is_source_name (source_name i)) (bytes_eq (unit_of (source_name i)) (85 ∷ decimal i)) hi).1
 
   by : (b : Bool) → bytes_eq (unit_of (source_name k)) (unit_of (source_name j)) ≡ b → b ≡ false
   by false e = refl
@@ -195,7 +192,7 @@ none_like : (n k : ℕ) (ks : List ℕ) → is_named k ≡ true → list_all is_
     → list_any (are_twins (record { name = unit_of (source_name k); is_body = is_body_name (source_name k) })) (units_of (sources_below n ks)) ≡ false
 none_like n k [] hk named h = refl
 none_like n k (j ∷ ks) hk named h =
-    let b = both (is_named j) (list_all is_named ks) named in
+    let b = and_parts (is_named j) (list_all is_named ks) named in
     by (nat_lt j n) (apart k j hk b.0 h.0) (none_like n k ks hk b.1 h.1)
   where
     by : (c : Bool) → bytes_eq (unit_of (source_name k)) (unit_of (source_name j)) ≡ false
@@ -213,7 +210,7 @@ none_doubled : (n : ℕ) (ks : List ℕ) → list_all is_named ks ≡ true → I
 unfolding IsStrictlySortedBy
 none_doubled n [] named h = refl
 none_doubled n (k ∷ ks) named h =
-    let b = both (is_named k) (list_all is_named ks) named in
+    let b = and_parts (is_named k) (list_all is_named ks) named in
     by (nat_lt k n) (none_like n k ks b.0 b.1 h.0) (none_doubled n ks b.1 h.1)
   where
     by : (c : Bool) → list_any (are_twins (record { name = unit_of (source_name k); is_body = is_body_name (source_name k) }))
