@@ -480,7 +480,7 @@ impl<F: Fn(Global, &[Token<'_>], usize, usize, usize) -> Result<(Pat, usize), Re
             },
             Pat::Tag(tag) => match self.simple(tokens, at) {
                 Ok((argument, after)) => {
-                    let tag = take_word(self.alloc, tag);
+                    let tag = take_word(tag);
                     let argument = Box::new(self.alloc, argument)?;
                     Ok((Pat::TagApply { tag, argument }, after))
                 }

@@ -16,24 +16,24 @@ pub fn take_path(alloc: Global, path: &mut Path) -> Path
 }
 
 /// Takes a word out of a tree.
-pub fn take_word(alloc: Global, word: &mut Word) -> Word
+pub fn take_word(word: &mut Word) -> Word
     ensures { result ≡ word.old }
 {
-    replace(word, no_word(alloc))
+    replace(word, no_word())
 }
 
 /// Takes the name of a value out of a tree.
-pub fn take_name(alloc: Global, name: &mut ValueName) -> ValueName
+pub fn take_name(name: &mut ValueName) -> ValueName
     ensures { result ≡ name.old }
 {
-    replace(name, ValueName::Lower(no_word(alloc)))
+    replace(name, ValueName::Lower(no_word()))
 }
 
 /// A word without bytes.
-fn no_word(alloc: Global) -> Word {
+fn no_word() -> Word {
     Word {
         token: 0,
         class: Class::Lower,
-        name: Name::from_vec(Vec::new(alloc)),
+        name: Name::empty(),
     }
 }

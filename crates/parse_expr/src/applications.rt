@@ -308,7 +308,7 @@ fn with_argument(
             Ok(Box::new(alloc, Expr::ConstrApply { path, argument })?)
         }
         Expr::Tag(tag) => {
-            let tag = take_word(alloc, tag);
+            let tag = take_word(tag);
             Ok(Box::new(alloc, Expr::TagApply { tag, argument })?)
         }
         _ => Ok(head),

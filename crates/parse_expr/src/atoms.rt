@@ -235,7 +235,7 @@ fn qualified(
     match &mut *inner {
         Expr::Value { path: names, name } => {
             if names.len() == 0 {
-                let name = take_name(alloc, name);
+                let name = take_name(name);
                 return Ok((value_of(alloc, path, name)?, after));
             }
             Ok((Box::new(alloc, Expr::Constr(path))?, at))

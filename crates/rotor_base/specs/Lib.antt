@@ -3,6 +3,7 @@ pub mod Lines
 pub mod Manifest
 pub mod Limits
 pub mod Name
+pub mod NameBytes
 pub mod Place
 pub mod Stem
 pub mod Unit

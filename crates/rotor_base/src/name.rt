@@ -1,24 +1,48 @@
-ghost use Rattle.std.specs.Prelude.{◌≡◌, IfOk};
+ghost use Rattle.std.specs.Prelude.{◌≡◌, ◌≤◌, [], IfOk, length, take};
 ghost use Rattle.std.specs.List.{list_all, list_any};
 ghost use Rattle.std.specs.Str.{bytes_eq};
+ghost use Rattle.rotor_base.specs.NameBytes.{max_inline_bytes};
 ghost use Rattle.rotor_base.specs.Name.{is_value_name, is_keyword_word, is_reserved_word, starts_as_value_name, is_identifier_byte};
 
 use crate::{MAX_NAME_BYTES, Memory};
 use std::alloc::Global;
 use std::marker::Model;
 
-/// The word of an identifier or an operator. Contracts see it as the list of its bytes.
+/// The most bytes of a name that needs no memory of its own.
+const MAX_INLINE_BYTES: usize = 22;
+
+/// The bytes of a name: in the value itself if they are few, and else in a vector.
 #[derive(Debug, Drop)]
+pub(crate) enum Bytes {
+    Inline {
+        len: u8,
+        room: [u8; MAX_INLINE_BYTES],
+    },
+    Owned(Box<Vec<u8>>),
+}
+
+/// The word of an identifier or an operator. Contracts see it as the list of its bytes. A name of at most 22 bytes is
+/// copied without memory.
+#[derive(Debug)]
 pub struct Name {
-    bytes: Vec<u8>,
+    bytes: Bytes,
 }
 
 impl Model for Name {
     ghost use Rattle.std.specs.Prelude.{List, ℕ};
+    ghost use Rattle.rotor_base.specs.NameBytes.{FitsInline, bytes_of};
 
     ghost Value = { List ℕ };
 
-    ghost view = { λ n. n.bytes.items };
+    ghost view = { λ n. bytes_of n.bytes };
+
+    ghost invariant = { λ n. FitsInline n.bytes };
+}
+
+impl Drop for Name {
+    fn drop(self) {
+        let Name { bytes: _ } = self;
+    }
 }
 
 impl Name {
@@ -26,24 +50,48 @@ impl Name {
     pub fn new(alloc: Global, bytes: &[u8]) -> Result<Self, Memory>
         ensures { IfOk result (λ name. name ≡ bytes.now) }
     {
-        Ok(Name {
-            bytes: bytes.to_vec(alloc)?,
-        })
+        let bytes = if bytes.len() <= MAX_INLINE_BYTES {
+            Bytes::Inline {
+                len: bytes.len() as u8,
+                room: padded(bytes),
+            }
+        } else {
+            Bytes::Owned(Box::new(alloc, bytes.to_vec(alloc)?)?)
+        };
+        Ok(Name { bytes })
     }
 
-    /// The name of a vector's bytes.
-    pub fn from_vec(bytes: Vec<u8>) -> Self
-        ensures { result ≡ bytes.items }
+    /// The name without bytes. It takes no memory.
+    pub fn empty() -> Self
+        ensures { result ≡ [] }
     {
-        Name { bytes }
+        Name {
+            bytes: Bytes::Inline {
+                len: 0,
+                room: [0; MAX_INLINE_BYTES],
+            },
+        }
     }
 
     /// The bytes.
     pub fn as_bytes(&self) -> &[u8]
         ensures { result.now ≡ self.now }
     {
-        &self.bytes
+        match &self.bytes {
+            Bytes::Inline { len, room } => &room[..*len as usize],
+            Bytes::Owned(bytes) => bytes.as_slice(),
+        }
     }
+}
+
+/// Some bytes, with zeros behind them.
+fn padded(bytes: &[u8]) -> [u8; MAX_INLINE_BYTES]
+    requires { length bytes.now ≤ max_inline_bytes }
+    ensures { take (length bytes.now) result ≡ bytes.now }
+{
+    let mut room = [0; MAX_INLINE_BYTES];
+    room[..bytes.len()].copy_from_slice(bytes);
+    room
 }
 
 /// The keywords of the language.

@@ -25,7 +25,7 @@ pub fn source_unit(alloc: Global, name: &[u8]) -> Result<SourceUnit, Memory>
     ensures kind { IfOk result (λ unit. unit.is_body ≡ is_body_name name.now) }
 {
     Ok(SourceUnit {
-        name: Name::from_vec(with_upper_case(alloc, stem(name))?),
+        name: Name::new(alloc, &with_upper_case(alloc, stem(name))?)?,
         is_body: is_body(name),
     })
 }
