@@ -4,7 +4,7 @@ use Rattle.ml_syntax.specs.declared.sites.Site.{Site}
 use Rattle.ml_syntax.specs.Places as pure
 
 abbrev pub view_site : Site → pure.Site
-view_site x = record { binds = x.binds; at = x.mark.token; name = x.mark.name; pun = x.mark.pun; operator = x.mark.operator }
+view_site x = record { binds = x.binds; at = x.token; name = x.name; pun = x.pun; operator = x.operator }
 
 abbrev pub view_sites : List Site → List pure.Site
 view_sites = map view_site

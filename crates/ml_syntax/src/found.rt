@@ -71,9 +71,9 @@ impl Visitor for Found {
     }
 }
 
-/// All places of a file.
+/// The places of a file, in order of tokens: those that declare a value, and those that use one. `Memory` is the only error.
 #[tactic(auto, using(crate::proofs::Placed::file_told_placed))]
-pub fn all_sites(alloc: Global, tree: &FileTree) -> Result<Vec<Site>, Memory>
+pub fn list_sites(alloc: Global, tree: &FileTree) -> Result<Vec<Site>, Memory>
     ensures { IfOk result (λ found. view_sites found.items ≡ sites (view_file tree.now)) }
 {
     let mut found = Found {

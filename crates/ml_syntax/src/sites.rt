@@ -5,17 +5,20 @@ ghost use Rattle.ml_trees.specs.View.{view_word, view_tok};
 ghost use Rattle.ml_syntax.specs.Places.{plain, punned, operated, operator_sites, label_site};
 ghost use Rattle.ml_syntax.specs.Sites.{view_sites};
 
-use crate::place::Mark;
 use crate::value_words::{label_of, operator_of};
 use ml_trees::Word;
 use rotor_base::{Memory, Name};
 use std::alloc::Global;
 
-/// A place, and whether it is a binder.
-#[derive(Drop)]
+/// A place of a value: its token, from 1, whether the place is a binder, whether its word is a label or a field too,
+/// whether it is an operator, and its name.
+#[derive(Debug, Drop)]
 pub struct Site {
+    pub token: u32,
     pub binds: bool,
-    pub mark: Mark,
+    pub pun: bool,
+    pub operator: bool,
+    pub name: Name,
 }
 
 /// Adds the place of a lower-case name.
@@ -28,13 +31,13 @@ pub fn add_plain(
     ensures { OnOk result (view_sites found.new.items ≡ view_sites found.old.items ++ plain binds (view_word word.now) ∷ []) }
 {
     let name = Name::new(alloc, word.name.as_bytes())?;
-    let mark = Mark {
+    found.push(Site {
         token: word.token,
-        name,
+        binds,
         pun: false,
         operator: false,
-    };
-    found.push(Site { binds, mark })?;
+        name,
+    })?;
     Ok(())
 }
 
@@ -49,13 +52,13 @@ pub fn add_pun(
     ensures { OnOk result (view_sites found.new.items ≡ view_sites found.old.items ++ punned binds token name.now ∷ []) }
 {
     let name = Name::new(alloc, name)?;
-    let mark = Mark {
+    found.push(Site {
         token,
-        name,
+        binds,
         pun: true,
         operator: false,
-    };
-    found.push(Site { binds, mark })?;
+        name,
+    })?;
     Ok(())
 }
 
@@ -70,13 +73,13 @@ pub fn add_operator(
     ensures { OnOk result (view_sites found.new.items ≡ view_sites found.old.items ++ operated binds token name.now ∷ []) }
 {
     let name = Name::new(alloc, name)?;
-    let mark = Mark {
+    found.push(Site {
         token,
-        name,
+        binds,
         pun: false,
         operator: true,
-    };
-    found.push(Site { binds, mark })?;
+        name,
+    })?;
     Ok(())
 }
 
