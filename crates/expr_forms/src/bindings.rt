@@ -15,15 +15,14 @@ use crate::grammar::Grammar;
 use expr_parts::push_boxed;
 use expr_reading::Wanted;
 use ml_trees::{Binding, Expr, Fixed, Param, Pat, Run, ValueName};
-use parse_base::{ReadError, expect, expect_at, optional_type, value_name};
-use rotor_base::Token;
+use parse_base::{ReadError, TokenTable, expect, expect_at, optional_type, value_name};
 use std::alloc::Global;
 
 impl<
     F: Copy
         + Fn(
             Global,
-            &[Token<'_>],
+            &TokenTable<'_>,
             usize,
             usize,
             Wanted,
@@ -35,7 +34,7 @@ impl<
     #[inline(never)]
     pub fn bound(
         &self,
-        tokens: &[Token<'_>],
+        tokens: &TokenTable<'_>,
         at: usize,
     ) -> Result<((Option<Run>, u32, Box<Expr>), usize), ReadError>
         requires nests { Nests self.now.depth (F.pre self.now.sub) (F.post self.now.sub) }
@@ -53,7 +52,7 @@ impl<
     #[inline(never)]
     pub fn plain_binding(
         &self,
-        tokens: &[Token<'_>],
+        tokens: &TokenTable<'_>,
         at: usize,
     ) -> Result<(Box<Binding>, usize), ReadError>
         requires nests { Nests self.now.depth (F.pre self.now.sub) (F.post self.now.sub) }
@@ -71,7 +70,7 @@ impl<
     #[inline(never)]
     fn named_binding(
         &self,
-        tokens: &[Token<'_>],
+        tokens: &TokenTable<'_>,
         start: usize,
         name: ValueName,
         given: Vec<Param>,
@@ -93,7 +92,7 @@ impl<
     #[inline(never)]
     pub fn binding(
         &self,
-        tokens: &[Token<'_>],
+        tokens: &TokenTable<'_>,
         at: usize,
     ) -> Result<(Box<Binding>, usize), ReadError>
         requires nests { Nests self.now.depth (F.pre self.now.sub) (F.post self.now.sub) }
@@ -114,7 +113,7 @@ impl<
     #[inline(never)]
     pub fn next_binding(
         &self,
-        tokens: &[Token<'_>],
+        tokens: &TokenTable<'_>,
         at: usize,
     ) -> Result<(Box<Binding>, usize), ReadError>
         requires nests { Nests self.now.depth (F.pre self.now.sub) (F.post self.now.sub) }
@@ -129,7 +128,7 @@ impl<
     #[inline(never)]
     pub fn more_bindings(
         &self,
-        tokens: &[Token<'_>],
+        tokens: &TokenTable<'_>,
         at: usize,
     ) -> Result<(Vec<Binding>, usize), ReadError>
         requires nests { Nests self.now.depth (F.pre self.now.sub) (F.post self.now.sub) }
@@ -156,7 +155,7 @@ impl<
     #[inline(never)]
     pub fn all_bindings(
         &self,
-        tokens: &[Token<'_>],
+        tokens: &TokenTable<'_>,
         at: usize,
     ) -> Result<((Box<Binding>, Vec<Binding>), usize), ReadError>
         requires nests { Nests self.now.depth (F.pre self.now.sub) (F.post self.now.sub) }

@@ -16,8 +16,7 @@ use crate::grammar::Grammar;
 use expr_parts::{Edge, on_edge};
 use expr_reading::Wanted;
 use ml_trees::{Branch, Expr, Fixed};
-use parse_base::{ReadError, expect, is, number};
-use rotor_base::Token;
+use parse_base::{ReadError, TokenTable, expect, is, number};
 use std::alloc::Global;
 
 /// What follows an `else`.
@@ -31,7 +30,7 @@ impl<
     F: Copy
         + Fn(
             Global,
-            &[Token<'_>],
+            &TokenTable<'_>,
             usize,
             usize,
             Wanted,
@@ -43,7 +42,7 @@ impl<
     #[inline(never)]
     pub fn then_branch(
         &self,
-        tokens: &[Token<'_>],
+        tokens: &TokenTable<'_>,
         at: usize,
     ) -> Result<((Box<Expr>, Box<Expr>), usize), ReadError>
         requires nests { Nests self.now.depth (F.pre self.now.sub) (F.post self.now.sub) }
@@ -61,7 +60,7 @@ impl<
     #[inline(never)]
     pub fn else_branch(
         &self,
-        tokens: &[Token<'_>],
+        tokens: &TokenTable<'_>,
         at: usize,
     ) -> Result<(Otherwise, usize), ReadError>
         requires nests { Nests self.now.depth (F.pre self.now.sub) (F.post self.now.sub) }
@@ -86,7 +85,7 @@ impl<
     #[inline(never)]
     pub fn if_tail(
         &self,
-        tokens: &[Token<'_>],
+        tokens: &TokenTable<'_>,
         at: usize,
     ) -> Result<((Vec<Branch>, Option<Box<Expr>>), usize), ReadError>
         requires nests { Nests self.now.depth (F.pre self.now.sub) (F.post self.now.sub) }
@@ -121,7 +120,7 @@ impl<
     #[inline(never)]
     pub fn rest_branches(
         &self,
-        tokens: &[Token<'_>],
+        tokens: &TokenTable<'_>,
         taken: &Expr,
         at: usize,
     ) -> Result<((Vec<Branch>, Option<Box<Expr>>), usize), ReadError>
@@ -138,7 +137,11 @@ impl<
     /// After the `if` at a place.
     #[tactic(auto, unfolding(expr_reading::specs::ExprReading::if_expr), using(ml_trees::proofs::Variants::expr_views))]
     #[inline(never)]
-    pub fn if_expr(&self, tokens: &[Token<'_>], at: usize) -> Result<(Box<Expr>, usize), ReadError>
+    pub fn if_expr(
+        &self,
+        tokens: &TokenTable<'_>,
+        at: usize,
+    ) -> Result<(Box<Expr>, usize), ReadError>
         requires nests { Nests self.now.depth (F.pre self.now.sub) (F.post self.now.sub) }
         requires few { length tokens.now ≤ max_file_bytes }
         requires within { at < length tokens.now }

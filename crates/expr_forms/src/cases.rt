@@ -15,15 +15,14 @@ use crate::grammar::Grammar;
 use expr_parts::{Edge, first_bar, on_edge, push_boxed};
 use expr_reading::Wanted;
 use ml_trees::{Case, Expr, Fixed, Pat};
-use parse_base::{Kind, ReadError, expect, kind_at, number};
-use rotor_base::Token;
+use parse_base::{Kind, ReadError, TokenTable, expect, kind_at, number};
 use std::alloc::Global;
 
 impl<
     F: Copy
         + Fn(
             Global,
-            &[Token<'_>],
+            &TokenTable<'_>,
             usize,
             usize,
             Wanted,
@@ -34,7 +33,7 @@ impl<
     #[inline(never)]
     pub fn guard(
         &self,
-        tokens: &[Token<'_>],
+        tokens: &TokenTable<'_>,
         at: usize,
     ) -> Result<(Option<Box<Expr>>, usize), ReadError>
         requires nests { Nests self.now.depth (F.pre self.now.sub) (F.post self.now.sub) }
@@ -53,7 +52,7 @@ impl<
     /// A case.
     #[tactic(auto, unfolding(expr_reading::specs::ExprReading::one_case))]
     #[inline(never)]
-    pub fn case(&self, tokens: &[Token<'_>], at: usize) -> Result<(Box<Case>, usize), ReadError>
+    pub fn case(&self, tokens: &TokenTable<'_>, at: usize) -> Result<(Box<Case>, usize), ReadError>
         requires nests { Nests self.now.depth (F.pre self.now.sub) (F.post self.now.sub) }
         requires few { length tokens.now ≤ max_file_bytes }
         ensures { Gives (λ x. (view_case x.0.value, from tokens.now x.1)) result (r.one_case (read_expr self.now.depth) self.now.depth (from tokens.now at)) }
@@ -69,7 +68,7 @@ impl<
     #[inline(never)]
     pub fn next_case(
         &self,
-        tokens: &[Token<'_>],
+        tokens: &TokenTable<'_>,
         at: usize,
     ) -> Result<(Box<Case>, usize), ReadError>
         requires nests { Nests self.now.depth (F.pre self.now.sub) (F.post self.now.sub) }
@@ -84,7 +83,7 @@ impl<
     #[inline(never)]
     pub fn more_cases(
         &self,
-        tokens: &[Token<'_>],
+        tokens: &TokenTable<'_>,
         at: usize,
     ) -> Result<(Vec<Case>, usize), ReadError>
         requires nests { Nests self.now.depth (F.pre self.now.sub) (F.post self.now.sub) }
@@ -114,7 +113,7 @@ impl<
     #[inline(never)]
     pub fn rest_cases(
         &self,
-        tokens: &[Token<'_>],
+        tokens: &TokenTable<'_>,
         first: &Case,
         at: usize,
     ) -> Result<(Vec<Case>, usize), ReadError>
@@ -133,7 +132,7 @@ impl<
     #[inline(never)]
     pub fn all_cases(
         &self,
-        tokens: &[Token<'_>],
+        tokens: &TokenTable<'_>,
         at: usize,
     ) -> Result<((bool, Box<Case>, Vec<Case>), usize), ReadError>
         requires nests { Nests self.now.depth (F.pre self.now.sub) (F.post self.now.sub) }
@@ -151,7 +150,7 @@ impl<
     #[inline(never)]
     pub fn function_expr(
         &self,
-        tokens: &[Token<'_>],
+        tokens: &TokenTable<'_>,
         at: usize,
     ) -> Result<(Box<Expr>, usize), ReadError>
         requires nests { Nests self.now.depth (F.pre self.now.sub) (F.post self.now.sub) }
@@ -179,7 +178,7 @@ impl<
     #[inline(never)]
     pub fn match_expr(
         &self,
-        tokens: &[Token<'_>],
+        tokens: &TokenTable<'_>,
         at: usize,
     ) -> Result<(Box<Expr>, usize), ReadError>
         requires nests { Nests self.now.depth (F.pre self.now.sub) (F.post self.now.sub) }
@@ -208,7 +207,11 @@ impl<
     /// After the `try` at a place.
     #[tactic(auto, unfolding(expr_reading::specs::ExprReading::match_expr), using(ml_trees::proofs::Variants::expr_views))]
     #[inline(never)]
-    pub fn try_expr(&self, tokens: &[Token<'_>], at: usize) -> Result<(Box<Expr>, usize), ReadError>
+    pub fn try_expr(
+        &self,
+        tokens: &TokenTable<'_>,
+        at: usize,
+    ) -> Result<(Box<Expr>, usize), ReadError>
         requires nests { Nests self.now.depth (F.pre self.now.sub) (F.post self.now.sub) }
         requires few { length tokens.now ≤ max_file_bytes }
         requires within { at < length tokens.now }

@@ -14,15 +14,15 @@ use crate::grammar::Grammar;
 use expr_parts::{bang, local_module, path, upper_word};
 use expr_reading::Wanted;
 use ml_trees::{Expr, Fixed, Param, Word};
-use parse_base::{Kind, ReadError, expect, kind_at, number, word};
-use rotor_base::{Class, Token};
+use parse_base::{Kind, ReadError, TokenTable, expect, kind_at, number, word};
+use rotor_base::Class;
 use std::alloc::Global;
 
 impl<
     F: Copy
         + Fn(
             Global,
-            &[Token<'_>],
+            &TokenTable<'_>,
             usize,
             usize,
             Wanted,
@@ -34,7 +34,7 @@ impl<
     #[inline(never)]
     pub fn let_values(
         &self,
-        tokens: &[Token<'_>],
+        tokens: &TokenTable<'_>,
         start: usize,
         recursive: bool,
         at: usize,
@@ -63,7 +63,7 @@ impl<
     #[inline(never)]
     pub fn let_open(
         &self,
-        tokens: &[Token<'_>],
+        tokens: &TokenTable<'_>,
         start: usize,
         at: usize,
     ) -> Result<(Box<Expr>, usize), ReadError>
@@ -96,7 +96,7 @@ impl<
     #[inline(never)]
     fn module_in(
         &self,
-        tokens: &[Token<'_>],
+        tokens: &TokenTable<'_>,
         start: usize,
         name: Word,
         equals: u32,
@@ -127,7 +127,7 @@ impl<
     #[inline(never)]
     fn module_named(
         &self,
-        tokens: &[Token<'_>],
+        tokens: &TokenTable<'_>,
         start: usize,
         name: Word,
         at: usize,
@@ -148,7 +148,7 @@ impl<
     #[inline(never)]
     fn let_module(
         &self,
-        tokens: &[Token<'_>],
+        tokens: &TokenTable<'_>,
         start: usize,
         at: usize,
     ) -> Result<(Box<Expr>, usize), ReadError>
@@ -164,7 +164,11 @@ impl<
     /// After the `let` at a place.
     #[tactic(auto, unfolding(expr_reading::specs::ExprReading::let_expr))]
     #[inline(never)]
-    pub fn let_expr(&self, tokens: &[Token<'_>], at: usize) -> Result<(Box<Expr>, usize), ReadError>
+    pub fn let_expr(
+        &self,
+        tokens: &TokenTable<'_>,
+        at: usize,
+    ) -> Result<(Box<Expr>, usize), ReadError>
         requires nests { Nests self.now.depth (F.pre self.now.sub) (F.post self.now.sub) }
         requires few { length tokens.now ≤ max_file_bytes }
         requires within { at < length tokens.now }
@@ -183,7 +187,7 @@ impl<
     #[inline(never)]
     fn fun_end(
         &self,
-        tokens: &[Token<'_>],
+        tokens: &TokenTable<'_>,
         start: usize,
         given: Vec<Param>,
         at: usize,
@@ -210,7 +214,11 @@ impl<
     /// After the `fun` at a place.
     #[tactic(auto, unfolding(expr_reading::specs::ExprReading::fun_expr))]
     #[inline(never)]
-    pub fn fun_expr(&self, tokens: &[Token<'_>], at: usize) -> Result<(Box<Expr>, usize), ReadError>
+    pub fn fun_expr(
+        &self,
+        tokens: &TokenTable<'_>,
+        at: usize,
+    ) -> Result<(Box<Expr>, usize), ReadError>
         requires nests { Nests self.now.depth (F.pre self.now.sub) (F.post self.now.sub) }
         requires few { length tokens.now ≤ max_file_bytes }
         requires within { at < length tokens.now }

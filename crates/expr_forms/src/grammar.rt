@@ -11,8 +11,7 @@ ghost use Rattle.parse_base.specs.declared.error.ReadError.TheVariants as unread
 
 use expr_reading::Wanted;
 use ml_trees::Expr;
-use parse_base::ReadError;
-use rotor_base::Token;
+use parse_base::{ReadError, TokenTable};
 use std::alloc::Global;
 
 /// The context of the readers of expressions. The reader of what nests deeper is `sub`, so that each reader is proved
@@ -31,7 +30,7 @@ impl<
     F: Copy
         + Fn(
             Global,
-            &[Token<'_>],
+            &TokenTable<'_>,
             usize,
             usize,
             Wanted,
@@ -42,7 +41,7 @@ impl<
     #[inline(never)]
     pub fn sub(
         &self,
-        tokens: &[Token<'_>],
+        tokens: &TokenTable<'_>,
         wanted: Wanted,
         at: usize,
     ) -> Result<(Box<Expr>, usize), ReadError>
@@ -57,7 +56,7 @@ impl<
     #[inline(never)]
     pub fn value(
         &self,
-        tokens: &[Token<'_>],
+        tokens: &TokenTable<'_>,
         wanted: Wanted,
         at: usize,
     ) -> Result<(Expr, usize), ReadError>

@@ -19,17 +19,17 @@ use expr_parts::{has_colon, is_optional, push_boxed};
 use expr_reading::Wanted;
 use ml_trees::{Expr, Fixed, Param, Pat, Run, Word};
 use parse_base::{
-    Kind, ReadError, expect, expect_at, is, kind_at, lower_word, number, optional_type, pattern,
-    simple_pattern, text, word,
+    Kind, ReadError, TokenTable, expect, expect_at, is, kind_at, lower_word, number, optional_type,
+    pattern, simple_pattern, text, word,
 };
-use rotor_base::{Class, Token};
+use rotor_base::Class;
 use std::alloc::Global;
 
 impl<
     F: Copy
         + Fn(
             Global,
-            &[Token<'_>],
+            &TokenTable<'_>,
             usize,
             usize,
             Wanted,
@@ -38,7 +38,7 @@ impl<
 > Grammar<F> {
     /// A pattern.
     #[inline(never)]
-    pub fn pattern(&self, tokens: &[Token<'_>], at: usize) -> Result<(Pat, usize), ReadError>
+    pub fn pattern(&self, tokens: &TokenTable<'_>, at: usize) -> Result<(Pat, usize), ReadError>
         requires few { length tokens.now ≤ max_file_bytes }
         ensures { Gives (λ x. (view_pat x.0, from tokens.now x.1)) result (read_pat self.now.depth (from tokens.now at)) }
     {
@@ -49,7 +49,7 @@ impl<
     #[inline(never)]
     pub fn boxed_pattern(
         &self,
-        tokens: &[Token<'_>],
+        tokens: &TokenTable<'_>,
         at: usize,
     ) -> Result<(Box<Pat>, usize), ReadError>
         requires few { length tokens.now ≤ max_file_bytes }
@@ -61,7 +61,7 @@ impl<
 
     /// A Simple pattern.
     #[inline(never)]
-    pub fn simple(&self, tokens: &[Token<'_>], at: usize) -> Result<(Box<Pat>, usize), ReadError>
+    pub fn simple(&self, tokens: &TokenTable<'_>, at: usize) -> Result<(Box<Pat>, usize), ReadError>
         requires few { length tokens.now ≤ max_file_bytes }
         ensures { Gives (λ x. (view_pat x.0.value, from tokens.now x.1)) result (r.simple_at self.now.depth (from tokens.now at)) }
     {
@@ -73,7 +73,7 @@ impl<
     #[inline(never)]
     pub fn equals_value(
         &self,
-        tokens: &[Token<'_>],
+        tokens: &TokenTable<'_>,
         at: usize,
     ) -> Result<((u32, Box<Expr>), usize), ReadError>
         requires nests { Nests self.now.depth (F.pre self.now.sub) (F.post self.now.sub) }
@@ -90,7 +90,7 @@ impl<
     #[inline(never)]
     fn default_end(
         &self,
-        tokens: &[Token<'_>],
+        tokens: &TokenTable<'_>,
         label: Word,
         paren: u32,
         pat: Box<Pat>,
@@ -113,7 +113,7 @@ impl<
     #[inline(never)]
     pub fn default_param(
         &self,
-        tokens: &[Token<'_>],
+        tokens: &TokenTable<'_>,
         label: Word,
         at: usize,
     ) -> Result<(Box<Param>, usize), ReadError>
@@ -135,7 +135,7 @@ impl<
     #[inline(never)]
     pub fn label_param(
         &self,
-        tokens: &[Token<'_>],
+        tokens: &TokenTable<'_>,
         at: usize,
     ) -> Result<(Box<Param>, usize), ReadError>
         requires nests { Nests self.now.depth (F.pre self.now.sub) (F.post self.now.sub) }
@@ -165,7 +165,7 @@ impl<
     #[inline(never)]
     fn wrapped_end(
         &self,
-        tokens: &[Token<'_>],
+        tokens: &TokenTable<'_>,
         first: usize,
         optional: bool,
         paren: u32,
@@ -197,7 +197,7 @@ impl<
     #[inline(never)]
     fn wrapped_label(
         &self,
-        tokens: &[Token<'_>],
+        tokens: &TokenTable<'_>,
         first: usize,
         optional: bool,
         paren: u32,
@@ -218,7 +218,7 @@ impl<
     #[inline(never)]
     fn wrapped_param(
         &self,
-        tokens: &[Token<'_>],
+        tokens: &TokenTable<'_>,
         optional: bool,
         at: usize,
     ) -> Result<(Box<Param>, usize), ReadError>
@@ -235,7 +235,7 @@ impl<
     #[inline(never)]
     pub fn more_types(
         &self,
-        tokens: &[Token<'_>],
+        tokens: &TokenTable<'_>,
         at: usize,
     ) -> Result<(Vec<Word>, usize), ReadError>
         requires nests { Nests self.now.depth (F.pre self.now.sub) (F.post self.now.sub) }
@@ -262,7 +262,7 @@ impl<
     #[inline(never)]
     fn types_end(
         &self,
-        tokens: &[Token<'_>],
+        tokens: &TokenTable<'_>,
         start: usize,
         names: Vec<Word>,
         at: usize,
@@ -284,7 +284,7 @@ impl<
     #[inline(never)]
     pub fn types_param(
         &self,
-        tokens: &[Token<'_>],
+        tokens: &TokenTable<'_>,
         at: usize,
     ) -> Result<(Box<Param>, usize), ReadError>
         requires nests { Nests self.now.depth (F.pre self.now.sub) (F.post self.now.sub) }
@@ -300,7 +300,11 @@ impl<
     /// A parameter.
     #[tactic(auto, unfolding(expr_reading::specs::ExprReading::param), using(ml_trees::proofs::Variants::param_views))]
     #[inline(never)]
-    pub fn param(&self, tokens: &[Token<'_>], at: usize) -> Result<(Box<Param>, usize), ReadError>
+    pub fn param(
+        &self,
+        tokens: &TokenTable<'_>,
+        at: usize,
+    ) -> Result<(Box<Param>, usize), ReadError>
         requires nests { Nests self.now.depth (F.pre self.now.sub) (F.post self.now.sub) }
         requires few { length tokens.now ≤ max_file_bytes }
         ensures { Gives (λ x. (view_param x.0.value, from tokens.now x.1)) result (r.param (read_expr self.now.depth) self.now.depth (from tokens.now at)) }
@@ -327,7 +331,7 @@ impl<
     #[inline(never)]
     pub fn more_params(
         &self,
-        tokens: &[Token<'_>],
+        tokens: &TokenTable<'_>,
         at: usize,
     ) -> Result<(Vec<Param>, usize), ReadError>
         requires nests { Nests self.now.depth (F.pre self.now.sub) (F.post self.now.sub) }

@@ -8,8 +8,7 @@ ghost use Rattle.ml_trees.specs.WellFormed.{is_constr, is_bare, is_postfix};
 
 use crate::edge::{Edge, is_calm, on_edge};
 use ml_trees::{Expr, Field, Fixed};
-use parse_base::{Kind, kind_at};
-use rotor_base::Token;
+use parse_base::{Kind, TokenTable, kind_at};
 
 /// Whether it is a constructor, alone or behind Prefix words.
 #[tactic(auto, unfolding(ml_trees::specs::View::view))]
@@ -47,7 +46,7 @@ pub fn is_postfix(expr: &Expr) -> bool
 
 /// Whether the operator at a place may follow.
 #[inline(never)]
-pub fn goes_on(expr: &Expr, tokens: &[Token<'_>], at: usize) -> bool
+pub fn goes_on(expr: &Expr, tokens: &TokenTable<'_>, at: usize) -> bool
     ensures { result ≡ r.goes_on (view expr.now) (from tokens.now at) }
 {
     match kind_at(tokens, at) {

@@ -11,8 +11,7 @@ ghost use Rattle.expr_parts.specs.Rows.{local_of};
 
 use crate::pieces::path;
 use ml_trees::{Fixed, LocalArgument, LocalModule};
-use parse_base::{ReadError, expect, is, number};
-use rotor_base::Token;
+use parse_base::{ReadError, TokenTable, expect, is, number};
 use std::alloc::Global;
 
 /// A module in parentheses, or `()`.
@@ -21,7 +20,7 @@ use std::alloc::Global;
 #[inline(never)]
 fn local_argument(
     alloc: Global,
-    tokens: &[Token<'_>],
+    tokens: &TokenTable<'_>,
     depth: usize,
     levels: usize,
     at: usize,
@@ -51,7 +50,7 @@ fn local_argument(
 #[inline(never)]
 fn local_arguments(
     alloc: Global,
-    tokens: &[Token<'_>],
+    tokens: &TokenTable<'_>,
     depth: usize,
     levels: usize,
     at: usize,
@@ -80,7 +79,7 @@ fn local_arguments(
 #[inline(never)]
 pub fn local_module(
     alloc: Global,
-    tokens: &[Token<'_>],
+    tokens: &TokenTable<'_>,
     depth: usize,
     levels: usize,
     at: usize,

@@ -6,8 +6,8 @@ ghost use Rattle.ml_trees.specs.WellFormed.{keyword_level, infix_level};
 ghost use Rattle.expr_parts.specs.Rows.{first_level};
 
 use ml_trees::Fixed;
-use parse_base::{Kind, kind_at, text};
-use rotor_base::{Class, Token};
+use parse_base::{Kind, TokenTable, kind_at, text};
+use rotor_base::Class;
 
 /// The level of a keyword that is an operator, or 0.
 #[inline(never)]
@@ -59,7 +59,7 @@ fn infix_level(bytes: &[u8]) -> u32
 
 /// The level of the operator at a place, or 0.
 #[inline(never)]
-pub fn level_at(tokens: &[Token<'_>], at: usize) -> u32
+pub fn level_at(tokens: &TokenTable<'_>, at: usize) -> u32
     ensures { result ≡ first_level (from tokens.now at) }
 {
     match kind_at(tokens, at) {

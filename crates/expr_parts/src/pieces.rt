@@ -14,13 +14,15 @@ ghost use Rattle.ml_trees.specs.Runs.{has_colon, is_optional};
 ghost use Rattle.expr_parts.specs.Rows.{upper_word};
 
 use ml_trees::{Bracket, Expr, Fixed, Path, Run, Variable, Word};
-use parse_base::{Kind, ReadError, expect, is, kind_at, more_uppers, number, text, type_run, word};
-use rotor_base::{Class, Token};
+use parse_base::{
+    Kind, ReadError, TokenTable, expect, is, kind_at, more_uppers, number, text, type_run, word,
+};
+use rotor_base::Class;
 use std::alloc::Global;
 
 /// A last `;`, if it may follow, and the place after it.
 #[inline(never)]
-pub fn semicolon_if(tokens: &[Token<'_>], may: bool, at: usize) -> (bool, usize)
+pub fn semicolon_if(tokens: &TokenTable<'_>, may: bool, at: usize) -> (bool, usize)
     requires few { length tokens.now ≤ max_file_bytes }
     ensures { (result.0, from tokens.now result.1) ≡ r.semicolon_if may (from tokens.now at) }
 {
@@ -35,7 +37,7 @@ pub fn semicolon_if(tokens: &[Token<'_>], may: bool, at: usize) -> (bool, usize)
 
 /// An optional `|` before the first case, and the place after it.
 #[inline(never)]
-pub fn first_bar(tokens: &[Token<'_>], at: usize) -> (bool, usize)
+pub fn first_bar(tokens: &TokenTable<'_>, at: usize) -> (bool, usize)
     requires few { length tokens.now ≤ max_file_bytes }
     ensures { (result.0, from tokens.now result.1) ≡ r.first_bar (from tokens.now at) }
 {
@@ -49,7 +51,7 @@ pub fn first_bar(tokens: &[Token<'_>], at: usize) -> (bool, usize)
 #[inline(never)]
 pub fn bang(
     alloc: Global,
-    tokens: &[Token<'_>],
+    tokens: &TokenTable<'_>,
     at: usize,
 ) -> Result<(Option<Word>, usize), ReadError>
     requires few { length tokens.now ≤ max_file_bytes }
@@ -70,7 +72,7 @@ pub fn bang(
 #[inline(never)]
 pub fn upper_word(
     alloc: Global,
-    tokens: &[Token<'_>],
+    tokens: &TokenTable<'_>,
     at: usize,
 ) -> Result<(Word, usize), ReadError>
     requires few { length tokens.now ≤ max_file_bytes }
@@ -86,7 +88,7 @@ pub fn upper_word(
 #[inline(never)]
 pub fn path(
     alloc: Global,
-    tokens: &[Token<'_>],
+    tokens: &TokenTable<'_>,
     depth: usize,
     at: usize,
 ) -> Result<(Path, usize), ReadError>
@@ -103,7 +105,7 @@ pub fn path(
 #[inline(never)]
 pub fn path_from(
     alloc: Global,
-    tokens: &[Token<'_>],
+    tokens: &TokenTable<'_>,
     depth: usize,
     at: usize,
 ) -> Result<(Path, usize), ReadError>
@@ -121,7 +123,7 @@ pub fn path_from(
 #[inline(never)]
 pub fn variable(
     alloc: Global,
-    tokens: &[Token<'_>],
+    tokens: &TokenTable<'_>,
     at: usize,
 ) -> Result<(Variable, usize), ReadError>
     requires few { length tokens.now ≤ max_file_bytes }
@@ -139,7 +141,7 @@ pub fn variable(
 
 /// Whether a `for` counts down.
 #[inline(never)]
-pub fn direction(tokens: &[Token<'_>], at: usize) -> Result<(bool, usize), ReadError>
+pub fn direction(tokens: &TokenTable<'_>, at: usize) -> Result<(bool, usize), ReadError>
     requires few { length tokens.now ≤ max_file_bytes }
     ensures { Gives (λ x. (x.0, from tokens.now x.1)) result (r.for_direction (from tokens.now at)) }
 {
@@ -155,7 +157,7 @@ pub fn direction(tokens: &[Token<'_>], at: usize) -> Result<(bool, usize), ReadE
 #[inline(never)]
 pub fn typed(
     alloc: Global,
-    tokens: &[Token<'_>],
+    tokens: &TokenTable<'_>,
     paren: usize,
     inner: Box<Expr>,
     run: Run,
@@ -202,7 +204,7 @@ pub fn typed(
 #[inline(never)]
 pub fn closed(
     alloc: Global,
-    tokens: &[Token<'_>],
+    tokens: &TokenTable<'_>,
     paren: usize,
     inner: Box<Expr>,
     at: usize,

@@ -1,8 +1,6 @@
-//! Which `let` has its `in`, and that each one inside an expression has it.
+//! That each `let` inside an expression has its `in`.
 #![tactic(auto)]
 
 mod laws;
-mod matching;
 
 pub use laws::lets_have_their_in;
-pub use matching::lacks_in;

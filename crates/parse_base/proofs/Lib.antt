@@ -15,3 +15,4 @@ pub mod Lone
 pub mod Ends
 pub mod RunTurns
 pub mod MarkSteps
+pub mod Entries

@@ -9,7 +9,6 @@ use Rattle.rotor_base.specs.declared.token.Token.{Token}
 use Rattle.ml_trees.specs.declared.fixed.Fixed.{Fixed}
 use Rattle.ml_trees.specs.Tok.{Tok, word, same, code, fixed_of, tok, tok_or, toks_from}
 use Rattle.parse_base.specs.declared.tokens.Kind.{Kind}
-use Rattle.parse_base.specs.declared.tokens.Kind.TheVariants as kind
 use Rattle.parse_base.specs.Gives.{text_at, head_text, kind_or, kind_of, Sees, IsThere}
 use Rattle.parse_base.specs.Tokens.{lexeme, from}
 use Rattle.parse_base.proofs.Stepping.{same_is}

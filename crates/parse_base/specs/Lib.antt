@@ -9,3 +9,5 @@ pub mod RunRows
 pub mod Nesting
 pub mod Stops
 pub mod Forms
+pub mod Matching
+pub mod Table

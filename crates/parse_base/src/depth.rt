@@ -9,7 +9,8 @@ ghost use Rattle.parse_base.specs.Nesting.{role_of, is_let_or_bracket, is_case_o
 ghost use Rattle.parse_base.specs.Stops.{test_of};
 
 use crate::names::is_minus;
-use crate::tokens::{Kind, kind_at, number, text};
+use crate::table::{TokenTable, kind_at};
+use crate::tokens::{Kind, number, text};
 use ml_trees::Fixed;
 use rotor_base::{Class, MAX_NESTING, Memory, Token};
 use std::alloc::Global;
@@ -115,7 +116,7 @@ fn fixed_role(fixed: Fixed) -> Role
 }
 
 /// What the token at a place is to the rules.
-fn role_at(tokens: &[Token<'_>], at: usize) -> Role
+fn role_at(tokens: &TokenTable<'_>, at: usize) -> Role
     ensures { result ≡ role_at tokens.now at }
 {
     match kind_at(tokens, at) {
@@ -322,6 +323,15 @@ fn step(marks: &mut Vec<Mark>, before: Role, here: Role, next: Role) -> Result<(
 /// The first token, from 1, after which the nesting is over 256, or none. The Err is want of memory alone. There are at
 /// most 1,048,576 tokens.
 pub fn scan_depth(alloc: Global, tokens: &[Token<'_>]) -> Result<Option<u32>, Memory>
+    requires { length tokens.now ≤ max_file_bytes }
+    ensures { IfOk result (DeepIs tokens.now) }
+{
+    let table = TokenTable::new(alloc, tokens)?;
+    deep_token(alloc, &table)
+}
+
+/// The same of a table of the tokens.
+pub fn deep_token(alloc: Global, tokens: &TokenTable<'_>) -> Result<Option<u32>, Memory>
     requires { length tokens.now ≤ max_file_bytes }
     ensures { IfOk result (DeepIs tokens.now) }
 {

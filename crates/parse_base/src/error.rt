@@ -1,6 +1,7 @@
 //! Why a reading gave nothing.
 
 ghost use Rattle.std.specs.Prelude.{◌≡◌};
+ghost use Rattle.parse_base.specs.declared.error.ParseError.TheVariants as refused;
 ghost use Rattle.parse_base.specs.declared.error.ReadError.TheVariants as unread;
 
 use rotor_base::{FormKind, Memory};
@@ -21,6 +22,14 @@ pub enum ParseError {
     Syntax,
     #[error("out of memory")]
     Memory,
+}
+
+impl From<Memory> for ParseError {
+    ghost from_gives = { λ _ error. error ≡ refused.Memory };
+
+    fn from(_error: Memory) -> Self {
+        ParseError::Memory
+    }
 }
 
 /// Why one reader read nothing.

@@ -15,10 +15,11 @@ mod names;
 mod parse;
 mod patterns;
 mod runs;
+mod table;
 mod taking;
 mod tokens;
 
-pub use depth::scan_depth;
+pub use depth::{deep_token, scan_depth};
 pub use error::{ParseError, ReadError};
 pub use forms::scan_forms;
 pub use laws::one_pat_reading;
@@ -26,5 +27,6 @@ pub use names::{is_minus, is_operator, lower_word, more_uppers, operator, qualif
 pub use parse::{MAX_NESTED, parse_pat};
 pub use patterns::{pattern, simple_pattern};
 pub use runs::{declaration_run, optional_type, type_run};
+pub use table::{TokenTable, kind_at, lacks_in};
 pub use taking::{take_name, take_path, take_word};
-pub use tokens::{Kind, expect, expect_at, is, kind_at, number, text, token_word, word};
+pub use tokens::{Kind, expect, expect_at, is, number, text, token_word, word};

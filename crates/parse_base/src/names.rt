@@ -11,13 +11,14 @@ ghost use Rattle.parse_base.specs.Tokens.{from};
 ghost use Rattle.parse_base.specs.Rows.{first_is, keyword_operator};
 
 use crate::error::ReadError;
-use crate::tokens::{Kind, is, kind_at, number, text, token_word, word};
+use crate::table::{TokenTable, kind_at};
+use crate::tokens::{Kind, is, number, text, token_word, word};
 use ml_trees::{Fixed, ValueName, Word};
-use rotor_base::{Class, Token};
+use rotor_base::Class;
 use std::alloc::Global;
 
 /// A `.` and the name of a module.
-fn dot_upper(alloc: Global, tokens: &[Token<'_>], at: usize) -> Result<(Word, usize), ReadError>
+fn dot_upper(alloc: Global, tokens: &TokenTable<'_>, at: usize) -> Result<(Word, usize), ReadError>
     requires { length tokens.now ≤ max_file_bytes }
     ensures { Gives (λ x. (view_word x.0, from tokens.now x.1)) result (dot_upper (from tokens.now at)) }
 {
@@ -33,7 +34,7 @@ fn dot_upper(alloc: Global, tokens: &[Token<'_>], at: usize) -> Result<(Word, us
 /// Names of modules, each behind a `.`, at most so many.
 pub fn more_uppers(
     alloc: Global,
-    tokens: &[Token<'_>],
+    tokens: &TokenTable<'_>,
     depth: usize,
     at: usize,
 ) -> Result<(Vec<Word>, usize), ReadError>
@@ -56,7 +57,7 @@ pub fn more_uppers(
 }
 
 /// The name of a module and a `.`.
-fn upper_dot(alloc: Global, tokens: &[Token<'_>], at: usize) -> Result<(Word, usize), ReadError>
+fn upper_dot(alloc: Global, tokens: &TokenTable<'_>, at: usize) -> Result<(Word, usize), ReadError>
     requires { length tokens.now ≤ max_file_bytes }
     ensures { Gives (λ x. (view_word x.0, from tokens.now x.1)) result (upper_dot (from tokens.now at)) }
 {
@@ -74,7 +75,7 @@ fn upper_dot(alloc: Global, tokens: &[Token<'_>], at: usize) -> Result<(Word, us
 /// Names of modules, each before a `.`, at most so many.
 pub fn qualifiers(
     alloc: Global,
-    tokens: &[Token<'_>],
+    tokens: &TokenTable<'_>,
     depth: usize,
     at: usize,
 ) -> Result<(Vec<Word>, usize), ReadError>
@@ -99,7 +100,7 @@ pub fn qualifiers(
 /// A lower-case name.
 pub fn lower_word(
     alloc: Global,
-    tokens: &[Token<'_>],
+    tokens: &TokenTable<'_>,
     at: usize,
 ) -> Result<(Word, usize), ReadError>
     requires { length tokens.now ≤ max_file_bytes }
@@ -126,7 +127,7 @@ fn is_keyword_operator(bytes: &[u8]) -> bool
 
 /// Whether the token at a place is an operator that may be in parentheses.
 #[tactic(auto, using(crate::proofs::Operators::operators))]
-pub fn is_operator(tokens: &[Token<'_>], at: usize) -> bool
+pub fn is_operator(tokens: &TokenTable<'_>, at: usize) -> bool
     ensures value { result ≡ first_is is_operator_token (from tokens.now at) }
     ensures within { result ≡ true → at < length tokens.now }
 {
@@ -151,7 +152,7 @@ pub fn is_minus(bytes: &[u8]) -> bool
 #[inline(never)]
 pub fn operator(
     alloc: Global,
-    tokens: &[Token<'_>],
+    tokens: &TokenTable<'_>,
     at: usize,
 ) -> Result<(ValueName, usize), ReadError>
     requires within { at < length tokens.now }
@@ -178,7 +179,7 @@ pub fn operator(
 #[inline(never)]
 pub fn value_name(
     alloc: Global,
-    tokens: &[Token<'_>],
+    tokens: &TokenTable<'_>,
     at: usize,
 ) -> Result<(ValueName, usize), ReadError>
     requires { length tokens.now ≤ max_file_bytes }

@@ -1,15 +1,17 @@
 //! The longest pattern from a token.
 
-ghost use Rattle.std.specs.Prelude.{◌≡◌, ◌≤◌, length, Err, IfOk, IfErr};
+ghost use Rattle.std.specs.Prelude.{◌≡◌, ◌≤◌, ◌+◌, length, Err, IfOk, IfErr};
 ghost use Rattle.rotor_base.specs.Limits.{max_file_bytes};
 ghost use Rattle.ml_trees.specs.View.{view_pat};
 ghost use Rattle.parse_base.specs.Longest.{IsLongestPat, BeginsNoPat};
-ghost use Rattle.parse_base.specs.Gives.{IsPlain};
+ghost use Rattle.parse_base.specs.Gives.{Gives, IsPlain};
+ghost use Rattle.parse_base.specs.PatReading.{read_pat};
 ghost use Rattle.parse_base.specs.Tokens.{from};
 ghost use Rattle.parse_base.specs.declared.error.ParseError.TheVariants as refused;
 
 use crate::error::{ParseError, ReadError};
 use crate::patterns::pattern;
+use crate::table::TokenTable;
 use ml_trees::Pat;
 use rotor_base::{MAX_LEVELS, Token};
 use std::alloc::Global;
@@ -35,9 +37,22 @@ pub fn parse_pat(
     // It is neither `Form` nor `Deep`.
     ensures plain { IfErr result IsPlain }
 {
-    match pattern(alloc, tokens, tokens.len() + 1, MAX_NESTED, start) {
+    match pattern_from(alloc, tokens, start) {
         Ok((tree, end)) => Ok((tree, end.min(tokens.len()))),
         Err(ReadError::Syntax) => Err(ParseError::Syntax),
         Err(ReadError::Memory) => Err(ParseError::Memory),
     }
+}
+
+/// The longest pattern from a place.
+fn pattern_from(
+    alloc: Global,
+    tokens: &[Token<'_>],
+    start: usize,
+) -> Result<(Pat, usize), ReadError>
+    requires { length tokens.now ≤ max_file_bytes }
+    ensures { Gives (λ x. (view_pat x.0, from tokens.now x.1)) result (read_pat (length tokens.now + 1) (from tokens.now start)) }
+{
+    let table = TokenTable::new(alloc, tokens)?;
+    pattern(alloc, &table, tokens.len() + 1, MAX_NESTED, start)
 }

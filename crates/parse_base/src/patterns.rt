@@ -26,10 +26,11 @@ use crate::error::ReadError;
 use crate::grown::{grown_as, grown_cons, grown_or, grown_tuple};
 use crate::names::{is_minus, lower_word, more_uppers, operator, qualifiers, value_name};
 use crate::runs::{optional_type, type_run};
+use crate::table::{TokenTable, kind_at};
 use crate::taking::{take_path, take_word};
-use crate::tokens::{Kind, expect, expect_at, is, kind_at, number, text, word};
+use crate::tokens::{Kind, expect, expect_at, is, number, text, word};
 use ml_trees::{Bracket, Fixed, Pat, PatField, Path, ValueName, Word};
-use rotor_base::{Class, Token};
+use rotor_base::Class;
 use std::alloc::Global;
 
 /// The context of the readers of patterns.
@@ -43,10 +44,10 @@ pub struct Grammar<F> {
     pub sub: F,
 }
 
-impl<F: Fn(Global, &[Token<'_>], usize, usize, usize) -> Result<(Pat, usize), ReadError>> Grammar<
-    F,
-> {
-    fn sub(&self, tokens: &[Token<'_>], at: usize) -> Result<(Pat, usize), ReadError>
+impl<
+    F: Fn(Global, &TokenTable<'_>, usize, usize, usize) -> Result<(Pat, usize), ReadError>,
+> Grammar<F> {
+    fn sub(&self, tokens: &TokenTable<'_>, at: usize) -> Result<(Pat, usize), ReadError>
         requires nests { Nests self.now.depth (F.pre self.now.sub) (F.post self.now.sub) }
         requires few { length tokens.now ≤ max_file_bytes }
         ensures { Gives (λ x. (view_pat x.0, from tokens.now x.1)) result (read_pat self.now.depth (from tokens.now at)) }
@@ -59,7 +60,7 @@ impl<F: Fn(Global, &[Token<'_>], usize, usize, usize) -> Result<(Pat, usize), Re
     #[inline(never)]
     fn closed(
         &self,
-        tokens: &[Token<'_>],
+        tokens: &TokenTable<'_>,
         paren: usize,
         inner: Pat,
         at: usize,
@@ -93,7 +94,7 @@ impl<F: Fn(Global, &[Token<'_>], usize, usize, usize) -> Result<(Pat, usize), Re
     }
 
     /// A pattern, and what closes the `(` at a place.
-    fn inner(&self, tokens: &[Token<'_>], at: usize) -> Result<(Pat, usize), ReadError>
+    fn inner(&self, tokens: &TokenTable<'_>, at: usize) -> Result<(Pat, usize), ReadError>
         requires within { at < length tokens.now }
         requires nests { Nests self.now.depth (F.pre self.now.sub) (F.post self.now.sub) }
         requires few { length tokens.now ≤ max_file_bytes }
@@ -105,7 +106,7 @@ impl<F: Fn(Global, &[Token<'_>], usize, usize, usize) -> Result<(Pat, usize), Re
 
     /// After the `(` at a place.
     #[tactic(auto, unfolding(crate::specs::PatReading::paren_pat), using(ml_trees::proofs::Variants::pat_views))]
-    fn parenthesized(&self, tokens: &[Token<'_>], at: usize) -> Result<(Pat, usize), ReadError>
+    fn parenthesized(&self, tokens: &TokenTable<'_>, at: usize) -> Result<(Pat, usize), ReadError>
         requires within { at < length tokens.now }
         requires nests { Nests self.now.depth (F.pre self.now.sub) (F.post self.now.sub) }
         requires few { length tokens.now ≤ max_file_bytes }
@@ -123,7 +124,7 @@ impl<F: Fn(Global, &[Token<'_>], usize, usize, usize) -> Result<(Pat, usize), Re
 
     /// A `.` and a pattern in parentheses behind a path.
     #[inline(never)]
-    fn opened(&self, tokens: &[Token<'_>], at: usize) -> Result<((u32, Pat), usize), ReadError>
+    fn opened(&self, tokens: &TokenTable<'_>, at: usize) -> Result<((u32, Pat), usize), ReadError>
         requires nests { Nests self.now.depth (F.pre self.now.sub) (F.post self.now.sub) }
         requires few { length tokens.now ≤ max_file_bytes }
         ensures { Gives (λ x. (x.0.0, view_pat x.0.1, from tokens.now x.1)) result (r.opened_part (read_pat self.now.depth) self.now.depth (from tokens.now at)) }
@@ -142,7 +143,7 @@ impl<F: Fn(Global, &[Token<'_>], usize, usize, usize) -> Result<(Pat, usize), Re
     /// The path that begins with the name at a place, and what is opened with it.
     #[tactic(auto, unfolding(crate::specs::PatReading::upper_pat), using(ml_trees::proofs::Variants::pat_views))]
     #[inline(never)]
-    fn upper(&self, tokens: &[Token<'_>], at: usize) -> Result<(Pat, usize), ReadError>
+    fn upper(&self, tokens: &TokenTable<'_>, at: usize) -> Result<(Pat, usize), ReadError>
         requires within { at < length tokens.now }
         requires nests { Nests self.now.depth (F.pre self.now.sub) (F.post self.now.sub) }
         requires few { length tokens.now ≤ max_file_bytes }
@@ -165,7 +166,7 @@ impl<F: Fn(Global, &[Token<'_>], usize, usize, usize) -> Result<(Pat, usize), Re
 
     /// The path that begins with the name at a place.
     #[inline(never)]
-    fn path(&self, tokens: &[Token<'_>], at: usize) -> Result<(Path, usize), ReadError>
+    fn path(&self, tokens: &TokenTable<'_>, at: usize) -> Result<(Path, usize), ReadError>
         requires within { at < length tokens.now }
         requires few { length tokens.now ≤ max_file_bytes }
         ensures { Gives (λ x. (view_path x.0, from tokens.now x.1)) result (Some (path_from (name_at tokens.now at) self.now.depth (from tokens.now (at + 1)))) }
@@ -177,7 +178,7 @@ impl<F: Fn(Global, &[Token<'_>], usize, usize, usize) -> Result<(Pat, usize), Re
     }
 
     /// The next item of a list, behind its `;`.
-    fn next_item(&self, tokens: &[Token<'_>], at: usize) -> Result<(Pat, usize), ReadError>
+    fn next_item(&self, tokens: &TokenTable<'_>, at: usize) -> Result<(Pat, usize), ReadError>
         requires nests { Nests self.now.depth (F.pre self.now.sub) (F.post self.now.sub) }
         requires few { length tokens.now ≤ max_file_bytes }
         ensures { Gives (λ x. (view_pat x.0, from tokens.now x.1)) result (r.next_pat (read_pat self.now.depth) self.now.depth key.Semicolon (read_pat self.now.depth) (from tokens.now at)) }
@@ -188,7 +189,7 @@ impl<F: Fn(Global, &[Token<'_>], usize, usize, usize) -> Result<(Pat, usize), Re
 
     /// Further items, as long as each can be read whole.
     #[inline(never)]
-    fn more_items(&self, tokens: &[Token<'_>], at: usize) -> Result<(Vec<Pat>, usize), ReadError>
+    fn more_items(&self, tokens: &TokenTable<'_>, at: usize) -> Result<(Vec<Pat>, usize), ReadError>
         requires nests { Nests self.now.depth (F.pre self.now.sub) (F.post self.now.sub) }
         requires few { length tokens.now ≤ max_file_bytes }
         ensures { Gives (λ x. (pats x.0.items, from tokens.now x.1)) result (Some (many pure.no_pat pure.more_pat always (r.next_pat (read_pat self.now.depth) self.now.depth key.Semicolon (read_pat self.now.depth)) self.now.depth (from tokens.now at))) }
@@ -213,7 +214,7 @@ impl<F: Fn(Global, &[Token<'_>], usize, usize, usize) -> Result<(Pat, usize), Re
     #[inline(never)]
     fn bracketed(
         &self,
-        tokens: &[Token<'_>],
+        tokens: &TokenTable<'_>,
         bracket: Bracket,
         at: usize,
     ) -> Result<(Pat, usize), ReadError>
@@ -251,7 +252,7 @@ impl<F: Fn(Global, &[Token<'_>], usize, usize, usize) -> Result<(Pat, usize), Re
 
     /// An `=` and a pattern.
     #[inline(never)]
-    fn equals(&self, tokens: &[Token<'_>], at: usize) -> Result<((u32, Pat), usize), ReadError>
+    fn equals(&self, tokens: &TokenTable<'_>, at: usize) -> Result<((u32, Pat), usize), ReadError>
         requires nests { Nests self.now.depth (F.pre self.now.sub) (F.post self.now.sub) }
         requires few { length tokens.now ≤ max_file_bytes }
         ensures { Gives (λ x. (x.0.0, view_pat x.0.1, from tokens.now x.1)) result (r.equals_part (read_pat self.now.depth) self.now.depth (from tokens.now at)) }
@@ -264,7 +265,7 @@ impl<F: Fn(Global, &[Token<'_>], usize, usize, usize) -> Result<(Pat, usize), Re
     /// A field of a record.
     #[tactic(auto, unfolding(crate::specs::PatReading::field_pat), using(ml_trees::proofs::Variants::pat_field_views))]
     #[inline(never)]
-    fn field(&self, tokens: &[Token<'_>], at: usize) -> Result<(PatField, usize), ReadError>
+    fn field(&self, tokens: &TokenTable<'_>, at: usize) -> Result<(PatField, usize), ReadError>
         requires nests { Nests self.now.depth (F.pre self.now.sub) (F.post self.now.sub) }
         requires few { length tokens.now ≤ max_file_bytes }
         ensures { Gives (λ x. (view_pat_field x.0, from tokens.now x.1)) result (r.field_pat (read_pat self.now.depth) self.now.depth (from tokens.now at)) }
@@ -289,7 +290,7 @@ impl<F: Fn(Global, &[Token<'_>], usize, usize, usize) -> Result<(Pat, usize), Re
     }
 
     /// The next field, behind its `;`.
-    fn next_field(&self, tokens: &[Token<'_>], at: usize) -> Result<(PatField, usize), ReadError>
+    fn next_field(&self, tokens: &TokenTable<'_>, at: usize) -> Result<(PatField, usize), ReadError>
         requires nests { Nests self.now.depth (F.pre self.now.sub) (F.post self.now.sub) }
         requires few { length tokens.now ≤ max_file_bytes }
         ensures { Gives (λ x. (view_pat_field x.0, from tokens.now x.1)) result (r.next_field (read_pat self.now.depth) self.now.depth (from tokens.now at)) }
@@ -302,7 +303,7 @@ impl<F: Fn(Global, &[Token<'_>], usize, usize, usize) -> Result<(Pat, usize), Re
     #[inline(never)]
     fn more_fields(
         &self,
-        tokens: &[Token<'_>],
+        tokens: &TokenTable<'_>,
         at: usize,
     ) -> Result<(Vec<PatField>, usize), ReadError>
         requires nests { Nests self.now.depth (F.pre self.now.sub) (F.post self.now.sub) }
@@ -327,7 +328,7 @@ impl<F: Fn(Global, &[Token<'_>], usize, usize, usize) -> Result<(Pat, usize), Re
     /// After the `{` at a place.
     #[tactic(auto, unfolding(crate::specs::PatReading::brace_pat), using(ml_trees::proofs::Variants::pat_views))]
     #[inline(never)]
-    fn record(&self, tokens: &[Token<'_>], at: usize) -> Result<(Pat, usize), ReadError>
+    fn record(&self, tokens: &TokenTable<'_>, at: usize) -> Result<(Pat, usize), ReadError>
         requires within { at < length tokens.now }
         requires nests { Nests self.now.depth (F.pre self.now.sub) (F.post self.now.sub) }
         requires few { length tokens.now ≤ max_file_bytes }
@@ -354,7 +355,7 @@ impl<F: Fn(Global, &[Token<'_>], usize, usize, usize) -> Result<(Pat, usize), Re
     /// A `-` or `-.` and a number.
     #[tactic(auto, using(ml_trees::proofs::Variants::pat_views))]
     #[inline(never)]
-    fn negative(&self, tokens: &[Token<'_>], at: usize) -> Result<(Pat, usize), ReadError>
+    fn negative(&self, tokens: &TokenTable<'_>, at: usize) -> Result<(Pat, usize), ReadError>
         requires within { at < length tokens.now }
         requires few { length tokens.now ≤ max_file_bytes }
         ensures { Gives (λ x. (view_pat x.0, from tokens.now x.1)) result (if is_minus (text_at tokens.now at) then r.negative (name_at tokens.now at) (from tokens.now (at + 1)) else None) }
@@ -378,7 +379,7 @@ impl<F: Fn(Global, &[Token<'_>], usize, usize, usize) -> Result<(Pat, usize), Re
     /// A character, or two with `..` between them.
     #[tactic(auto, using(ml_trees::proofs::Variants::pat_views))]
     #[inline(never)]
-    fn character(&self, tokens: &[Token<'_>], at: usize) -> Result<(Pat, usize), ReadError>
+    fn character(&self, tokens: &TokenTable<'_>, at: usize) -> Result<(Pat, usize), ReadError>
         requires within { at < length tokens.now }
         requires few { length tokens.now ≤ max_file_bytes }
         ensures { Gives (λ x. (view_pat x.0, from tokens.now x.1)) result (Some (r.range_or (name_at tokens.now at) (from tokens.now (at + 1)))) }
@@ -399,7 +400,12 @@ impl<F: Fn(Global, &[Token<'_>], usize, usize, usize) -> Result<(Pat, usize), Re
     /// The pattern that the word of a class at a place begins, other than the name of a module or constructor.
     #[tactic(auto, using(ml_trees::proofs::Variants::pat_views))]
     #[inline(never)]
-    fn free(&self, tokens: &[Token<'_>], class: Class, at: usize) -> Result<(Pat, usize), ReadError>
+    fn free(
+        &self,
+        tokens: &TokenTable<'_>,
+        class: Class,
+        at: usize,
+    ) -> Result<(Pat, usize), ReadError>
         requires within { at < length tokens.now }
         requires few { length tokens.now ≤ max_file_bytes }
         ensures { Gives (λ x. (view_pat x.0, from tokens.now x.1)) result (r.free_pat class (name_at tokens.now at) (from tokens.now (at + 1))) }
@@ -423,7 +429,7 @@ impl<F: Fn(Global, &[Token<'_>], usize, usize, usize) -> Result<(Pat, usize), Re
 
     /// A Simple pattern.
     #[tactic(auto, unfolding(crate::specs::PatReading::simple_pat), using(ml_trees::proofs::Variants::pat_views))]
-    pub fn simple(&self, tokens: &[Token<'_>], at: usize) -> Result<(Pat, usize), ReadError>
+    pub fn simple(&self, tokens: &TokenTable<'_>, at: usize) -> Result<(Pat, usize), ReadError>
         requires nests { Nests self.now.depth (F.pre self.now.sub) (F.post self.now.sub) }
         requires few { length tokens.now ≤ max_file_bytes }
         ensures { Gives (λ x. (view_pat x.0, from tokens.now x.1)) result (r.simple_pat (read_pat self.now.depth) self.now.depth (from tokens.now at)) }
@@ -459,7 +465,7 @@ impl<F: Fn(Global, &[Token<'_>], usize, usize, usize) -> Result<(Pat, usize), Re
     #[inline(never)]
     fn argument(
         &self,
-        tokens: &[Token<'_>],
+        tokens: &TokenTable<'_>,
         head: Pat,
         at: usize,
     ) -> Result<(Pat, usize), ReadError>
@@ -493,7 +499,7 @@ impl<F: Fn(Global, &[Token<'_>], usize, usize, usize) -> Result<(Pat, usize), Re
 
     /// A Simple, a `lazy`, or a constructor or tag with what it is applied to.
     #[tactic(auto, unfolding(crate::specs::PatReading::plain_pat), using(ml_trees::proofs::Variants::pat_views))]
-    fn plain(&self, tokens: &[Token<'_>], at: usize) -> Result<(Pat, usize), ReadError>
+    fn plain(&self, tokens: &TokenTable<'_>, at: usize) -> Result<(Pat, usize), ReadError>
         requires nests { Nests self.now.depth (F.pre self.now.sub) (F.post self.now.sub) }
         requires few { length tokens.now ≤ max_file_bytes }
         ensures { Gives (λ x. (view_pat x.0, from tokens.now x.1)) result (r.plain_pat (read_pat self.now.depth) self.now.depth (from tokens.now at)) }
@@ -519,7 +525,7 @@ impl<F: Fn(Global, &[Token<'_>], usize, usize, usize) -> Result<(Pat, usize), Re
 
     /// The same, or behind an `exception`.
     #[tactic(auto, unfolding(crate::specs::PatReading::applied_pat), using(ml_trees::proofs::Variants::pat_views))]
-    fn applied(&self, tokens: &[Token<'_>], at: usize) -> Result<(Pat, usize), ReadError>
+    fn applied(&self, tokens: &TokenTable<'_>, at: usize) -> Result<(Pat, usize), ReadError>
         requires nests { Nests self.now.depth (F.pre self.now.sub) (F.post self.now.sub) }
         requires few { length tokens.now ≤ max_file_bytes }
         ensures { Gives (λ x. (view_pat x.0, from tokens.now x.1)) result (r.applied_pat (read_pat self.now.depth) self.now.depth (from tokens.now at)) }
@@ -541,7 +547,7 @@ impl<F: Fn(Global, &[Token<'_>], usize, usize, usize) -> Result<(Pat, usize), Re
     }
 
     /// The next part, behind its `::`.
-    fn next_applied(&self, tokens: &[Token<'_>], at: usize) -> Result<(Pat, usize), ReadError>
+    fn next_applied(&self, tokens: &TokenTable<'_>, at: usize) -> Result<(Pat, usize), ReadError>
         requires nests { Nests self.now.depth (F.pre self.now.sub) (F.post self.now.sub) }
         requires few { length tokens.now ≤ max_file_bytes }
         ensures { Gives (λ x. (view_pat x.0, from tokens.now x.1)) result (r.next_pat (read_pat self.now.depth) self.now.depth key.ColonColon (r.applied_pat (read_pat self.now.depth) self.now.depth) (from tokens.now at)) }
@@ -552,7 +558,11 @@ impl<F: Fn(Global, &[Token<'_>], usize, usize, usize) -> Result<(Pat, usize), Re
 
     /// Further parts, as long as each can be read whole.
     #[inline(never)]
-    fn more_applied(&self, tokens: &[Token<'_>], at: usize) -> Result<(Vec<Pat>, usize), ReadError>
+    fn more_applied(
+        &self,
+        tokens: &TokenTable<'_>,
+        at: usize,
+    ) -> Result<(Vec<Pat>, usize), ReadError>
         requires nests { Nests self.now.depth (F.pre self.now.sub) (F.post self.now.sub) }
         requires few { length tokens.now ≤ max_file_bytes }
         ensures { Gives (λ x. (pats x.0.items, from tokens.now x.1)) result (Some (many pure.no_pat pure.more_pat always (r.next_pat (read_pat self.now.depth) self.now.depth key.ColonColon (r.applied_pat (read_pat self.now.depth) self.now.depth)) self.now.depth (from tokens.now at))) }
@@ -574,7 +584,7 @@ impl<F: Fn(Global, &[Token<'_>], usize, usize, usize) -> Result<(Pat, usize), Re
 
     /// Patterns between `::`.
     #[tactic(auto, unfolding(crate::specs::PatReading::cons_pat))]
-    fn cons(&self, tokens: &[Token<'_>], at: usize) -> Result<(Pat, usize), ReadError>
+    fn cons(&self, tokens: &TokenTable<'_>, at: usize) -> Result<(Pat, usize), ReadError>
         requires nests { Nests self.now.depth (F.pre self.now.sub) (F.post self.now.sub) }
         requires few { length tokens.now ≤ max_file_bytes }
         ensures { Gives (λ x. (view_pat x.0, from tokens.now x.1)) result (r.cons_pat (read_pat self.now.depth) self.now.depth (from tokens.now at)) }
@@ -585,7 +595,7 @@ impl<F: Fn(Global, &[Token<'_>], usize, usize, usize) -> Result<(Pat, usize), Re
     }
 
     /// The next part, behind its `,`.
-    fn next_cons(&self, tokens: &[Token<'_>], at: usize) -> Result<(Pat, usize), ReadError>
+    fn next_cons(&self, tokens: &TokenTable<'_>, at: usize) -> Result<(Pat, usize), ReadError>
         requires nests { Nests self.now.depth (F.pre self.now.sub) (F.post self.now.sub) }
         requires few { length tokens.now ≤ max_file_bytes }
         ensures { Gives (λ x. (view_pat x.0, from tokens.now x.1)) result (r.next_pat (read_pat self.now.depth) self.now.depth key.Comma (r.cons_pat (read_pat self.now.depth) self.now.depth) (from tokens.now at)) }
@@ -596,7 +606,7 @@ impl<F: Fn(Global, &[Token<'_>], usize, usize, usize) -> Result<(Pat, usize), Re
 
     /// Further parts, as long as each can be read whole.
     #[inline(never)]
-    fn more_cons(&self, tokens: &[Token<'_>], at: usize) -> Result<(Vec<Pat>, usize), ReadError>
+    fn more_cons(&self, tokens: &TokenTable<'_>, at: usize) -> Result<(Vec<Pat>, usize), ReadError>
         requires nests { Nests self.now.depth (F.pre self.now.sub) (F.post self.now.sub) }
         requires few { length tokens.now ≤ max_file_bytes }
         ensures { Gives (λ x. (pats x.0.items, from tokens.now x.1)) result (Some (many pure.no_pat pure.more_pat always (r.next_pat (read_pat self.now.depth) self.now.depth key.Comma (r.cons_pat (read_pat self.now.depth) self.now.depth)) self.now.depth (from tokens.now at))) }
@@ -618,7 +628,7 @@ impl<F: Fn(Global, &[Token<'_>], usize, usize, usize) -> Result<(Pat, usize), Re
 
     /// Patterns between `,`.
     #[tactic(auto, unfolding(crate::specs::PatReading::tuple_pat))]
-    fn tuple(&self, tokens: &[Token<'_>], at: usize) -> Result<(Pat, usize), ReadError>
+    fn tuple(&self, tokens: &TokenTable<'_>, at: usize) -> Result<(Pat, usize), ReadError>
         requires nests { Nests self.now.depth (F.pre self.now.sub) (F.post self.now.sub) }
         requires few { length tokens.now ≤ max_file_bytes }
         ensures { Gives (λ x. (view_pat x.0, from tokens.now x.1)) result (r.tuple_pat (read_pat self.now.depth) self.now.depth (from tokens.now at)) }
@@ -629,7 +639,7 @@ impl<F: Fn(Global, &[Token<'_>], usize, usize, usize) -> Result<(Pat, usize), Re
     }
 
     /// The next part, behind its `|`.
-    fn next_tuple(&self, tokens: &[Token<'_>], at: usize) -> Result<(Pat, usize), ReadError>
+    fn next_tuple(&self, tokens: &TokenTable<'_>, at: usize) -> Result<(Pat, usize), ReadError>
         requires nests { Nests self.now.depth (F.pre self.now.sub) (F.post self.now.sub) }
         requires few { length tokens.now ≤ max_file_bytes }
         ensures { Gives (λ x. (view_pat x.0, from tokens.now x.1)) result (r.next_pat (read_pat self.now.depth) self.now.depth key.Bar (r.tuple_pat (read_pat self.now.depth) self.now.depth) (from tokens.now at)) }
@@ -640,7 +650,11 @@ impl<F: Fn(Global, &[Token<'_>], usize, usize, usize) -> Result<(Pat, usize), Re
 
     /// Further parts, as long as each can be read whole.
     #[inline(never)]
-    fn more_tuples(&self, tokens: &[Token<'_>], at: usize) -> Result<(Vec<Pat>, usize), ReadError>
+    fn more_tuples(
+        &self,
+        tokens: &TokenTable<'_>,
+        at: usize,
+    ) -> Result<(Vec<Pat>, usize), ReadError>
         requires nests { Nests self.now.depth (F.pre self.now.sub) (F.post self.now.sub) }
         requires few { length tokens.now ≤ max_file_bytes }
         ensures { Gives (λ x. (pats x.0.items, from tokens.now x.1)) result (Some (many pure.no_pat pure.more_pat always (r.next_pat (read_pat self.now.depth) self.now.depth key.Bar (r.tuple_pat (read_pat self.now.depth) self.now.depth)) self.now.depth (from tokens.now at))) }
@@ -662,7 +676,7 @@ impl<F: Fn(Global, &[Token<'_>], usize, usize, usize) -> Result<(Pat, usize), Re
 
     /// Patterns between `|`.
     #[tactic(auto, unfolding(crate::specs::PatReading::or_pat))]
-    fn or(&self, tokens: &[Token<'_>], at: usize) -> Result<(Pat, usize), ReadError>
+    fn or(&self, tokens: &TokenTable<'_>, at: usize) -> Result<(Pat, usize), ReadError>
         requires nests { Nests self.now.depth (F.pre self.now.sub) (F.post self.now.sub) }
         requires few { length tokens.now ≤ max_file_bytes }
         ensures { Gives (λ x. (view_pat x.0, from tokens.now x.1)) result (r.or_pat (read_pat self.now.depth) self.now.depth (from tokens.now at)) }
@@ -673,7 +687,7 @@ impl<F: Fn(Global, &[Token<'_>], usize, usize, usize) -> Result<(Pat, usize), Re
     }
 
     /// The next name, behind its `as`.
-    fn next_name(&self, tokens: &[Token<'_>], at: usize) -> Result<(ValueName, usize), ReadError>
+    fn next_name(&self, tokens: &TokenTable<'_>, at: usize) -> Result<(ValueName, usize), ReadError>
         requires few { length tokens.now ≤ max_file_bytes }
         ensures { Gives (λ x. (view_name x.0, from tokens.now x.1)) result (r.as_name (read_pat self.now.depth) self.now.depth (from tokens.now at)) }
     {
@@ -685,7 +699,7 @@ impl<F: Fn(Global, &[Token<'_>], usize, usize, usize) -> Result<(Pat, usize), Re
     #[inline(never)]
     fn more_names(
         &self,
-        tokens: &[Token<'_>],
+        tokens: &TokenTable<'_>,
         at: usize,
     ) -> Result<(Vec<ValueName>, usize), ReadError>
         requires nests { Nests self.now.depth (F.pre self.now.sub) (F.post self.now.sub) }
@@ -709,7 +723,7 @@ impl<F: Fn(Global, &[Token<'_>], usize, usize, usize) -> Result<(Pat, usize), Re
 
     /// A pattern and the names behind it.
     #[tactic(auto, unfolding(crate::specs::PatReading::as_pat))]
-    fn alias(&self, tokens: &[Token<'_>], at: usize) -> Result<(Pat, usize), ReadError>
+    fn alias(&self, tokens: &TokenTable<'_>, at: usize) -> Result<(Pat, usize), ReadError>
         requires nests { Nests self.now.depth (F.pre self.now.sub) (F.post self.now.sub) }
         requires few { length tokens.now ≤ max_file_bytes }
         ensures { Gives (λ x. (view_pat x.0, from tokens.now x.1)) result (r.as_pat (read_pat self.now.depth) self.now.depth (from tokens.now at)) }
@@ -732,7 +746,7 @@ fn closing(bracket: Bracket) -> Fixed
 }
 
 /// A last `;` that may follow, and the place after it.
-fn last_semicolon(tokens: &[Token<'_>], at: usize) -> (bool, usize)
+fn last_semicolon(tokens: &TokenTable<'_>, at: usize) -> (bool, usize)
     requires { length tokens.now ≤ max_file_bytes }
     ensures { (result.0, from tokens.now result.1) ≡ r.last_semicolon (from tokens.now at) }
 {
@@ -743,7 +757,7 @@ fn last_semicolon(tokens: &[Token<'_>], at: usize) -> (bool, usize)
 }
 
 /// A `;` and a `_` that may follow: the number of the `_`, and the place after it.
-fn open_end(tokens: &[Token<'_>], at: usize) -> (Option<u32>, usize)
+fn open_end(tokens: &TokenTable<'_>, at: usize) -> (Option<u32>, usize)
     requires { length tokens.now ≤ max_file_bytes }
     ensures { (result.0, from tokens.now result.1) ≡ r.open_end (from tokens.now at) }
 {
@@ -775,7 +789,7 @@ fn is_literal(class: Class) -> bool
 #[tactic(auto, unfolding(crate::specs::PatReading::read_pat))]
 pub fn pattern(
     alloc: Global,
-    tokens: &[Token<'_>],
+    tokens: &TokenTable<'_>,
     depth: usize,
     levels: usize,
     at: usize,
@@ -801,7 +815,7 @@ pub fn pattern(
 /// The Simple pattern at a place, as a parameter is one.
 pub fn simple_pattern(
     alloc: Global,
-    tokens: &[Token<'_>],
+    tokens: &TokenTable<'_>,
     depth: usize,
     levels: usize,
     at: usize,

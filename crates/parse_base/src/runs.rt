@@ -11,9 +11,10 @@ ghost use Rattle.parse_base.specs.Gives.{Gives};
 ghost use Rattle.parse_base.specs.Tokens.{from};
 
 use crate::error::ReadError;
-use crate::tokens::{Kind, is, is_same, kind_at, text, token_word};
+use crate::table::{TokenTable, kind_at};
+use crate::tokens::{Kind, is, is_same, text, token_word};
 use ml_trees::{Fixed, Run};
-use rotor_base::{Class, Memory, Token};
+use rotor_base::{Class, Memory};
 use std::alloc::Global;
 
 /// What a run is of.
@@ -122,7 +123,7 @@ fn is_declaration_word(fixed: Fixed) -> bool
 }
 
 /// Whether the token at a place may be inside the brackets of a run.
-fn is_inside(run: RunKind, tokens: &[Token<'_>], at: usize) -> bool
+fn is_inside(run: RunKind, tokens: &TokenTable<'_>, at: usize) -> bool
     ensures { result ≡ first_is (is_inside run) (from tokens.now at) }
 {
     match kind_at(tokens, at) {
@@ -147,7 +148,7 @@ fn is_optional_label(bytes: &[u8]) -> bool
 }
 
 /// Whether the token at a place may be outside the brackets of a type.
-fn is_beside_type(tokens: &[Token<'_>], at: usize) -> bool
+fn is_beside_type(tokens: &TokenTable<'_>, at: usize) -> bool
     ensures { result ≡ first_is beside_type (from tokens.now at) }
 {
     match kind_at(tokens, at) {
@@ -162,7 +163,7 @@ fn is_beside_type(tokens: &[Token<'_>], at: usize) -> bool
 }
 
 /// Whether the token at a place may be outside the brackets of a run.
-fn is_beside(run: RunKind, tokens: &[Token<'_>], at: usize) -> bool
+fn is_beside(run: RunKind, tokens: &TokenTable<'_>, at: usize) -> bool
     ensures { result ≡ first_is (is_beside run) (from tokens.now at) }
 {
     match run {
@@ -172,7 +173,7 @@ fn is_beside(run: RunKind, tokens: &[Token<'_>], at: usize) -> bool
 }
 
 /// Whether the token at a place, if it is no bracket, may begin a run.
-fn begins(run: RunKind, tokens: &[Token<'_>], at: usize) -> bool
+fn begins(run: RunKind, tokens: &TokenTable<'_>, at: usize) -> bool
     ensures { result ≡ first_is (is_first run) (from tokens.now at) }
 {
     match run {
@@ -182,7 +183,7 @@ fn begins(run: RunKind, tokens: &[Token<'_>], at: usize) -> bool
 }
 
 /// What the token at a place is to the brackets of a run.
-fn bracket_kind(tokens: &[Token<'_>], at: usize) -> BracketKind
+fn bracket_kind(tokens: &TokenTable<'_>, at: usize) -> BracketKind
     ensures { bracket_of result ≡ first_bracketing (from tokens.now at) }
 {
     match kind_at(tokens, at) {
@@ -199,7 +200,7 @@ fn bracket_kind(tokens: &[Token<'_>], at: usize) -> BracketKind
 }
 
 /// Whether a token that is no bracket may be at a place: outside the brackets, or inside.
-fn fits(run: RunKind, first: bool, outside: bool, tokens: &[Token<'_>], at: usize) -> bool
+fn fits(run: RunKind, first: bool, outside: bool, tokens: &TokenTable<'_>, at: usize) -> bool
     ensures { result ≡ first_is (if outside then shape_outside run first else is_inside run) (from tokens.now at) }
 {
     if !outside {
@@ -216,7 +217,7 @@ fn fits(run: RunKind, first: bool, outside: bool, tokens: &[Token<'_>], at: usiz
 fn step(
     run: RunKind,
     first: bool,
-    tokens: &[Token<'_>],
+    tokens: &TokenTable<'_>,
     unclosed: &mut Vec<Fixed>,
     at: usize,
 ) -> Result<bool, Memory>
@@ -259,7 +260,7 @@ fn closed_count(unclosed: &[Fixed], done: usize, before: usize) -> usize
 /// The number of the tokens of the longest run from a place.
 fn run_length(
     alloc: Global,
-    tokens: &[Token<'_>],
+    tokens: &TokenTable<'_>,
     run: RunKind,
     at: usize,
 ) -> Result<usize, ReadError>
@@ -285,7 +286,7 @@ fn run_length(
 }
 
 /// The tokens of a run, so many from a place.
-fn words(alloc: Global, tokens: &[Token<'_>], count: usize, at: usize) -> Result<Run, Memory>
+fn words(alloc: Global, tokens: &TokenTable<'_>, count: usize, at: usize) -> Result<Run, Memory>
     requires within { at + count ≤ length tokens.now }
     requires few { length tokens.now ≤ max_file_bytes }
     ensures { IfOk result (λ run. view_run run ≡ take count (from tokens.now at)) }
@@ -299,7 +300,11 @@ fn words(alloc: Global, tokens: &[Token<'_>], count: usize, at: usize) -> Result
 
 /// The longest type from a place.
 #[inline(never)]
-pub fn type_run(alloc: Global, tokens: &[Token<'_>], at: usize) -> Result<(Run, usize), ReadError>
+pub fn type_run(
+    alloc: Global,
+    tokens: &TokenTable<'_>,
+    at: usize,
+) -> Result<(Run, usize), ReadError>
     requires { length tokens.now ≤ max_file_bytes }
     ensures { Gives (λ x. (view_run x.0, from tokens.now x.1)) result (read_type (from tokens.now at)) }
 {
@@ -313,7 +318,7 @@ pub fn type_run(alloc: Global, tokens: &[Token<'_>], at: usize) -> Result<(Run, 
 /// The longest declaration from a place.
 pub fn declaration_run(
     alloc: Global,
-    tokens: &[Token<'_>],
+    tokens: &TokenTable<'_>,
     at: usize,
 ) -> Result<(Run, usize), ReadError>
     requires { length tokens.now ≤ max_file_bytes }
@@ -330,7 +335,7 @@ pub fn declaration_run(
 #[inline(never)]
 pub fn optional_type(
     alloc: Global,
-    tokens: &[Token<'_>],
+    tokens: &TokenTable<'_>,
     at: usize,
 ) -> Result<(Option<Run>, usize), ReadError>
     requires { length tokens.now ≤ max_file_bytes }

@@ -2,15 +2,16 @@
 
 ghost use Rattle.std.specs.Prelude.{◌≡◌, ◌≤◌, ◌<◌, ◌+◌, ◌∷◌, true, false, length, IfOk};
 ghost use Rattle.rotor_base.specs.Limits.{max_file_bytes};
-ghost use Rattle.ml_trees.specs.Tok.{fixed_at, is_placed, fixed_of, same};
+ghost use Rattle.ml_trees.specs.Tok.{fixed_at, is_placed, same};
 ghost use Rattle.ml_trees.specs.View.{view_word, view_tok};
 ghost use Rattle.parse_base.specs.Steps.{expect as read_expect, expect_at as read_expect_at};
-ghost use Rattle.parse_base.specs.Gives.{text_at, name_at, kind_of, kind_or, Sees, IsThere, Gives, starts};
+ghost use Rattle.parse_base.specs.Gives.{text_at, name_at, Gives, starts};
 ghost use Rattle.parse_base.specs.Tokens.{from};
 
 use crate::error::ReadError;
-use ml_trees::{Fixed, Word, fixed_word};
-use rotor_base::{Class, Memory, Name, Token};
+use crate::table::{TokenTable, kind_at};
+use ml_trees::{Fixed, Word};
+use rotor_base::{Class, Memory, Name};
 use std::alloc::Global;
 
 /// What is at a place.
@@ -24,44 +25,12 @@ pub enum Kind {
     End,
 }
 
-/// What a token is to the grammar.
-fn kind_of(token: &Token<'_>) -> Kind
-    ensures { result ≡ kind_of token.now.class token.now.bytes.now }
-{
-    match token.class {
-        Class::Keyword => fixed_or(Class::Keyword, token.bytes),
-        Class::Mark => fixed_or(Class::Mark, token.bytes),
-        class => Kind::Word(class),
-    }
-}
-
-/// The fixed word of these bytes, or else a word of this class.
-fn fixed_or(class: Class, bytes: &[u8]) -> Kind
-    ensures { result ≡ kind_or class (fixed_of bytes.now) }
-{
-    match fixed_word(bytes) {
-        Some(fixed) => Kind::Fixed(fixed),
-        None => Kind::Word(class),
-    }
-}
-
-/// What is at a place, and `End` past the tokens.
-pub fn kind_at(tokens: &[Token<'_>], at: usize) -> Kind
-    ensures sees { Sees result (at + 1) (text_at tokens.now at) (from tokens.now at) (from tokens.now (at + 1)) }
-    ensures there { IsThere result at (length tokens.now) }
-{
-    if at < tokens.len() {
-        return kind_of(&tokens[at]);
-    }
-    Kind::End
-}
-
 /// The bytes of the token at a place.
-pub fn text<'a>(tokens: &[Token<'a>], at: usize) -> &'a [u8]
+pub fn text<'a>(tokens: &TokenTable<'a>, at: usize) -> &'a [u8]
     requires { at < length tokens.now }
     ensures { result.now ≡ text_at tokens.now at }
 {
-    tokens[at].bytes
+    tokens.as_slice()[at].bytes
 }
 
 /// The number of the token at a place.
@@ -73,7 +42,7 @@ pub fn number(at: usize) -> u32
 }
 
 /// The token at a place, as a word of a class.
-pub fn word(alloc: Global, tokens: &[Token<'_>], class: Class, at: usize) -> Result<Word, Memory>
+pub fn word(alloc: Global, tokens: &TokenTable<'_>, class: Class, at: usize) -> Result<Word, Memory>
     requires within { at < length tokens.now }
     requires few { length tokens.now ≤ max_file_bytes }
     ensures name { IfOk result (λ w. view_word w ≡ name_at tokens.now at) }
@@ -87,12 +56,12 @@ pub fn word(alloc: Global, tokens: &[Token<'_>], class: Class, at: usize) -> Res
 }
 
 /// The token at a place, as a word with its own class: an operator, or a word of a run.
-pub fn token_word(alloc: Global, tokens: &[Token<'_>], at: usize) -> Result<Word, Memory>
+pub fn token_word(alloc: Global, tokens: &TokenTable<'_>, at: usize) -> Result<Word, Memory>
     requires within { at < length tokens.now }
     requires few { length tokens.now ≤ max_file_bytes }
     ensures { IfOk result (λ w. from tokens.now at ≡ view_tok w ∷ from tokens.now (at + 1)) }
 {
-    let token = tokens[at];
+    let token = tokens.as_slice()[at];
     Ok(Word {
         token: number(at),
         class: token.class,
@@ -108,7 +77,7 @@ pub(crate) fn is_same(a: Fixed, b: Fixed) -> bool
 }
 
 /// Whether this fixed word is at a place.
-pub fn is(tokens: &[Token<'_>], fixed: Fixed, at: usize) -> bool
+pub fn is(tokens: &TokenTable<'_>, fixed: Fixed, at: usize) -> bool
     ensures value { result ≡ starts fixed (from tokens.now at) }
     ensures there { result ≡ true → from tokens.now at ≡ fixed_at (at + 1) fixed ∷ from tokens.now (at + 1) }
     ensures within { result ≡ true → at < length tokens.now }
@@ -120,7 +89,7 @@ pub fn is(tokens: &[Token<'_>], fixed: Fixed, at: usize) -> bool
 }
 
 /// The place after this fixed word, whose token no tree keeps.
-pub fn expect(tokens: &[Token<'_>], fixed: Fixed, at: usize) -> Result<usize, ReadError>
+pub fn expect(tokens: &TokenTable<'_>, fixed: Fixed, at: usize) -> Result<usize, ReadError>
     requires plain { is_placed fixed ≡ false }
     requires few { length tokens.now ≤ max_file_bytes }
     ensures { Gives (λ next. from tokens.now next) result (read_expect fixed (from tokens.now at)) }
@@ -132,7 +101,11 @@ pub fn expect(tokens: &[Token<'_>], fixed: Fixed, at: usize) -> Result<usize, Re
 }
 
 /// The number of this fixed word, whose token trees keep, and the place after it.
-pub fn expect_at(tokens: &[Token<'_>], fixed: Fixed, at: usize) -> Result<(u32, usize), ReadError>
+pub fn expect_at(
+    tokens: &TokenTable<'_>,
+    fixed: Fixed,
+    at: usize,
+) -> Result<(u32, usize), ReadError>
     requires placed { is_placed fixed ≡ true }
     requires few { length tokens.now ≤ max_file_bytes }
     ensures { Gives (λ x. (x.0, from tokens.now x.1)) result (read_expect_at fixed (from tokens.now at)) }

@@ -18,17 +18,17 @@ use expr_parts::{grown_apply, grown_postfix, has_colon, is_bare, is_constr, push
 use expr_reading::Wanted;
 use ml_trees::{Argument, Expr, Fixed, Part};
 use parse_base::{
-    Kind, ReadError, expect, kind_at, lower_word, number, qualifiers, take_path, take_word, text,
-    word,
+    Kind, ReadError, TokenTable, expect, kind_at, lower_word, number, qualifiers, take_path,
+    take_word, text, word,
 };
-use rotor_base::{Class, Token};
+use rotor_base::Class;
 use std::alloc::Global;
 
 impl<
     F: Copy
         + Fn(
             Global,
-            &[Token<'_>],
+            &TokenTable<'_>,
             usize,
             usize,
             Wanted,
@@ -38,7 +38,11 @@ impl<
     /// An expression in parentheses or brackets, or the name of a field.
     #[tactic(auto, using(ml_trees::proofs::Variants::part_views))]
     #[inline(never)]
-    fn part_after(&self, tokens: &[Token<'_>], at: usize) -> Result<(Box<Part>, usize), ReadError>
+    fn part_after(
+        &self,
+        tokens: &TokenTable<'_>,
+        at: usize,
+    ) -> Result<(Box<Part>, usize), ReadError>
         requires nests { Nests self.now.grammar.depth (F.pre self.now.grammar.sub) (F.post self.now.grammar.sub) }
         requires few { length tokens.now ≤ max_file_bytes }
         ensures { Gives (λ x. (view_part x.0.value, from tokens.now x.1)) result (part_after self.now.grammar.depth (from tokens.now at)) }
@@ -70,7 +74,7 @@ impl<
     #[inline(never)]
     pub(crate) fn part(
         &self,
-        tokens: &[Token<'_>],
+        tokens: &TokenTable<'_>,
         at: usize,
     ) -> Result<(Box<Part>, usize), ReadError>
         requires nests { Nests self.now.grammar.depth (F.pre self.now.grammar.sub) (F.post self.now.grammar.sub) }
@@ -85,7 +89,7 @@ impl<
     #[inline(never)]
     pub(crate) fn more_parts(
         &self,
-        tokens: &[Token<'_>],
+        tokens: &TokenTable<'_>,
         at: usize,
     ) -> Result<(Vec<Part>, usize), ReadError>
         requires nests { Nests self.now.grammar.depth (F.pre self.now.grammar.sub) (F.post self.now.grammar.sub) }
@@ -111,7 +115,7 @@ impl<
     #[inline(never)]
     fn with_parts(
         &self,
-        tokens: &[Token<'_>],
+        tokens: &TokenTable<'_>,
         first: Box<Expr>,
         at: usize,
     ) -> Result<(Box<Expr>, usize), ReadError>
@@ -131,7 +135,7 @@ impl<
     #[inline(never)]
     pub(crate) fn postfix(
         &self,
-        tokens: &[Token<'_>],
+        tokens: &TokenTable<'_>,
         at: usize,
     ) -> Result<(Box<Expr>, usize), ReadError>
         requires nests { Nests self.now.grammar.depth (F.pre self.now.grammar.sub) (F.post self.now.grammar.sub) }
@@ -144,7 +148,7 @@ impl<
 
     /// What is given to a function.
     #[inline(never)]
-    fn argument_value(&self, tokens: &[Token<'_>], at: usize) -> Result<(Expr, usize), ReadError>
+    fn argument_value(&self, tokens: &TokenTable<'_>, at: usize) -> Result<(Expr, usize), ReadError>
         requires nests { Nests self.now.grammar.depth (F.pre self.now.grammar.sub) (F.post self.now.grammar.sub) }
         requires few { length tokens.now ≤ max_file_bytes }
         ensures { Gives (λ x. (view x.0, from tokens.now x.1)) result (r.postfix (read_expr self.now.grammar.depth) self.now.grammar.depth (from tokens.now at)) }
@@ -158,7 +162,7 @@ impl<
     #[inline(never)]
     pub(crate) fn argument(
         &self,
-        tokens: &[Token<'_>],
+        tokens: &TokenTable<'_>,
         at: usize,
     ) -> Result<(Argument, usize), ReadError>
         requires nests { Nests self.now.grammar.depth (F.pre self.now.grammar.sub) (F.post self.now.grammar.sub) }
@@ -185,7 +189,7 @@ impl<
     #[inline(never)]
     pub(crate) fn more_arguments(
         &self,
-        tokens: &[Token<'_>],
+        tokens: &TokenTable<'_>,
         at: usize,
     ) -> Result<(Vec<Argument>, usize), ReadError>
         requires nests { Nests self.now.grammar.depth (F.pre self.now.grammar.sub) (F.post self.now.grammar.sub) }
@@ -212,7 +216,7 @@ impl<
     #[inline(never)]
     pub(crate) fn applied(
         &self,
-        tokens: &[Token<'_>],
+        tokens: &TokenTable<'_>,
         head: Box<Expr>,
         at: usize,
     ) -> Result<(Box<Expr>, usize), ReadError>
@@ -239,7 +243,7 @@ impl<
     #[inline(never)]
     pub(crate) fn application(
         &self,
-        tokens: &[Token<'_>],
+        tokens: &TokenTable<'_>,
         at: usize,
     ) -> Result<(Box<Expr>, usize), ReadError>
         requires nests { Nests self.now.grammar.depth (F.pre self.now.grammar.sub) (F.post self.now.grammar.sub) }
@@ -259,7 +263,7 @@ impl<
     /// After the `assert` at a place.
     #[tactic(auto, using(ml_trees::proofs::Variants::expr_views))]
     #[inline(never)]
-    fn assertion(&self, tokens: &[Token<'_>], at: usize) -> Result<(Box<Expr>, usize), ReadError>
+    fn assertion(&self, tokens: &TokenTable<'_>, at: usize) -> Result<(Box<Expr>, usize), ReadError>
         requires nests { Nests self.now.grammar.depth (F.pre self.now.grammar.sub) (F.post self.now.grammar.sub) }
         requires few { length tokens.now ≤ max_file_bytes }
         requires within { at < length tokens.now }
@@ -276,7 +280,11 @@ impl<
     /// After the `lazy` at a place.
     #[tactic(auto, using(ml_trees::proofs::Variants::expr_views))]
     #[inline(never)]
-    fn lazy_value(&self, tokens: &[Token<'_>], at: usize) -> Result<(Box<Expr>, usize), ReadError>
+    fn lazy_value(
+        &self,
+        tokens: &TokenTable<'_>,
+        at: usize,
+    ) -> Result<(Box<Expr>, usize), ReadError>
         requires nests { Nests self.now.grammar.depth (F.pre self.now.grammar.sub) (F.post self.now.grammar.sub) }
         requires few { length tokens.now ≤ max_file_bytes }
         requires within { at < length tokens.now }

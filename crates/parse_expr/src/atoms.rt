@@ -18,15 +18,15 @@ use crate::readers::Readers;
 use expr_parts::{is_literal, path_from};
 use expr_reading::Wanted;
 use ml_trees::{Bracket, Expr, Fixed, Path, ValueName};
-use parse_base::{Kind, ReadError, expect, kind_at, number, take_name, word};
-use rotor_base::{Class, Token};
+use parse_base::{Kind, ReadError, TokenTable, expect, kind_at, number, take_name, word};
+use rotor_base::Class;
 use std::alloc::Global;
 
 impl<
     F: Copy
         + Fn(
             Global,
-            &[Token<'_>],
+            &TokenTable<'_>,
             usize,
             usize,
             Wanted,
@@ -38,7 +38,7 @@ impl<
     #[inline(never)]
     pub(crate) fn enclosed(
         &self,
-        tokens: &[Token<'_>],
+        tokens: &TokenTable<'_>,
         at: usize,
     ) -> Result<(Box<Expr>, usize), ReadError>
         requires nests { Nests self.now.grammar.depth (F.pre self.now.grammar.sub) (F.post self.now.grammar.sub) }
@@ -59,7 +59,7 @@ impl<
     #[inline(never)]
     pub(crate) fn behind_dot(
         &self,
-        tokens: &[Token<'_>],
+        tokens: &TokenTable<'_>,
         at: usize,
     ) -> Result<(Box<Expr>, usize), ReadError>
         requires nests { Nests self.now.grammar.depth (F.pre self.now.grammar.sub) (F.post self.now.grammar.sub) }
@@ -75,7 +75,7 @@ impl<
     #[inline(never)]
     pub(crate) fn upper(
         &self,
-        tokens: &[Token<'_>],
+        tokens: &TokenTable<'_>,
         at: usize,
     ) -> Result<(Box<Expr>, usize), ReadError>
         requires nests { Nests self.now.grammar.depth (F.pre self.now.grammar.sub) (F.post self.now.grammar.sub) }
@@ -96,7 +96,7 @@ impl<
     #[inline(never)]
     pub(crate) fn atom(
         &self,
-        tokens: &[Token<'_>],
+        tokens: &TokenTable<'_>,
         at: usize,
     ) -> Result<(Box<Expr>, usize), ReadError>
         requires nests { Nests self.now.grammar.depth (F.pre self.now.grammar.sub) (F.post self.now.grammar.sub) }
@@ -124,7 +124,7 @@ impl<
     /// After the Prefix word at a place.
     #[tactic(auto, using(ml_trees::proofs::Variants::expr_views))]
     #[inline(never)]
-    fn operated(&self, tokens: &[Token<'_>], at: usize) -> Result<(Box<Expr>, usize), ReadError>
+    fn operated(&self, tokens: &TokenTable<'_>, at: usize) -> Result<(Box<Expr>, usize), ReadError>
         requires nests { Nests self.now.grammar.depth (F.pre self.now.grammar.sub) (F.post self.now.grammar.sub) }
         requires few { length tokens.now ≤ max_file_bytes }
         requires within { at < length tokens.now }
@@ -143,7 +143,7 @@ impl<
     #[inline(never)]
     pub(crate) fn prefixed(
         &self,
-        tokens: &[Token<'_>],
+        tokens: &TokenTable<'_>,
         at: usize,
     ) -> Result<(Box<Expr>, usize), ReadError>
         requires nests { Nests self.now.grammar.depth (F.pre self.now.grammar.sub) (F.post self.now.grammar.sub) }
@@ -162,7 +162,7 @@ impl<
 #[inline(never)]
 fn boolean(
     alloc: Global,
-    tokens: &[Token<'_>],
+    tokens: &TokenTable<'_>,
     value: bool,
     at: usize,
 ) -> Result<(Box<Expr>, usize), ReadError>
@@ -180,7 +180,7 @@ fn boolean(
 #[inline(never)]
 fn literal(
     alloc: Global,
-    tokens: &[Token<'_>],
+    tokens: &TokenTable<'_>,
     class: Class,
     at: usize,
 ) -> Result<(Box<Expr>, usize), ReadError>
@@ -195,7 +195,7 @@ fn literal(
 /// The tag at a place.
 #[tactic(auto, using(ml_trees::proofs::Variants::expr_views))]
 #[inline(never)]
-fn tag(alloc: Global, tokens: &[Token<'_>], at: usize) -> Result<(Box<Expr>, usize), ReadError>
+fn tag(alloc: Global, tokens: &TokenTable<'_>, at: usize) -> Result<(Box<Expr>, usize), ReadError>
     requires within { at < length tokens.now }
     requires few { length tokens.now ≤ max_file_bytes }
     ensures { Gives {A = pure.Expr × List Tok} (λ x. (view x.0.value, from tokens.now x.1)) result (Some (pure.Tag (name_at tokens.now at), from tokens.now (at + 1))) }
@@ -207,7 +207,7 @@ fn tag(alloc: Global, tokens: &[Token<'_>], at: usize) -> Result<(Box<Expr>, usi
 /// The name of a value.
 #[tactic(auto, using(ml_trees::proofs::Variants::expr_views))]
 #[inline(never)]
-fn value(alloc: Global, tokens: &[Token<'_>], at: usize) -> Result<(Box<Expr>, usize), ReadError>
+fn value(alloc: Global, tokens: &TokenTable<'_>, at: usize) -> Result<(Box<Expr>, usize), ReadError>
     requires within { at < length tokens.now }
     requires few { length tokens.now ≤ max_file_bytes }
     ensures { Gives {A = pure.Expr × List Tok} (λ x. (view x.0.value, from tokens.now x.1)) result (Some (pure.Value [] (pure.PlainName (name_at tokens.now at)), from tokens.now (at + 1))) }
@@ -222,7 +222,7 @@ fn value(alloc: Global, tokens: &[Token<'_>], at: usize) -> Result<(Box<Expr>, u
 #[inline(never)]
 fn qualified(
     alloc: Global,
-    tokens: &[Token<'_>],
+    tokens: &TokenTable<'_>,
     path: Path,
     at: usize,
     inner: Box<Expr>,

@@ -17,15 +17,14 @@ use crate::readers::Readers;
 use expr_parts::{Edge, closed, closing, direction, on_edge, row_ends, semicolon_if, variable};
 use expr_reading::Wanted;
 use ml_trees::{Bracket, Expr, Fixed, ValueName};
-use parse_base::{ReadError, expect, expect_at, is, number, operator};
-use rotor_base::Token;
+use parse_base::{ReadError, TokenTable, expect, expect_at, is, number, operator};
 use std::alloc::Global;
 
 impl<
     F: Copy
         + Fn(
             Global,
-            &[Token<'_>],
+            &TokenTable<'_>,
             usize,
             usize,
             Wanted,
@@ -36,7 +35,7 @@ impl<
     #[inline(never)]
     pub(crate) fn next_item(
         &self,
-        tokens: &[Token<'_>],
+        tokens: &TokenTable<'_>,
         at: usize,
     ) -> Result<(Expr, usize), ReadError>
         requires nests { Nests self.now.grammar.depth (F.pre self.now.grammar.sub) (F.post self.now.grammar.sub) }
@@ -51,7 +50,7 @@ impl<
     #[inline(never)]
     pub(crate) fn more_items(
         &self,
-        tokens: &[Token<'_>],
+        tokens: &TokenTable<'_>,
         at: usize,
     ) -> Result<(Vec<Expr>, usize), ReadError>
         requires nests { Nests self.now.grammar.depth (F.pre self.now.grammar.sub) (F.post self.now.grammar.sub) }
@@ -81,7 +80,7 @@ impl<
     #[inline(never)]
     pub(crate) fn rest_of_items(
         &self,
-        tokens: &[Token<'_>],
+        tokens: &TokenTable<'_>,
         first: &Expr,
         at: usize,
     ) -> Result<((Vec<Expr>, bool), usize), ReadError>
@@ -103,7 +102,7 @@ impl<
     #[inline(never)]
     pub(crate) fn list(
         &self,
-        tokens: &[Token<'_>],
+        tokens: &TokenTable<'_>,
         start: usize,
         bracket: Bracket,
         at: usize,
@@ -136,7 +135,7 @@ impl<
     #[inline(never)]
     pub(crate) fn bracketed(
         &self,
-        tokens: &[Token<'_>],
+        tokens: &TokenTable<'_>,
         bracket: Bracket,
         at: usize,
     ) -> Result<(Box<Expr>, usize), ReadError>
@@ -164,7 +163,7 @@ impl<
     #[inline(never)]
     pub(crate) fn inner(
         &self,
-        tokens: &[Token<'_>],
+        tokens: &TokenTable<'_>,
         at: usize,
     ) -> Result<(Box<Expr>, usize), ReadError>
         requires nests { Nests self.now.grammar.depth (F.pre self.now.grammar.sub) (F.post self.now.grammar.sub) }
@@ -181,7 +180,7 @@ impl<
     #[inline(never)]
     pub(crate) fn parenthesized(
         &self,
-        tokens: &[Token<'_>],
+        tokens: &TokenTable<'_>,
         at: usize,
     ) -> Result<(Box<Expr>, usize), ReadError>
         requires nests { Nests self.now.grammar.depth (F.pre self.now.grammar.sub) (F.post self.now.grammar.sub) }
@@ -207,7 +206,7 @@ impl<
     #[inline(never)]
     pub(crate) fn begin(
         &self,
-        tokens: &[Token<'_>],
+        tokens: &TokenTable<'_>,
         at: usize,
     ) -> Result<(Box<Expr>, usize), ReadError>
         requires nests { Nests self.now.grammar.depth (F.pre self.now.grammar.sub) (F.post self.now.grammar.sub) }
@@ -240,7 +239,7 @@ impl<
     #[inline(never)]
     pub(crate) fn while_loop(
         &self,
-        tokens: &[Token<'_>],
+        tokens: &TokenTable<'_>,
         at: usize,
     ) -> Result<(Box<Expr>, usize), ReadError>
         requires nests { Nests self.now.grammar.depth (F.pre self.now.grammar.sub) (F.post self.now.grammar.sub) }
@@ -260,7 +259,7 @@ impl<
     #[inline(never)]
     pub(crate) fn for_loop(
         &self,
-        tokens: &[Token<'_>],
+        tokens: &TokenTable<'_>,
         at: usize,
     ) -> Result<(Box<Expr>, usize), ReadError>
         requires nests { Nests self.now.grammar.depth (F.pre self.now.grammar.sub) (F.post self.now.grammar.sub) }

@@ -22,17 +22,18 @@ use expr_parts::{
     semicolon_if,
 };
 use expr_reading::Wanted;
-use matched_lets::lacks_in;
 use ml_trees::{Expr, Fixed, Word};
-use parse_base::{Kind, ReadError, expect, is_minus, kind_at, text, token_word, word};
-use rotor_base::{Class, Token};
+use parse_base::{
+    Kind, ReadError, TokenTable, expect, is_minus, kind_at, lacks_in, text, token_word, word,
+};
+use rotor_base::Class;
 use std::alloc::Global;
 
 impl<
     F: Copy
         + Fn(
             Global,
-            &[Token<'_>],
+            &TokenTable<'_>,
             usize,
             usize,
             Wanted,
@@ -44,7 +45,7 @@ impl<
     #[inline(never)]
     pub(crate) fn minus(
         &self,
-        tokens: &[Token<'_>],
+        tokens: &TokenTable<'_>,
         at: usize,
     ) -> Result<(Box<Expr>, usize), ReadError>
         requires nests { Nests self.now.grammar.depth (F.pre self.now.grammar.sub) (F.post self.now.grammar.sub) }
@@ -65,7 +66,7 @@ impl<
     #[inline(never)]
     pub(crate) fn unary(
         &self,
-        tokens: &[Token<'_>],
+        tokens: &TokenTable<'_>,
         at: usize,
     ) -> Result<(Box<Expr>, usize), ReadError>
         requires nests { Nests self.now.grammar.depth (F.pre self.now.grammar.sub) (F.post self.now.grammar.sub) }
@@ -100,7 +101,7 @@ impl<
     #[inline(never)]
     pub(crate) fn next_operand(
         &self,
-        tokens: &[Token<'_>],
+        tokens: &TokenTable<'_>,
         tier: u32,
         at: usize,
     ) -> Result<((Word, Expr, bool), usize), ReadError>
@@ -120,7 +121,7 @@ impl<
     #[inline(never)]
     pub(crate) fn more_operands(
         &self,
-        tokens: &[Token<'_>],
+        tokens: &TokenTable<'_>,
         tier: u32,
         at: usize,
     ) -> Result<(Vec<(Word, Expr)>, usize), ReadError>
@@ -153,7 +154,7 @@ impl<
     #[inline(never)]
     pub(crate) fn grow(
         &self,
-        tokens: &[Token<'_>],
+        tokens: &TokenTable<'_>,
         tier: u32,
         first: Box<Expr>,
         at: usize,
@@ -188,7 +189,7 @@ impl<
     #[inline(never)]
     pub(crate) fn tier(
         &self,
-        tokens: &[Token<'_>],
+        tokens: &TokenTable<'_>,
         tier: u32,
         at: usize,
     ) -> Result<(Box<Expr>, usize), ReadError>
@@ -214,7 +215,7 @@ impl<
     #[inline(never)]
     pub(crate) fn next_in_tuple(
         &self,
-        tokens: &[Token<'_>],
+        tokens: &TokenTable<'_>,
         at: usize,
     ) -> Result<((Expr, bool), usize), ReadError>
         requires nests { Nests self.now.grammar.depth (F.pre self.now.grammar.sub) (F.post self.now.grammar.sub) }
@@ -237,7 +238,7 @@ impl<
     #[inline(never)]
     pub(crate) fn more_in_tuple(
         &self,
-        tokens: &[Token<'_>],
+        tokens: &TokenTable<'_>,
         at: usize,
     ) -> Result<(Vec<Expr>, usize), ReadError>
         requires nests { Nests self.now.grammar.depth (F.pre self.now.grammar.sub) (F.post self.now.grammar.sub) }
@@ -267,7 +268,7 @@ impl<
     #[inline(never)]
     pub(crate) fn expression(
         &self,
-        tokens: &[Token<'_>],
+        tokens: &TokenTable<'_>,
         at: usize,
     ) -> Result<(Box<Expr>, usize), ReadError>
         requires nests { Nests self.now.grammar.depth (F.pre self.now.grammar.sub) (F.post self.now.grammar.sub) }
@@ -281,7 +282,7 @@ impl<
     #[inline(never)]
     pub(crate) fn next_step(
         &self,
-        tokens: &[Token<'_>],
+        tokens: &TokenTable<'_>,
         at: usize,
     ) -> Result<(Expr, usize), ReadError>
         requires nests { Nests self.now.grammar.depth (F.pre self.now.grammar.sub) (F.post self.now.grammar.sub) }
@@ -297,7 +298,7 @@ impl<
     #[inline(never)]
     pub(crate) fn more_steps(
         &self,
-        tokens: &[Token<'_>],
+        tokens: &TokenTable<'_>,
         at: usize,
     ) -> Result<(Vec<Expr>, usize), ReadError>
         requires nests { Nests self.now.grammar.depth (F.pre self.now.grammar.sub) (F.post self.now.grammar.sub) }
@@ -327,7 +328,7 @@ impl<
     #[inline(never)]
     pub(crate) fn rest_of_steps(
         &self,
-        tokens: &[Token<'_>],
+        tokens: &TokenTable<'_>,
         first: &Expr,
         at: usize,
     ) -> Result<((Vec<Expr>, bool), usize), ReadError>
@@ -348,7 +349,7 @@ impl<
     #[inline(never)]
     fn with_steps(
         &self,
-        tokens: &[Token<'_>],
+        tokens: &TokenTable<'_>,
         first: Box<Expr>,
         at: usize,
     ) -> Result<(Box<Expr>, usize), ReadError>
@@ -365,7 +366,7 @@ impl<
     #[inline(never)]
     pub(crate) fn sequence(
         &self,
-        tokens: &[Token<'_>],
+        tokens: &TokenTable<'_>,
         at: usize,
     ) -> Result<(Box<Expr>, usize), ReadError>
         requires nests { Nests self.now.grammar.depth (F.pre self.now.grammar.sub) (F.post self.now.grammar.sub) }
@@ -382,7 +383,7 @@ impl<
 #[inline(never)]
 fn operator_word(
     alloc: Global,
-    tokens: &[Token<'_>],
+    tokens: &TokenTable<'_>,
     level: u32,
     at: usize,
 ) -> Result<(Word, usize), ReadError>

@@ -1,11 +1,13 @@
 //! The longest sequence expression from a token.
 
-ghost use Rattle.std.specs.Prelude.{◌≡◌, ◌≤◌, length, Err, IfOk, IfErr};
+ghost use Rattle.std.specs.Prelude.{◌≡◌, ◌≤◌, ◌+◌, length, Err, IfOk, IfErr};
 ghost use Rattle.rotor_base.specs.Limits.{max_file_bytes};
 ghost use Rattle.ml_trees.specs.View.{view};
-ghost use Rattle.parse_base.specs.Gives.{IsPlain};
+ghost use Rattle.parse_base.specs.Gives.{Gives, IsPlain};
 ghost use Rattle.parse_base.specs.Tokens.{from};
 ghost use Rattle.parse_base.specs.declared.error.ParseError.TheVariants as refused;
+ghost use Rattle.expr_reading.specs.declared.wanted.Wanted.TheVariants as wanted;
+ghost use Rattle.expr_reading.specs.ExprReading.{read_expr};
 ghost use Rattle.expr_reading.specs.Longest.{IsLongestExpr, BeginsNoExpr};
 ghost use Rattle.expr_levels.specs.Height.{height};
 
@@ -13,7 +15,7 @@ use crate::reading::read;
 use expr_levels::fits;
 use expr_reading::Wanted;
 use ml_trees::Expr;
-use parse_base::{MAX_NESTED, ParseError, ReadError};
+use parse_base::{MAX_NESTED, ParseError, ReadError, TokenTable};
 use rotor_base::Token;
 use std::alloc::Global;
 
@@ -41,14 +43,7 @@ pub fn parse_seq(
     // It is neither `Form` nor `Deep`.
     ensures plain { IfErr result IsPlain }
 {
-    match read(
-        alloc,
-        tokens,
-        tokens.len() + 1,
-        MAX_DEEPER,
-        Wanted::Sequence,
-        start,
-    ) {
+    match sequence_from(alloc, tokens, start) {
         Ok((tree, end)) => {
             if !fits(&tree, MAX_DEEPER) {
                 return Err(ParseError::Memory);
@@ -58,4 +53,24 @@ pub fn parse_seq(
         Err(ReadError::Syntax) => Err(ParseError::Syntax),
         Err(ReadError::Memory) => Err(ParseError::Memory),
     }
+}
+
+/// The longest sequence expression from a place.
+fn sequence_from(
+    alloc: Global,
+    tokens: &[Token<'_>],
+    start: usize,
+) -> Result<(Box<Expr>, usize), ReadError>
+    requires { length tokens.now ≤ max_file_bytes }
+    ensures { Gives (λ x. (view x.0.value, from tokens.now x.1)) result (read_expr (length tokens.now + 1) wanted.Sequence (from tokens.now start)) }
+{
+    let table = TokenTable::new(alloc, tokens)?;
+    read(
+        alloc,
+        &table,
+        tokens.len() + 1,
+        MAX_DEEPER,
+        Wanted::Sequence,
+        start,
+    )
 }

@@ -6,8 +6,7 @@ ghost use Rattle.parse_base.specs.declared.error.ReadError.TheVariants as unread
 use expr_forms::Grammar;
 use expr_reading::Wanted;
 use ml_trees::Expr;
-use parse_base::ReadError;
-use rotor_base::Token;
+use parse_base::{ReadError, TokenTable};
 use std::alloc::Global;
 
 /// The readers of expressions, over their context.
@@ -20,7 +19,7 @@ impl<
     F: Copy
         + Fn(
             Global,
-            &[Token<'_>],
+            &TokenTable<'_>,
             usize,
             usize,
             Wanted,

@@ -14,8 +14,7 @@ use expr_forms::Grammar;
 use expr_levels::fits;
 use expr_reading::Wanted;
 use ml_trees::Expr;
-use parse_base::ReadError;
-use rotor_base::Token;
+use parse_base::{ReadError, TokenTable};
 use std::alloc::Global;
 
 /// At how many levels the readers ask once whether what they have read has too many. In between, a tree may become some
@@ -26,7 +25,7 @@ const LEVELS_PER_TEST: usize = 16;
 #[inline(never)]
 pub fn read(
     alloc: Global,
-    tokens: &[Token<'_>],
+    tokens: &TokenTable<'_>,
     depth: usize,
     levels: usize,
     wanted: Wanted,
@@ -47,7 +46,7 @@ pub fn read(
 #[inline(never)]
 fn nested(
     alloc: Global,
-    tokens: &[Token<'_>],
+    tokens: &TokenTable<'_>,
     depth: usize,
     levels: usize,
     wanted: Wanted,
@@ -89,7 +88,7 @@ impl<
     F: Copy
         + Fn(
             Global,
-            &[Token<'_>],
+            &TokenTable<'_>,
             usize,
             usize,
             Wanted,
@@ -100,7 +99,7 @@ impl<
     #[inline(never)]
     fn read_wanted(
         &self,
-        tokens: &[Token<'_>],
+        tokens: &TokenTable<'_>,
         wanted: Wanted,
         at: usize,
     ) -> Result<(Box<Expr>, usize), ReadError>

@@ -17,15 +17,14 @@ use crate::readers::Readers;
 use expr_parts::{ends_field, fields_end, push_boxed, semicolon_if};
 use expr_reading::Wanted;
 use ml_trees::{Expr, Field, Fixed, Run, Word};
-use parse_base::{ReadError, expect, lower_word, number, optional_type, qualifiers};
-use rotor_base::Token;
+use parse_base::{ReadError, TokenTable, expect, lower_word, number, optional_type, qualifiers};
 use std::alloc::Global;
 
 impl<
     F: Copy
         + Fn(
             Global,
-            &[Token<'_>],
+            &TokenTable<'_>,
             usize,
             usize,
             Wanted,
@@ -37,7 +36,7 @@ impl<
     #[inline(never)]
     pub(crate) fn field(
         &self,
-        tokens: &[Token<'_>],
+        tokens: &TokenTable<'_>,
         at: usize,
     ) -> Result<(Box<Field>, usize), ReadError>
         requires nests { Nests self.now.grammar.depth (F.pre self.now.grammar.sub) (F.post self.now.grammar.sub) }
@@ -61,7 +60,7 @@ impl<
     #[inline(never)]
     pub(crate) fn next_field(
         &self,
-        tokens: &[Token<'_>],
+        tokens: &TokenTable<'_>,
         at: usize,
     ) -> Result<(Box<Field>, usize), ReadError>
         requires nests { Nests self.now.grammar.depth (F.pre self.now.grammar.sub) (F.post self.now.grammar.sub) }
@@ -76,7 +75,7 @@ impl<
     #[inline(never)]
     pub(crate) fn more_fields(
         &self,
-        tokens: &[Token<'_>],
+        tokens: &TokenTable<'_>,
         at: usize,
     ) -> Result<(Vec<Field>, usize), ReadError>
         requires nests { Nests self.now.grammar.depth (F.pre self.now.grammar.sub) (F.post self.now.grammar.sub) }
@@ -106,7 +105,7 @@ impl<
     #[inline(never)]
     pub(crate) fn rest_of_fields(
         &self,
-        tokens: &[Token<'_>],
+        tokens: &TokenTable<'_>,
         first: &Field,
         at: usize,
     ) -> Result<((Vec<Field>, bool), usize), ReadError>
@@ -127,7 +126,7 @@ impl<
     #[inline(never)]
     pub(crate) fn base_with(
         &self,
-        tokens: &[Token<'_>],
+        tokens: &TokenTable<'_>,
         at: usize,
     ) -> Result<(Box<Expr>, usize), ReadError>
         requires nests { Nests self.now.grammar.depth (F.pre self.now.grammar.sub) (F.post self.now.grammar.sub) }
@@ -143,7 +142,7 @@ impl<
     #[inline(never)]
     pub(crate) fn base(
         &self,
-        tokens: &[Token<'_>],
+        tokens: &TokenTable<'_>,
         at: usize,
     ) -> Result<(Option<Box<Expr>>, usize), ReadError>
         requires nests { Nests self.now.grammar.depth (F.pre self.now.grammar.sub) (F.post self.now.grammar.sub) }
@@ -162,7 +161,7 @@ impl<
     #[inline(never)]
     pub(crate) fn record(
         &self,
-        tokens: &[Token<'_>],
+        tokens: &TokenTable<'_>,
         at: usize,
     ) -> Result<(Box<Expr>, usize), ReadError>
         requires nests { Nests self.now.grammar.depth (F.pre self.now.grammar.sub) (F.post self.now.grammar.sub) }

@@ -10,12 +10,12 @@ ghost use Rattle.parse_base.specs.Rows.{first_is};
 ghost use Rattle.parse_module.specs.ModReading as r;
 
 use ml_trees::{Constraint, Fixed, WithClause, Word};
-use parse_base::{Kind, ReadError, expect, kind_at, text, token_word, type_run};
-use rotor_base::{Class, Token};
+use parse_base::{Kind, ReadError, TokenTable, expect, kind_at, text, token_word, type_run};
+use rotor_base::Class;
 use std::alloc::Global;
 
 /// Whether `=` or `:=` is at a place.
-fn is_sign(tokens: &[Token<'_>], at: usize) -> bool
+fn is_sign(tokens: &TokenTable<'_>, at: usize) -> bool
     ensures value { result ≡ first_is is_constraint_sign (from tokens.now at) }
     ensures within { result ≡ true → at < length tokens.now }
 {
@@ -28,7 +28,7 @@ fn is_sign(tokens: &[Token<'_>], at: usize) -> bool
 
 /// `=` or `:=`.
 #[tactic(auto, using(crate::proofs::Rows::signs))]
-fn sign(alloc: Global, tokens: &[Token<'_>], at: usize) -> Result<(Word, usize), ReadError>
+fn sign(alloc: Global, tokens: &TokenTable<'_>, at: usize) -> Result<(Word, usize), ReadError>
     requires { length tokens.now ≤ max_file_bytes }
     ensures { Gives (λ x. (view_tok x.0, from tokens.now x.1)) result (r.constraint_sign (from tokens.now at)) }
 {
@@ -39,7 +39,8 @@ fn sign(alloc: Global, tokens: &[Token<'_>], at: usize) -> Result<(Word, usize),
 }
 
 /// An optional `private` before a type, and the place after it.
-fn private(tokens: &[Token<'_>], at: usize) -> (bool, usize)
+fn private(tokens: &TokenTable<'_>, at: usize) -> (bool, usize)
+    requires { length tokens.now ≤ max_file_bytes }
     ensures { (result.0, from tokens.now result.1) ≡ r.optional_private (from tokens.now at) }
 {
     match kind_at(tokens, at) {
@@ -52,7 +53,7 @@ fn private(tokens: &[Token<'_>], at: usize) -> (bool, usize)
 #[tactic(auto, unfolding(crate::specs::ModReading::constraint))]
 fn constraint(
     alloc: Global,
-    tokens: &[Token<'_>],
+    tokens: &TokenTable<'_>,
     at: usize,
 ) -> Result<(Constraint, usize), ReadError>
     requires { length tokens.now ≤ max_file_bytes }
@@ -77,7 +78,7 @@ fn constraint(
 /// The next constraint, behind its `and`.
 fn next_constraint(
     alloc: Global,
-    tokens: &[Token<'_>],
+    tokens: &TokenTable<'_>,
     at: usize,
 ) -> Result<(Constraint, usize), ReadError>
     requires { length tokens.now ≤ max_file_bytes }
@@ -90,7 +91,7 @@ fn next_constraint(
 /// Further constraints, as long as each can be read whole.
 fn more_constraints(
     alloc: Global,
-    tokens: &[Token<'_>],
+    tokens: &TokenTable<'_>,
     depth: usize,
     at: usize,
 ) -> Result<(Vec<Constraint>, usize), ReadError>
@@ -116,7 +117,7 @@ fn more_constraints(
 #[tactic(auto, unfolding(crate::specs::ModReading::with_clause))]
 fn with_clause(
     alloc: Global,
-    tokens: &[Token<'_>],
+    tokens: &TokenTable<'_>,
     depth: usize,
     at: usize,
 ) -> Result<(WithClause, usize), ReadError>
@@ -132,7 +133,7 @@ fn with_clause(
 /// Each `with`, as long as it can be read whole.
 pub(crate) fn with_clauses(
     alloc: Global,
-    tokens: &[Token<'_>],
+    tokens: &TokenTable<'_>,
     depth: usize,
     at: usize,
 ) -> Result<(Vec<WithClause>, usize), ReadError>

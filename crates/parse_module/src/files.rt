@@ -16,9 +16,9 @@ ghost use Rattle.parse_module.specs.Whole.{IsTreeOf, HasNoTree, told_form, told_
 use crate::modules::Modules;
 use crate::reading::{read_module, read_module_type};
 use ml_trees::{FileTree, Item, SigItem};
-use parse_base::{ParseError, ReadError, scan_depth, scan_forms};
+use parse_base::{ParseError, ReadError, TokenTable, deep_token, scan_forms};
 use parse_expr::MAX_DEEPER;
-use rotor_base::{Memory, Token};
+use rotor_base::Token;
 use std::alloc::Global;
 
 /// What a source is: the body of a unit (`.ml`) or its interface (`.mli`).
@@ -38,6 +38,24 @@ pub fn body_items(alloc: Global, tokens: &[Token<'_>]) -> Result<(Vec<Item>, usi
     requires few { length tokens.now ≤ max_file_bytes }
     ensures { Gives (λ x. (v.items x.0.items, from tokens.now x.1)) result (Some (body_start (length tokens.now + 1) (from tokens.now 0))) }
 {
+    let table = TokenTable::new(alloc, tokens)?;
+    read_body_items(alloc, &table)
+}
+
+/// The items with which the tokens of an interface begin; places and errors as for [`body_items`].
+pub fn face_items(alloc: Global, tokens: &[Token<'_>]) -> Result<(Vec<SigItem>, usize), ReadError>
+    requires few { length tokens.now ≤ max_file_bytes }
+    ensures { Gives (λ x. (v.sig_items x.0.items, from tokens.now x.1)) result (Some (face_start (length tokens.now + 1) (from tokens.now 0))) }
+{
+    let table = TokenTable::new(alloc, tokens)?;
+    read_face_items(alloc, &table)
+}
+
+/// The items with which the tokens of a body begin, as [`body_items`] gives them.
+fn read_body_items(alloc: Global, tokens: &TokenTable<'_>) -> Result<(Vec<Item>, usize), ReadError>
+    requires few { length tokens.now ≤ max_file_bytes }
+    ensures { Gives (λ x. (v.items x.0.items, from tokens.now x.1)) result (Some (body_start (length tokens.now + 1) (from tokens.now 0))) }
+{
     let readers = Modules {
         alloc,
         depth: tokens.len() + 1,
@@ -48,8 +66,11 @@ pub fn body_items(alloc: Global, tokens: &[Token<'_>]) -> Result<(Vec<Item>, usi
     readers.items(tokens, 0)
 }
 
-/// The items with which the tokens of an interface begin; places and errors as for [`body_items`].
-pub fn face_items(alloc: Global, tokens: &[Token<'_>]) -> Result<(Vec<SigItem>, usize), ReadError>
+/// The items with which the tokens of an interface begin, as [`face_items`] gives them.
+fn read_face_items(
+    alloc: Global,
+    tokens: &TokenTable<'_>,
+) -> Result<(Vec<SigItem>, usize), ReadError>
     requires few { length tokens.now ≤ max_file_bytes }
     ensures { Gives (λ x. (v.sig_items x.0.items, from tokens.now x.1)) result (Some (face_start (length tokens.now + 1) (from tokens.now 0))) }
 {
@@ -64,11 +85,11 @@ pub fn face_items(alloc: Global, tokens: &[Token<'_>]) -> Result<(Vec<SigItem>, 
 }
 
 /// The tree of a body, with the number of its file.
-fn body(alloc: Global, tokens: &[Token<'_>], file: u32) -> Result<FileTree, ReadError>
+fn body(alloc: Global, tokens: &TokenTable<'_>, file: u32) -> Result<FileTree, ReadError>
     requires { length tokens.now ≤ max_file_bytes }
     ensures { Gives view_file result (read_body file (length tokens.now + 1) (from tokens.now 0)) }
 {
-    let (items, end) = body_items(alloc, tokens)?;
+    let (items, end) = read_body_items(alloc, tokens)?;
     if end < tokens.len() {
         return Err(ReadError::Syntax);
     }
@@ -76,11 +97,11 @@ fn body(alloc: Global, tokens: &[Token<'_>], file: u32) -> Result<FileTree, Read
 }
 
 /// The tree of an interface, with the number of its file.
-fn face(alloc: Global, tokens: &[Token<'_>], file: u32) -> Result<FileTree, ReadError>
+fn face(alloc: Global, tokens: &TokenTable<'_>, file: u32) -> Result<FileTree, ReadError>
     requires { length tokens.now ≤ max_file_bytes }
     ensures { Gives view_file result (read_face file (length tokens.now + 1) (from tokens.now 0)) }
 {
-    let (items, after) = face_items(alloc, tokens)?;
+    let (items, after) = read_face_items(alloc, tokens)?;
     if after < tokens.len() {
         return Err(ReadError::Syntax);
     }
@@ -90,7 +111,7 @@ fn face(alloc: Global, tokens: &[Token<'_>], file: u32) -> Result<FileTree, Read
 /// The tree of a body or of an interface.
 fn whole(
     alloc: Global,
-    tokens: &[Token<'_>],
+    tokens: &TokenTable<'_>,
     file: u32,
     kind: FileKind,
 ) -> Result<FileTree, ReadError>
@@ -126,10 +147,25 @@ pub fn parse_file(
     if let Some((token, kind)) = scan_forms(tokens) {
         return Err(ParseError::Form { token, kind });
     }
-    match scan_depth(alloc, tokens) {
-        Ok(None) => {}
-        Ok(Some(token)) => return Err(ParseError::Deep { token }),
-        Err(Memory) => return Err(ParseError::Memory),
+    let table = TokenTable::new(alloc, tokens)?;
+    parse_table(alloc, &table, file, kind)
+}
+
+/// The tree of a whole file that has no refused form; errors as for [`parse_file`].
+fn parse_table(
+    alloc: Global,
+    tokens: &TokenTable<'_>,
+    file: u32,
+    kind: FileKind,
+) -> Result<FileTree, ParseError>
+    requires few { length tokens.now ≤ max_file_bytes }
+    ensures found { IfOk result (λ tree. IsTreeOf kind file (from tokens.now 0) (view_file tree)) }
+    ensures form { told_form result ≡ None }
+    ensures deep { result ≢ Err refused.Memory → DeepIs tokens.now (told_deep result) }
+    ensures none { result ≡ Err refused.Syntax → HasNoTree kind file (from tokens.now 0) }
+{
+    if let Some(token) = deep_token(alloc, tokens)? {
+        return Err(ParseError::Deep { token });
     }
     match whole(alloc, tokens, file, kind) {
         Ok(tree) => Ok(tree),

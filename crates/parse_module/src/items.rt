@@ -18,8 +18,7 @@ use crate::names::{external, module_name, opened};
 use crate::values::{sequence, value_item};
 use expr_parts::upper_word;
 use ml_trees::{Fixed, Item, ModExpr, ModType, Open};
-use parse_base::{Kind, ReadError, declaration_run, expect_at, is, kind_at, number};
-use rotor_base::Token;
+use parse_base::{Kind, ReadError, TokenTable, declaration_run, expect_at, is, kind_at, number};
 use std::alloc::Global;
 
 /// Whether an item is `;;`.
@@ -34,15 +33,17 @@ fn is_separator(item: &Item) -> bool
 }
 
 impl<
-    F: Copy + Fn(Global, &[Token<'_>], usize, usize, usize) -> Result<(ModExpr, usize), ReadError>,
-    G: Copy + Fn(Global, &[Token<'_>], usize, usize, usize) -> Result<(ModType, usize), ReadError>,
+    F: Copy
+        + Fn(Global, &TokenTable<'_>, usize, usize, usize) -> Result<(ModExpr, usize), ReadError>,
+    G: Copy
+        + Fn(Global, &TokenTable<'_>, usize, usize, usize) -> Result<(ModType, usize), ReadError>,
 > Modules<F, G> {
     /// After the `module` at `start`: a name, parameters, a module type or none, `=` and a module.
     #[tactic(auto, using(ml_trees::proofs::Variants::item_views))]
     #[inline(never)]
     fn module_rest(
         &self,
-        tokens: &[Token<'_>],
+        tokens: &TokenTable<'_>,
         start: usize,
         at: usize,
     ) -> Result<(Item, usize), ReadError>
@@ -73,7 +74,7 @@ impl<
     #[inline(never)]
     fn module_type_item(
         &self,
-        tokens: &[Token<'_>],
+        tokens: &TokenTable<'_>,
         start: usize,
         at: usize,
     ) -> Result<(Item, usize), ReadError>
@@ -98,7 +99,7 @@ impl<
     /// The item that the `module` at a place begins.
     #[tactic(auto, using(crate::proofs::Rows::module_items))]
     #[inline(never)]
-    fn module_item(&self, tokens: &[Token<'_>], at: usize) -> Result<(Item, usize), ReadError>
+    fn module_item(&self, tokens: &TokenTable<'_>, at: usize) -> Result<(Item, usize), ReadError>
         requires modules { ReadsModules self.now.depth (F.pre self.now.modules) (F.post self.now.modules) }
         requires types { ReadsTypes self.now.depth (G.pre self.now.types) (G.post self.now.types) }
         requires few { length tokens.now ≤ max_file_bytes }
@@ -114,7 +115,7 @@ impl<
     /// An item that is no expression.
     #[tactic(auto, unfolding(crate::specs::ModReading::plain_item), using(ml_trees::proofs::Variants::item_views))]
     #[inline(never)]
-    fn plain_item(&self, tokens: &[Token<'_>], at: usize) -> Result<(Item, usize), ReadError>
+    fn plain_item(&self, tokens: &TokenTable<'_>, at: usize) -> Result<(Item, usize), ReadError>
         requires modules { ReadsModules self.now.depth (F.pre self.now.modules) (F.post self.now.modules) }
         requires types { ReadsTypes self.now.depth (G.pre self.now.types) (G.post self.now.types) }
         requires few { length tokens.now ≤ max_file_bytes }
@@ -154,7 +155,12 @@ impl<
     /// An item. If it is `fresh`, it may be an expression, which is tried first.
     #[tactic(auto, unfolding(crate::specs::ModReading::item_of), using(ml_trees::proofs::Variants::item_views))]
     #[inline(never)]
-    fn item(&self, tokens: &[Token<'_>], fresh: bool, at: usize) -> Result<(Item, usize), ReadError>
+    fn item(
+        &self,
+        tokens: &TokenTable<'_>,
+        fresh: bool,
+        at: usize,
+    ) -> Result<(Item, usize), ReadError>
         requires modules { ReadsModules self.now.depth (F.pre self.now.modules) (F.post self.now.modules) }
         requires types { ReadsTypes self.now.depth (G.pre self.now.types) (G.post self.now.types) }
         requires few { length tokens.now ≤ max_file_bytes }
@@ -174,7 +180,7 @@ impl<
     #[inline(never)]
     pub(crate) fn items(
         &self,
-        tokens: &[Token<'_>],
+        tokens: &TokenTable<'_>,
         at: usize,
     ) -> Result<(Vec<Item>, usize), ReadError>
         requires modules { ReadsModules self.now.depth (F.pre self.now.modules) (F.post self.now.modules) }

@@ -14,8 +14,8 @@ ghost use Rattle.parse_module.specs.Reads.{ReadsModules, ReadsTypes};
 use crate::modules::Modules;
 use expr_parts::path;
 use ml_trees::{Fixed, FunctorParam, ModArgument, ModExpr, ModType};
-use parse_base::{Kind, ReadError, expect, is, kind_at, number};
-use rotor_base::{Class, Token};
+use parse_base::{Kind, ReadError, TokenTable, expect, is, kind_at, number};
+use rotor_base::Class;
 use std::alloc::Global;
 
 /// A module and what is given to it, if anything is.
@@ -39,15 +39,17 @@ fn grown(
 }
 
 impl<
-    F: Copy + Fn(Global, &[Token<'_>], usize, usize, usize) -> Result<(ModExpr, usize), ReadError>,
-    G: Copy + Fn(Global, &[Token<'_>], usize, usize, usize) -> Result<(ModType, usize), ReadError>,
+    F: Copy
+        + Fn(Global, &TokenTable<'_>, usize, usize, usize) -> Result<(ModExpr, usize), ReadError>,
+    G: Copy
+        + Fn(Global, &TokenTable<'_>, usize, usize, usize) -> Result<(ModType, usize), ReadError>,
 > Modules<F, G> {
     /// After a module behind the `(` at `start`: a `)`, or `:`, a module type and a `)`.
     #[tactic(auto, using(ml_trees::proofs::Variants::mod_expr_views))]
     #[inline(never)]
     fn closed(
         &self,
-        tokens: &[Token<'_>],
+        tokens: &TokenTable<'_>,
         start: usize,
         body: ModExpr,
         at: usize,
@@ -83,7 +85,7 @@ impl<
     /// A path, a structure, or a module in parentheses.
     #[tactic(auto, unfolding(crate::specs::ModReading::simple_mod), using(ml_trees::proofs::Variants::mod_expr_views))]
     #[inline(never)]
-    fn simple_mod(&self, tokens: &[Token<'_>], at: usize) -> Result<(ModExpr, usize), ReadError>
+    fn simple_mod(&self, tokens: &TokenTable<'_>, at: usize) -> Result<(ModExpr, usize), ReadError>
         requires modules { ReadsModules self.now.depth (F.pre self.now.modules) (F.post self.now.modules) }
         requires types { ReadsTypes self.now.depth (G.pre self.now.types) (G.post self.now.types) }
         requires few { length tokens.now ≤ max_file_bytes }
@@ -113,7 +115,7 @@ impl<
     #[inline(never)]
     fn argument_closed(
         &self,
-        tokens: &[Token<'_>],
+        tokens: &TokenTable<'_>,
         start: usize,
         given: ModExpr,
         at: usize,
@@ -152,7 +154,11 @@ impl<
     /// An argument of a functor.
     #[tactic(auto, unfolding(crate::specs::ModReading::mod_argument), using(ml_trees::proofs::Variants::mod_argument_views))]
     #[inline(never)]
-    fn argument(&self, tokens: &[Token<'_>], at: usize) -> Result<(ModArgument, usize), ReadError>
+    fn argument(
+        &self,
+        tokens: &TokenTable<'_>,
+        at: usize,
+    ) -> Result<(ModArgument, usize), ReadError>
         requires modules { ReadsModules self.now.depth (F.pre self.now.modules) (F.post self.now.modules) }
         requires types { ReadsTypes self.now.depth (G.pre self.now.types) (G.post self.now.types) }
         requires few { length tokens.now ≤ max_file_bytes }
@@ -172,7 +178,7 @@ impl<
     #[inline(never)]
     fn arguments(
         &self,
-        tokens: &[Token<'_>],
+        tokens: &TokenTable<'_>,
         at: usize,
     ) -> Result<(Vec<ModArgument>, usize), ReadError>
         requires modules { ReadsModules self.now.depth (F.pre self.now.modules) (F.post self.now.modules) }
@@ -200,7 +206,7 @@ impl<
     #[inline(never)]
     pub(crate) fn application(
         &self,
-        tokens: &[Token<'_>],
+        tokens: &TokenTable<'_>,
         at: usize,
     ) -> Result<(ModExpr, usize), ReadError>
         requires modules { ReadsModules self.now.depth (F.pre self.now.modules) (F.post self.now.modules) }
@@ -218,7 +224,7 @@ impl<
     #[inline(never)]
     fn functor_end(
         &self,
-        tokens: &[Token<'_>],
+        tokens: &TokenTable<'_>,
         start: usize,
         params: Vec<FunctorParam>,
         at: usize,
@@ -251,7 +257,7 @@ impl<
     #[inline(never)]
     pub(crate) fn module(
         &self,
-        tokens: &[Token<'_>],
+        tokens: &TokenTable<'_>,
         at: usize,
     ) -> Result<(ModExpr, usize), ReadError>
         requires modules { ReadsModules self.now.depth (F.pre self.now.modules) (F.post self.now.modules) }

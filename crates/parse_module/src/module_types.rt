@@ -18,20 +18,22 @@ use crate::constraints::with_clauses;
 use crate::modules::Modules;
 use expr_parts::path;
 use ml_trees::{Fixed, FunctorParam, ModExpr, ModType, WithClause};
-use parse_base::{Kind, ReadError, expect, is, kind_at, number};
-use rotor_base::{Class, Token};
+use parse_base::{Kind, ReadError, TokenTable, expect, is, kind_at, number};
+use rotor_base::Class;
 use std::alloc::Global;
 
 impl<
-    F: Copy + Fn(Global, &[Token<'_>], usize, usize, usize) -> Result<(ModExpr, usize), ReadError>,
-    G: Copy + Fn(Global, &[Token<'_>], usize, usize, usize) -> Result<(ModType, usize), ReadError>,
+    F: Copy
+        + Fn(Global, &TokenTable<'_>, usize, usize, usize) -> Result<(ModExpr, usize), ReadError>,
+    G: Copy
+        + Fn(Global, &TokenTable<'_>, usize, usize, usize) -> Result<(ModType, usize), ReadError>,
 > Modules<F, G> {
     /// After the `module type` at `start`: `of` and a module.
     #[tactic(auto, using(ml_trees::proofs::Variants::mod_type_views))]
     #[inline(never)]
     fn type_of(
         &self,
-        tokens: &[Token<'_>],
+        tokens: &TokenTable<'_>,
         start: usize,
         at: usize,
     ) -> Result<(ModType, usize), ReadError>
@@ -51,7 +53,11 @@ impl<
     /// After the `module` at a place: `type of` and a module.
     #[tactic(auto, using(crate::proofs::Rows::module_types_of))]
     #[inline(never)]
-    fn module_type_of(&self, tokens: &[Token<'_>], at: usize) -> Result<(ModType, usize), ReadError>
+    fn module_type_of(
+        &self,
+        tokens: &TokenTable<'_>,
+        at: usize,
+    ) -> Result<(ModType, usize), ReadError>
         requires modules { ReadsModules self.now.depth (F.pre self.now.modules) (F.post self.now.modules) }
         requires types { ReadsTypes self.now.depth (G.pre self.now.types) (G.post self.now.types) }
         requires few { length tokens.now ≤ max_file_bytes }
@@ -67,7 +73,7 @@ impl<
     /// A path, a signature, `module type of`, or a module type in parentheses.
     #[tactic(auto, unfolding(crate::specs::ModReading::simple_type), using(ml_trees::proofs::Variants::mod_type_views))]
     #[inline(never)]
-    fn simple_type(&self, tokens: &[Token<'_>], at: usize) -> Result<(ModType, usize), ReadError>
+    fn simple_type(&self, tokens: &TokenTable<'_>, at: usize) -> Result<(ModType, usize), ReadError>
         requires modules { ReadsModules self.now.depth (F.pre self.now.modules) (F.post self.now.modules) }
         requires types { ReadsTypes self.now.depth (G.pre self.now.types) (G.post self.now.types) }
         requires few { length tokens.now ≤ max_file_bytes }
@@ -101,7 +107,7 @@ impl<
     #[inline(never)]
     fn with_or(
         &self,
-        tokens: &[Token<'_>],
+        tokens: &TokenTable<'_>,
         body: ModType,
         clauses: Vec<WithClause>,
         at: usize,
@@ -122,7 +128,7 @@ impl<
 
     /// A module type that begins with no parameter that has a name, up to its first arrow.
     #[inline(never)]
-    fn with_type(&self, tokens: &[Token<'_>], at: usize) -> Result<(Step, usize), ReadError>
+    fn with_type(&self, tokens: &TokenTable<'_>, at: usize) -> Result<(Step, usize), ReadError>
         requires modules { ReadsModules self.now.depth (F.pre self.now.modules) (F.post self.now.modules) }
         requires types { ReadsTypes self.now.depth (G.pre self.now.types) (G.post self.now.types) }
         requires few { length tokens.now ≤ max_file_bytes }
@@ -138,7 +144,7 @@ impl<
     #[inline(never)]
     fn functor_step(
         &self,
-        tokens: &[Token<'_>],
+        tokens: &TokenTable<'_>,
         start: usize,
         params: Vec<FunctorParam>,
         at: usize,
@@ -158,7 +164,11 @@ impl<
     /// A module type up to its first arrow.
     #[tactic(auto, using(crate::proofs::Rows::module_types))]
     #[inline(never)]
-    pub(crate) fn step(&self, tokens: &[Token<'_>], at: usize) -> Result<(Step, usize), ReadError>
+    pub(crate) fn step(
+        &self,
+        tokens: &TokenTable<'_>,
+        at: usize,
+    ) -> Result<(Step, usize), ReadError>
         requires modules { ReadsModules self.now.depth (F.pre self.now.modules) (F.post self.now.modules) }
         requires types { ReadsTypes self.now.depth (G.pre self.now.types) (G.post self.now.types) }
         requires few { length tokens.now ≤ max_file_bytes }

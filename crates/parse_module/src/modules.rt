@@ -9,8 +9,7 @@ ghost use Rattle.parse_module.specs.ModReading.{read_mod, read_type};
 ghost use Rattle.parse_module.specs.Reads.{ReadsModules, ReadsTypes};
 
 use ml_trees::{ModExpr, ModType};
-use parse_base::ReadError;
-use rotor_base::Token;
+use parse_base::{ReadError, TokenTable};
 use std::alloc::Global;
 
 /// The context of the readers of modules and module types. The readers of what nests deeper are `modules` and `types`,
@@ -27,13 +26,15 @@ pub(crate) struct Modules<F, G> {
 }
 
 impl<
-    F: Copy + Fn(Global, &[Token<'_>], usize, usize, usize) -> Result<(ModExpr, usize), ReadError>,
-    G: Copy + Fn(Global, &[Token<'_>], usize, usize, usize) -> Result<(ModType, usize), ReadError>,
+    F: Copy
+        + Fn(Global, &TokenTable<'_>, usize, usize, usize) -> Result<(ModExpr, usize), ReadError>,
+    G: Copy
+        + Fn(Global, &TokenTable<'_>, usize, usize, usize) -> Result<(ModType, usize), ReadError>,
 > Modules<F, G> {
     /// A module expression, read by `modules`.
     pub(crate) fn sub_module(
         &self,
-        tokens: &[Token<'_>],
+        tokens: &TokenTable<'_>,
         at: usize,
     ) -> Result<(ModExpr, usize), ReadError>
         requires modules { ReadsModules self.now.depth (F.pre self.now.modules) (F.post self.now.modules) }
@@ -47,7 +48,7 @@ impl<
     /// A module type, read by `types`.
     pub(crate) fn sub_type(
         &self,
-        tokens: &[Token<'_>],
+        tokens: &TokenTable<'_>,
         at: usize,
     ) -> Result<(ModType, usize), ReadError>
         requires modules { ReadsModules self.now.depth (F.pre self.now.modules) (F.post self.now.modules) }

@@ -11,14 +11,16 @@ ghost use Rattle.parse_module.specs.Parts as p;
 
 use expr_parts::{bang, path};
 use ml_trees::{External, Fixed, ModuleName, Path, Run, ValueName, Word};
-use parse_base::{Kind, ReadError, expect, expect_at, kind_at, number, type_run, value_name, word};
-use rotor_base::{Class, Token};
+use parse_base::{
+    Kind, ReadError, TokenTable, expect, expect_at, kind_at, number, type_run, value_name, word,
+};
+use rotor_base::Class;
 use std::alloc::Global;
 
 /// The name of a module, or `_`.
 pub(crate) fn module_name(
     alloc: Global,
-    tokens: &[Token<'_>],
+    tokens: &TokenTable<'_>,
     at: usize,
 ) -> Result<(ModuleName, usize), ReadError>
     requires { length tokens.now ≤ max_file_bytes }
@@ -35,7 +37,7 @@ pub(crate) fn module_name(
 }
 
 /// A text in quotes.
-fn text_word(alloc: Global, tokens: &[Token<'_>], at: usize) -> Result<(Word, usize), ReadError>
+fn text_word(alloc: Global, tokens: &TokenTable<'_>, at: usize) -> Result<(Word, usize), ReadError>
     requires { length tokens.now ≤ max_file_bytes }
     ensures { Gives (λ x. (view_word x.0, from tokens.now x.1)) result (r.text_word (from tokens.now at)) }
 {
@@ -48,7 +50,7 @@ fn text_word(alloc: Global, tokens: &[Token<'_>], at: usize) -> Result<(Word, us
 /// Texts, at most so many.
 fn more_texts(
     alloc: Global,
-    tokens: &[Token<'_>],
+    tokens: &TokenTable<'_>,
     depth: usize,
     at: usize,
 ) -> Result<(Vec<Word>, usize), ReadError>
@@ -78,7 +80,7 @@ fn external_end(
     equals: u32,
     texts: Vec<Word>,
     at: usize,
-    tokens: &[Token<'_>],
+    tokens: &TokenTable<'_>,
 ) -> Result<(External, usize), ReadError>
     ensures { Gives (λ x. (p.external_of x.0, from tokens.now x.1)) result (r.external_end (view_name name) (view_run run) equals (view_words texts.items, from tokens.now at)) }
 {
@@ -100,7 +102,7 @@ fn external_end(
 #[tactic(auto, unfolding(crate::specs::ModReading::external_rest))]
 pub(crate) fn external(
     alloc: Global,
-    tokens: &[Token<'_>],
+    tokens: &TokenTable<'_>,
     depth: usize,
     at: usize,
 ) -> Result<(External, usize), ReadError>
@@ -119,7 +121,7 @@ pub(crate) fn external(
 #[tactic(auto, unfolding(crate::specs::ModReading::open_rest))]
 pub(crate) fn opened(
     alloc: Global,
-    tokens: &[Token<'_>],
+    tokens: &TokenTable<'_>,
     depth: usize,
     at: usize,
 ) -> Result<((Option<Word>, Path), usize), ReadError>

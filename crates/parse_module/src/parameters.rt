@@ -14,20 +14,21 @@ ghost use Rattle.parse_module.specs.Reads.{ReadsModules, ReadsTypes};
 use crate::modules::Modules;
 use crate::names::module_name;
 use ml_trees::{Fixed, FunctorParam, ModExpr, ModType};
-use parse_base::{Kind, ReadError, expect, is, kind_at, number};
-use rotor_base::Token;
+use parse_base::{Kind, ReadError, TokenTable, expect, is, kind_at, number};
 use std::alloc::Global;
 
 impl<
-    F: Copy + Fn(Global, &[Token<'_>], usize, usize, usize) -> Result<(ModExpr, usize), ReadError>,
-    G: Copy + Fn(Global, &[Token<'_>], usize, usize, usize) -> Result<(ModType, usize), ReadError>,
+    F: Copy
+        + Fn(Global, &TokenTable<'_>, usize, usize, usize) -> Result<(ModExpr, usize), ReadError>,
+    G: Copy
+        + Fn(Global, &TokenTable<'_>, usize, usize, usize) -> Result<(ModType, usize), ReadError>,
 > Modules<F, G> {
     /// After the `(` at `start`: a name, its module type and a `)`.
     #[tactic(auto, using(ml_trees::proofs::Variants::functor_param_views))]
     #[inline(never)]
     fn named_param(
         &self,
-        tokens: &[Token<'_>],
+        tokens: &TokenTable<'_>,
         start: usize,
         at: usize,
     ) -> Result<(FunctorParam, usize), ReadError>
@@ -57,7 +58,7 @@ impl<
     #[inline(never)]
     pub(crate) fn functor_param(
         &self,
-        tokens: &[Token<'_>],
+        tokens: &TokenTable<'_>,
         at: usize,
     ) -> Result<(FunctorParam, usize), ReadError>
         requires modules { ReadsModules self.now.depth (F.pre self.now.modules) (F.post self.now.modules) }
@@ -78,7 +79,7 @@ impl<
     #[inline(never)]
     pub(crate) fn functor_params(
         &self,
-        tokens: &[Token<'_>],
+        tokens: &TokenTable<'_>,
         at: usize,
     ) -> Result<(Vec<FunctorParam>, usize), ReadError>
         requires modules { ReadsModules self.now.depth (F.pre self.now.modules) (F.post self.now.modules) }
@@ -105,7 +106,7 @@ impl<
     #[inline(never)]
     pub(crate) fn signature(
         &self,
-        tokens: &[Token<'_>],
+        tokens: &TokenTable<'_>,
         at: usize,
     ) -> Result<(Option<Box<ModType>>, usize), ReadError>
         requires modules { ReadsModules self.now.depth (F.pre self.now.modules) (F.post self.now.modules) }

@@ -10,8 +10,7 @@ ghost use Rattle.parse_module.specs.ModReading.{read_mod, read_type};
 use crate::arrows::{Step, with_arrows};
 use crate::modules::Modules;
 use ml_trees::{ModExpr, ModType};
-use parse_base::ReadError;
-use rotor_base::Token;
+use parse_base::{ReadError, TokenTable};
 use std::alloc::Global;
 
 /// A module expression, nested at most so deep and over at most so many levels, and the place after it.
@@ -19,7 +18,7 @@ use std::alloc::Global;
 #[tactic(auto, unfolding(crate::specs::ModReading::read_mod))]
 pub(crate) fn read_module(
     alloc: Global,
-    tokens: &[Token<'_>],
+    tokens: &TokenTable<'_>,
     depth: usize,
     levels: usize,
     at: usize,
@@ -48,7 +47,7 @@ pub(crate) fn read_module(
 #[tactic(auto, unfolding(crate::specs::ModReading::read_type))]
 pub(crate) fn read_module_type(
     alloc: Global,
-    tokens: &[Token<'_>],
+    tokens: &TokenTable<'_>,
     depth: usize,
     levels: usize,
     at: usize,

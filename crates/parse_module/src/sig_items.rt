@@ -19,9 +19,10 @@ use crate::names::{external, module_name, opened};
 use expr_parts::{path, upper_word};
 use ml_trees::{Fixed, ModExpr, ModType, Open, SigItem};
 use parse_base::{
-    Kind, ReadError, declaration_run, expect, expect_at, is, kind_at, number, type_run, value_name,
+    Kind, ReadError, TokenTable, declaration_run, expect, expect_at, is, kind_at, number, type_run,
+    value_name,
 };
-use rotor_base::{Class, Token};
+use rotor_base::Class;
 use std::alloc::Global;
 
 /// After the `module` at `start`: a name, `=` and the path of a module.
@@ -29,7 +30,7 @@ use std::alloc::Global;
 #[inline(never)]
 fn alias(
     alloc: Global,
-    tokens: &[Token<'_>],
+    tokens: &TokenTable<'_>,
     depth: usize,
     start: usize,
     at: usize,
@@ -51,7 +52,8 @@ fn alias(
 }
 
 /// Whether a name of class Upper and a `=` are at a place.
-fn is_named(tokens: &[Token<'_>], at: usize) -> bool
+fn is_named(tokens: &TokenTable<'_>, at: usize) -> bool
+    requires { length tokens.now ≤ max_file_bytes }
     ensures { result ≡ p.names_module (from tokens.now at) }
 {
     match kind_at(tokens, at) {
@@ -64,13 +66,15 @@ fn is_named(tokens: &[Token<'_>], at: usize) -> bool
 }
 
 impl<
-    F: Copy + Fn(Global, &[Token<'_>], usize, usize, usize) -> Result<(ModExpr, usize), ReadError>,
-    G: Copy + Fn(Global, &[Token<'_>], usize, usize, usize) -> Result<(ModType, usize), ReadError>,
+    F: Copy
+        + Fn(Global, &TokenTable<'_>, usize, usize, usize) -> Result<(ModExpr, usize), ReadError>,
+    G: Copy
+        + Fn(Global, &TokenTable<'_>, usize, usize, usize) -> Result<(ModType, usize), ReadError>,
 > Modules<F, G> {
     /// After `val`: a name and its type.
     #[tactic(auto, using(ml_trees::proofs::Variants::sig_item_views))]
     #[inline(never)]
-    fn val_rest(&self, tokens: &[Token<'_>], at: usize) -> Result<(SigItem, usize), ReadError>
+    fn val_rest(&self, tokens: &TokenTable<'_>, at: usize) -> Result<(SigItem, usize), ReadError>
         requires few { length tokens.now ≤ max_file_bytes }
         ensures { Gives (λ x. (v.view_sig_item x.0, from tokens.now x.1)) result (r.val_rest (read_mod self.now.depth) (read_type self.now.depth) self.now.depth (from tokens.now at)) }
     {
@@ -85,7 +89,7 @@ impl<
     #[inline(never)]
     fn module_sig_rest(
         &self,
-        tokens: &[Token<'_>],
+        tokens: &TokenTable<'_>,
         start: usize,
         at: usize,
     ) -> Result<(SigItem, usize), ReadError>
@@ -113,7 +117,7 @@ impl<
     #[inline(never)]
     fn module_type_sig(
         &self,
-        tokens: &[Token<'_>],
+        tokens: &TokenTable<'_>,
         start: usize,
         at: usize,
     ) -> Result<(SigItem, usize), ReadError>
@@ -138,7 +142,7 @@ impl<
     /// The item that the `module` at a place begins.
     #[tactic(auto, using(crate::proofs::Rows::module_sigs))]
     #[inline(never)]
-    fn module_sig(&self, tokens: &[Token<'_>], at: usize) -> Result<(SigItem, usize), ReadError>
+    fn module_sig(&self, tokens: &TokenTable<'_>, at: usize) -> Result<(SigItem, usize), ReadError>
         requires modules { ReadsModules self.now.depth (F.pre self.now.modules) (F.post self.now.modules) }
         requires types { ReadsTypes self.now.depth (G.pre self.now.types) (G.post self.now.types) }
         requires few { length tokens.now ≤ max_file_bytes }
@@ -157,7 +161,7 @@ impl<
     /// An item.
     #[tactic(auto, unfolding(crate::specs::ModReading::sig_item), using(ml_trees::proofs::Variants::sig_item_views))]
     #[inline(never)]
-    fn sig_item(&self, tokens: &[Token<'_>], at: usize) -> Result<(SigItem, usize), ReadError>
+    fn sig_item(&self, tokens: &TokenTable<'_>, at: usize) -> Result<(SigItem, usize), ReadError>
         requires modules { ReadsModules self.now.depth (F.pre self.now.modules) (F.post self.now.modules) }
         requires types { ReadsTypes self.now.depth (G.pre self.now.types) (G.post self.now.types) }
         requires few { length tokens.now ≤ max_file_bytes }
@@ -198,7 +202,7 @@ impl<
     #[inline(never)]
     pub(crate) fn sig_items(
         &self,
-        tokens: &[Token<'_>],
+        tokens: &TokenTable<'_>,
         at: usize,
     ) -> Result<(Vec<SigItem>, usize), ReadError>
         requires modules { ReadsModules self.now.depth (F.pre self.now.modules) (F.post self.now.modules) }

@@ -12,15 +12,14 @@ ghost use Rattle.parse_module.specs.ModReading as r;
 use expr_forms::Grammar;
 use expr_reading::Wanted;
 use ml_trees::{Expr, Fixed, Item};
-use parse_base::{Kind, ReadError, kind_at, number};
+use parse_base::{Kind, ReadError, TokenTable, kind_at, number};
 use parse_expr::read;
-use rotor_base::Token;
 use std::alloc::Global;
 
 /// What is wanted at a place, as the function that the readers of bindings call.
 fn nested(
     alloc: Global,
-    tokens: &[Token<'_>],
+    tokens: &TokenTable<'_>,
     depth: usize,
     levels: usize,
     wanted: Wanted,
@@ -35,7 +34,7 @@ fn nested(
 /// A sequence expression.
 pub(crate) fn sequence(
     alloc: Global,
-    tokens: &[Token<'_>],
+    tokens: &TokenTable<'_>,
     depth: usize,
     levels: usize,
     at: usize,
@@ -51,7 +50,7 @@ pub(crate) fn sequence(
 #[tactic(auto, using(ml_trees::proofs::Variants::item_views))]
 fn some_bindings(
     alloc: Global,
-    tokens: &[Token<'_>],
+    tokens: &TokenTable<'_>,
     depth: usize,
     levels: usize,
     start: usize,
@@ -83,7 +82,7 @@ fn some_bindings(
 #[tactic(auto, unfolding(crate::specs::ModReading::value_rest))]
 pub(crate) fn value_item(
     alloc: Global,
-    tokens: &[Token<'_>],
+    tokens: &TokenTable<'_>,
     depth: usize,
     levels: usize,
     at: usize,

@@ -5,7 +5,8 @@ use crate::names_table::names;
 use crate::rule::Rule;
 use crate::step::{Step, Trait, Want};
 use crate::wants::is_wanted;
-use rotor_base::{Memory, Token};
+use parse_base::TokenTable;
+use rotor_base::Memory;
 use std::alloc::Global;
 
 /// Where a reading is: the place of its next token, and how what it has read ends.
@@ -45,7 +46,7 @@ enum Frame {
 /// cannot be read.
 #[derive(Drop)]
 pub(crate) struct Reading<'a> {
-    tokens: &'a [Token<'a>],
+    tokens: &'a TokenTable<'a>,
     spot: Spot,
     pub seen: usize,
     steps: &'static [Step],
@@ -55,7 +56,7 @@ pub(crate) struct Reading<'a> {
 
 impl<'a> Reading<'a> {
     /// A reading from the first token.
-    pub fn new(alloc: Global, tokens: &'a [Token<'a>], rule: Rule) -> Result<Self, Memory> {
+    pub fn new(alloc: Global, tokens: &'a TokenTable<'a>, rule: Rule) -> Result<Self, Memory> {
         let mut without_next = Vec::new(alloc);
         without_next.resize(tokens.len(), false)?;
         let mut reading = Reading {

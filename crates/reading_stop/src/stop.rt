@@ -3,6 +3,7 @@ ghost use Rattle.std.specs.Prelude.{◌≤◌, IfOk, length};
 
 use crate::reading::Reading;
 use crate::rule::Rule;
+use parse_base::TokenTable;
 use parse_module::FileKind;
 use rotor_base::{Class, Memory, Token};
 use std::alloc::Global;
@@ -39,7 +40,8 @@ fn seen(alloc: Global, tokens: &[Token<'_>], kind: FileKind) -> Result<usize, Me
         FileKind::Body => Rule::Body,
         FileKind::Face => Rule::Face,
     };
-    let mut reading = Reading::new(alloc, tokens, rule)?;
+    let table = TokenTable::new(alloc, tokens)?;
+    let mut reading = Reading::new(alloc, &table, rule)?;
     for _step in 0..MOST_STEPS {
         if !reading.advance()? {
             return Ok(reading.seen);

@@ -3,11 +3,11 @@
 use crate::step::Want;
 use expr_parts::level_at;
 use ml_trees::Fixed;
-use parse_base::{Kind, is, is_minus, is_operator, kind_at};
-use rotor_base::{Class, Token};
+use parse_base::{Kind, TokenTable, is, is_minus, is_operator, kind_at};
+use rotor_base::Class;
 
 /// Whether the token at a place is as it is wanted. Behind the last one there is none.
-pub(crate) fn is_wanted(tokens: &[Token<'_>], want: Want, at: usize) -> bool {
+pub(crate) fn is_wanted(tokens: &TokenTable<'_>, want: Want, at: usize) -> bool {
     match want {
         Want::Fixed(fixed) => is(tokens, fixed, at),
         Want::Class(class) => is_of(kind_at(tokens, at), class),
@@ -28,8 +28,8 @@ pub(crate) fn is_wanted(tokens: &[Token<'_>], want: Want, at: usize) -> bool {
 }
 
 /// The bytes of the token at a place; behind the last one, none.
-fn bytes_at<'a>(tokens: &[Token<'a>], at: usize) -> &'a [u8] {
-    match tokens.get(at) {
+fn bytes_at<'a>(tokens: &TokenTable<'a>, at: usize) -> &'a [u8] {
+    match tokens.as_slice().get(at) {
         Some(token) => token.bytes,
         None => b"",
     }

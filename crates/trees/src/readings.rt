@@ -12,7 +12,11 @@ use crate::pattern_outline::pattern;
 use crate::patterns::production;
 use crate::refusals::{deep_text, fault_text, form_text, refusal_text, unread_text};
 use ml_lexer::{LexError, lex};
-use parse_base::{MAX_NESTED, declaration_run, parse_pat, scan_depth, scan_forms, simple_pattern};
+use ml_trees::{Pat, Run};
+use parse_base::{
+    MAX_NESTED, ReadError, TokenTable, declaration_run, parse_pat, scan_depth, scan_forms,
+    simple_pattern,
+};
 use parse_expr::parse_seq;
 use parse_module::{FileKind, parse_file};
 use rotor_base::{MAX_FILE_BYTES, Token};
@@ -79,20 +83,34 @@ fn pattern_at(alloc: Global, tokens: &[Token]) -> Result<String, AllocError>
 fn simple_at(alloc: Global, tokens: &[Token]) -> Result<String, AllocError>
     requires { length tokens.now ≤ max_file_bytes }
 {
-    match simple_pattern(alloc, tokens, tokens.len() + 1, MAX_NESTED, 0) {
+    match first_simple(alloc, tokens) {
         Ok((pat, end)) => format!(in alloc; "{}, end {end}", production(&pat)),
         Err(error) => unread_text(alloc, error),
     }
+}
+
+fn first_simple(alloc: Global, tokens: &[Token]) -> Result<(Pat, usize), ReadError>
+    requires { length tokens.now ≤ max_file_bytes }
+{
+    let table = TokenTable::new(alloc, tokens)?;
+    simple_pattern(alloc, &table, tokens.len() + 1, MAX_NESTED, 0)
 }
 
 /// How many words the first declaration has, and the place after it.
 fn declaration_at(alloc: Global, tokens: &[Token]) -> Result<String, AllocError>
     requires { length tokens.now ≤ max_file_bytes }
 {
-    match declaration_run(alloc, tokens, 0) {
+    match first_declaration(alloc, tokens) {
         Ok((run, end)) => format!(in alloc; "run, words {}, end {end}", run.words.len()),
         Err(error) => unread_text(alloc, error),
     }
+}
+
+fn first_declaration(alloc: Global, tokens: &[Token]) -> Result<(Run, usize), ReadError>
+    requires { length tokens.now ≤ max_file_bytes }
+{
+    let table = TokenTable::new(alloc, tokens)?;
+    declaration_run(alloc, &table, 0)
 }
 
 /// The production of the first expression, how many further parts it has, and the place after it.

@@ -7,8 +7,8 @@ use Rattle.parse_base.proofs.Places.{from_end, from_next}
 use Rattle.parse_base.proofs.RunTurns.{run_ends, run_stops, run_goes_on, run_begins, run_begins_not, count_at_once, count_least, steps_on, steps_off}
 use Rattle.parse_base.proofs.runs.run_length.Goals as goal
 
-pub returns-then-at-tokens-clause-value : goal.returns-then-at-tokens-clause-value
-returns-then-at-tokens-clause-value c = ap (run_length c.args.run) (from_end c.args.tokens.now c.args.at c.if-at-tokens.true)
+pub returns-then-at-len-clause-value : goal.returns-then-at-len-clause-value
+returns-then-at-len-clause-value c = ap (run_length c.args.run) (from_end c.args.tokens.now c.args.at (omega (arith, c.if-at-len.true, c.len.ensures)))
 
 pub returns-then-not-branch-clause-value : goal.returns-then-not-branch-clause-value
 returns-then-not-branch-clause-value c =

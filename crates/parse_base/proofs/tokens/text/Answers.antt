@@ -3,4 +3,4 @@ use Rattle.parse_base.proofs.Places.{text_there}
 use Rattle.parse_base.proofs.tokens.text.Goals as goal
 
 pub returns : goal.returns
-returns c = sym (text_there c.args.tokens.now c.args.at _ c.requires)
+returns c = rw c.as_slice.ensures (sym (text_there c.args.tokens.now c.args.at _ c.requires))

@@ -5,8 +5,6 @@ use Rattle.ml_trees.specs.declared.fixed.Fixed.TheVariants as key
 use Rattle.ml_trees.specs.Tok.{Tok, fixed, placed}
 use Rattle.parse_base.specs.declared.tokens.Kind.{Kind}
 use Rattle.parse_base.specs.declared.tokens.Kind.TheVariants as kind
-use Rattle.matched_lets.specs.declared.matching.Seen.{Seen}
-use Rattle.matched_lets.specs.declared.matching.Seen.TheVariants as seen
 
 -- no expression has this token: it begins an item or the body of a module, or it separates items
 abbrev pub is_apart : Tok → Bool
@@ -33,13 +31,20 @@ abbrev pub lacks_in : List Tok → Bool
 lacks_in (placed key.Let at ∷ ts) = open_ins ts == 0
 lacks_in ts = false
 
--- what a token of this kind is to the search for the `in` of a first `let`, if so many others want an `in` before it
-abbrev pub seen_at : Kind → ℕ → Seen
-seen_at (kind.Fixed key.Let) n = seen.Open (n + 1)
-seen_at (kind.Fixed key.In) n = if n == 0 then seen.Own else seen.Open (n - 1)
-seen_at (kind.Fixed key.DoubleSemicolon) n = seen.Apart
-seen_at (kind.Fixed key.External) n = seen.Apart
-seen_at (kind.Fixed key.Include) n = seen.Apart
-seen_at (kind.Fixed key.Sig) n = seen.Apart
-seen_at (kind.Fixed key.Struct) n = seen.Apart
-seen_at _ n = seen.Open n
+-- ---- the same by kinds
+
+-- a token of this kind is a `let`, and no `in` is left for it if so many are free behind it
+abbrev pub lacks_by : Kind → ℕ → Bool
+lacks_by (kind.Fixed key.Let) n = n == 0
+lacks_by _ n = false
+
+-- one more token of this kind before some with so many such `in`
+abbrev pub ins_by : Kind → ℕ → ℕ
+ins_by (kind.Fixed key.Let) n = n - 1
+ins_by (kind.Fixed key.In) n = n + 1
+ins_by (kind.Fixed key.DoubleSemicolon) n = 0
+ins_by (kind.Fixed key.External) n = 0
+ins_by (kind.Fixed key.Include) n = 0
+ins_by (kind.Fixed key.Sig) n = 0
+ins_by (kind.Fixed key.Struct) n = 0
+ins_by _ n = n

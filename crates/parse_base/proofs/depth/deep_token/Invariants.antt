@@ -1,6 +1,6 @@
 use Rattle.std.proofs.Common.{◌≡◌, ℕ, ◌≤◌, reverse}
 use Rattle.parse_base.specs.Nesting.{marks, nesting, role_before}
-use Rattle.parse_base.proofs.depth.scan_depth.Given as goal
+use Rattle.parse_base.proofs.depth.deep_token.Given as goal
 
 abbrev pub invariant-loop-at : goal.invariant-loop-at
 invariant-loop-at l = record {

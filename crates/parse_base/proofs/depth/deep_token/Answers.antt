@@ -1,7 +1,7 @@
 use Rattle.std.proofs.Common.{◌+◌, refl, ◌∙◌, arith}
 use Rattle.parse_base.specs.Nesting.{marks}
 use Rattle.parse_base.proofs.MarkSteps.{one_more_token, behind_next, no_marks, shallow_none, shallow_more, nesting_is}
-use Rattle.parse_base.proofs.depth.scan_depth.Goals as goal
+use Rattle.parse_base.proofs.depth.deep_token.Goals as goal
 
 pub loop-at-init : goal.loop-at-init
 loop-at-init c = record {
