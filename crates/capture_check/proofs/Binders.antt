@@ -1,28 +1,22 @@
--- The places of a sound project's groups are binders, and the table has their names.
-use Rattle.std.proofs.Common.{◌≡◌, ℕ, ◌&&◌, Bool, true, false, refl, ap, ◌∙◌, List, [], ◌∷◌, ◌++◌, map, Contains, IsTrue, Option, Some, None}
-use Rattle.std.proofs.Common.{if◌then◌else◌, unwrap_or}
-use Rattle.std.specs.BTreeMap.{BTreeMap}
+-- The places of a sound project's groups are binders.
+use Rattle.std.proofs.Common.{◌≡◌, Bool, true, refl, List, [], ◌∷◌, ◌++◌, map, Contains, Some}
 use Rattle.rotor_base.specs.declared.place.Place.{Place}
 use Rattle.rotor_base.specs.declared.place.Goal.{Goal}
 use Rattle.rotor_base.specs.declared.place.Goal.TheVariants.{Decl, Outside, Missing, Hidden, Blur}
-use Rattle.rotor_base.specs.Place.{same_place}
-use Rattle.ml_syntax.specs.Places.{Site}
 use Rattle.ml_syntax.specs.Sound.{IsSound}
 use Rattle.ml_trees.specs.Tree.{UnitTree}
-use Rattle.shape_core.specs.Shape.{Name, Entries, none, a_val, a_mod, a_mty, a_dark, or_else, some_if}
+use Rattle.shape_core.specs.Shape.{Name, Entries, none, a_val, a_mod, a_mty, a_dark}
 use Rattle.ml_syntax.specs.Each.{Each}
 use Rattle.binding_model.specs.Steps.{Steps, quiet, ◌⨾◌, UseAlone, UseUnder, MatchOf, PinOf, TieOf, GroupOf, WeighedSite, OpenedSite, UnitStart}
 use Rattle.binding_model.specs.Steps.{groups_of}
 use Rattle.binding_model.specs.Walk.{steps}
 use Rattle.binding_model.specs.Facts.{facts, decls}
-use Rattle.binding_model.specs.Renaming.{places, at_place, name_of}
+use Rattle.binding_model.specs.Renaming.{places, at_place}
 use Rattle.binding_model.specs.Renaming.{IsBinder}
 use Rattle.binding_model.proofs.Named.{IsNamed, Named, NamedSteps}
 use Rattle.binding_model.proofs.Naming.{PlaceNamed, units_named, each_in}
-use Rattle.binding_model.proofs.Sounds.{each_map, found_all, sound_named}
+use Rattle.binding_model.proofs.Sounds.{each_map, found_all}
 use Rattle.binding_model.proofs.Telltale.{apart_of}
-use Rattle.binding_model.proofs.LastEntries.{same_is}
-use Rattle.capture_check.specs.Tables.{filed, named, IsTableOf}
 
 each_both : {A : Type 0} (P : A → Type 0) (xs ys : List A) → Each P xs → Each P ys → Each P (xs ++ ys)
 each_both P [] ys h k = k
@@ -72,41 +66,3 @@ module _ (us : List UnitTree) (s : IsSound us) where
   group_binds g d c k =
       let all = mapped_bind (groups_of (steps us)) (groups_named Q (steps us) steps_named) in
       each_in (IsBinder us) g d (each_in (Each (IsBinder us)) (facts us).groups g all c) k
-
-  -- a name that is kept stays
-  abbrev Own : Place × Site → Type 0
-  Own e = e.1.name ≡ name_of us e.0
-
-  some_own : (L : List (Place × Site)) (d : Place) (e : Place × Site) (b c : Bool) → same_place e.0 d ≡ c → Own e
-      → (if b && c then Some e.1.name else Some (name_of us d)) ≡ Some (name_of us d)
-  some_own L d e false c f h = refl
-  some_own L d e true false f h = refl
-  some_own L d e true true f h = ap (λ (x : List ℕ). Some x) (h ∙ ap (name_of us) (same_is e.0 d f))
-
-  stays : (L : List (Place × Site)) (d : Place) → Each Own L → filed L (Some (name_of us d)) d ≡ Some (name_of us d)
-  stays [] d h = refl
-  stays (e ∷ L) d h = ap (λ (o : Option (List ℕ)). filed L o d) (some_own L d e e.1.binds (same_place e.0 d) refl h.0) ∙ stays L d h.1
-
-  found_is : (L : List (Place × Site)) (o : Option (List ℕ)) (d : Place) (x : Site) → Each Own L → at_place L d ≡ Some x → x.binds ≡ true
-      → filed L o d ≡ Some (name_of us d)
-  found_is [] o d x h e b = absurd cc
-  found_is (e ∷ L) o d x h k b =
-      by (same_place e.0 d) refl k (λ (p : Option (List ℕ)) (j : at_place L d ≡ Some x). found_is L p d x h.1 j b) where
-        by : (c : Bool) → same_place e.0 d ≡ c → or_else (some_if c e.1) (at_place L d) ≡ Some x
-            → ((p : Option (List ℕ)) → at_place L d ≡ Some x → filed L p d ≡ Some (name_of us d))
-            → filed L (if e.1.binds && same_place e.0 d then Some e.1.name else o) d ≡ Some (name_of us d)
-        by false f j rec = rec (if e.1.binds && same_place e.0 d then Some e.1.name else o) j
-        by true f j rec =
-            let z : e.1 ≡ x = cc in
-            let binds : e.1.binds ≡ true = ap (λ (y : Site). y.binds) z ∙ b in
-            let test : (e.1.binds && same_place e.0 d) ≡ true = ap (λ (t : Bool). t && same_place e.0 d) binds ∙ f in
-            let name : e.1.name ≡ name_of us d = h.0 ∙ ap (name_of us) (same_is e.0 d f) in
-            ap (λ (t : Bool). filed L (if t then Some e.1.name else o) d) test
-            ∙ (ap (λ (y : List ℕ). filed L (Some y) d) name ∙ stays L d h.1)
-
-  true_is : (b : Bool) → IsTrue b → b ≡ true
-  true_is b h = h
-
-  pub named_is : (table : BTreeMap Place (List ℕ)) (d : Place) → IsTableOf us table → IsBinder us d → named table d ≡ name_of us d
-  named_is table d t b = ap (λ (o : Option (List ℕ)). unwrap_or o [])
-      (t d ∙ found_is (places us) None d b.0 (sound_named us s) b.1 (true_is b.0.binds b.2))

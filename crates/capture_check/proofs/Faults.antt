@@ -1,5 +1,6 @@
 -- The first fault from the three first answers, and that there is one at most.
-use Rattle.std.proofs.Common.{◌≡◌, sym, ◌∙◌, inl, inr, List, Contains, Option, Some, None}
+use Rattle.std.proofs.Common.{◌≡◌, sym, ◌∙◌, inl, inr, List, Contains, Option, Some, None, Result, Ok, Err, IfOk}
+use Rattle.rotor_base.specs.declared.fault.Memory.{Memory}
 use Rattle.rotor_base.specs.declared.place.Place.{Place}
 use Rattle.rotor_base.specs.declared.place.Goal.TheVariants.{Decl, Outside, Missing, Hidden, Blur}
 use Rattle.rotor_base.specs.declared.place.Facts.{Facts}
@@ -32,6 +33,11 @@ first_as f g groups a (Some s) h = record {
   repeats = repeats_as f g groups a s.first s.again h.repeats;
   least = λ p q r. h.least p q (repeats_as g f groups (λ x d i j. sym (a x d i j)) p q r);
 }
+
+pub first_ok : (f g : Names) (groups : List (List Place)) → Agree f g groups → (r : Result (Option Repeat) Memory) → IfOk r (IsFirstRepeat f groups)
+    → IfOk r (IsFirstRepeat g groups)
+first_ok f g groups a (Ok o) h = first_as f g groups a o h
+first_ok f g groups a (Err e) h = tt
 
 module _ (names : Names) (old new : Facts) where
   no_clash : IsFirstRepeat names new.groups None → IsMet (IsClash names new.groups) → ⊥

@@ -1,8 +1,7 @@
 -- Tables of a footprint and of looks, entry by entry; and what they give is Would.
 use Rattle.std.proofs.Common.{◌≡◌, ℕ, suc, ◌+◌, ◌||◌, Bool, true, false, cond, refl, ap, sym, ◌∙◌, List, [], ◌∷◌, map, drop, Option, Some, None}
-use Rattle.std.proofs.Common.{unwrap_or, if◌then◌else◌}
 use Rattle.std.specs.List.{list_any}
-use Rattle.std.specs.BTreeMap.{BTreeMap, get, is_at}
+use Rattle.std.specs.BTreeMap.{BTreeMap, is_at}
 use Rattle.std.specs.BTreeSet.{BTreeSet, contains}
 use Rattle.rotor_base.specs.declared.place.Place.{Place}
 use Rattle.rotor_base.specs.declared.place.Goal.{Goal}
@@ -13,13 +12,11 @@ use Rattle.rotor_base.specs.declared.looks.Watch.{Watch}
 use Rattle.rotor_base.specs.declared.looks.RefLook.{RefLook}
 use Rattle.rotor_base.specs.declared.looks.LinkLook.{LinkLook}
 use Rattle.rotor_base.specs.Place.{same_place, place_cmp}
-use Rattle.shape_core.specs.Looks.{is_member}
 use Rattle.binding_model.specs.Steps.{a_ref}
 use Rattle.binding_model.specs.Local.{ref_look_at, link_look_at, would_goal, would_come, would_be, would_links}
 use Rattle.binding_model.proofs.Standing.{same_swap}
-use Rattle.capture_check.proofs.Filing.{tests_same, put_is}
+use Rattle.capture_check.proofs.Filing.{tests_same}
 use Rattle.capture_check.specs.Would.{goal_if, source_if, goal_by, source_by, ref_by, links_by, HasMembers, HasRefLooks, HasLinkLooks}
-use Rattle.capture_check.specs.Would.{renamed_at}
 
 -- one more member
 or_moved : (a b c : Bool) → (cond a true b || c) ≡ (b || (a || c))
@@ -76,37 +73,3 @@ module _ (w : Watch) (members : BTreeSet Place) (m : HasMembers w members) where
       let made : Goal → Link = λ g. record { item = l.item; source = g } in
       ap (λ (g : Goal). made g ∷ links_by members looks (suc n) links) source
       ∙ ap (λ (ks : List Link). made (would_come w (link_look_at ls n) l.source) ∷ ks) (links_are ls looks h (suc n) links)
-
--- names with the new one at some places
-renamed_case : (a b : Bool) (x : List ℕ) (o : Option (List ℕ)) → (if b then Some x else (if a then Some x else o)) ≡ (if a || b then Some x else o)
-renamed_case true true x o = refl
-renamed_case true false x o = refl
-renamed_case false true x o = refl
-renamed_case false false x o = refl
-
-pub renamed_is : (ps : List Place) (x : List ℕ) (o : Option (List ℕ)) (d : Place)
-    → renamed_at ps x o d ≡ (if list_any (same_place d) ps then Some x else o)
-renamed_is [] x o d = refl
-renamed_is (p ∷ ps) x o d =
-    renamed_is ps x (if same_place p d then Some x else o) d
-    ∙ (renamed_case (same_place p d) (list_any (same_place d) ps) x o
-    ∙ ap (λ (b : Bool). if b || list_any (same_place d) ps then Some x else o) (same_swap p d))
-
-pub renamed_more : (ps : List Place) (i : ℕ) (p : Place) (x : List ℕ) (old new start : BTreeMap Place (List ℕ)) → drop i ps ≡ p ∷ drop (i + 1) ps
-    → ((q : Place) → get place_cmp new q ≡ cond (is_at (place_cmp p) q) (Some x) (get place_cmp old q))
-    → ((d : Place) → renamed_at (drop i ps) x (get place_cmp old d) d ≡ renamed_at ps x (get place_cmp start d) d)
-    → (d : Place) → renamed_at (drop (i + 1) ps) x (get place_cmp new d) d ≡ renamed_at ps x (get place_cmp start d) d
-renamed_more ps i p x old new start more put h d =
-    ap (λ (o : Option (List ℕ)). renamed_at (drop (i + 1) ps) x o d) (put_is old new p x put d)
-    ∙ (sym (ap (λ (qs : List Place). renamed_at qs x (get place_cmp old d) d) more) ∙ h d)
-
-named_case : (b : Bool) (x : List ℕ) (o : Option (List ℕ)) → unwrap_or (if b then Some x else o) [] ≡ (if b then x else unwrap_or o [])
-named_case true x o = refl
-named_case false x o = refl
-
-pub new_name_is : (w : Watch) (old new : Option (List ℕ)) (d : Place) (y : List ℕ) → new ≡ renamed_at w.foot.decls w.new old d → unwrap_or old [] ≡ y
-    → unwrap_or new [] ≡ (if is_member w (Decl d) then w.new else y)
-new_name_is w old new d y e f =
-    ap (λ (o : Option (List ℕ)). unwrap_or o []) (e ∙ renamed_is w.foot.decls w.new old d)
-    ∙ (named_case (list_any (same_place d) w.foot.decls) w.new old
-    ∙ ap (λ (z : List ℕ). if list_any (same_place d) w.foot.decls then w.new else z) f)

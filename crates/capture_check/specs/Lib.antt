@@ -1,5 +1,5 @@
 pub mod Fault
 pub mod Firsts
-pub mod Tables
+pub mod Named
 pub mod Local
 pub mod Would

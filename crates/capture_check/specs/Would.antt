@@ -11,7 +11,7 @@ use Rattle.rotor_base.specs.declared.place.Ref.{Ref}
 use Rattle.rotor_base.specs.declared.looks.Watch.{Watch}
 use Rattle.rotor_base.specs.declared.looks.RefLook.{RefLook}
 use Rattle.rotor_base.specs.declared.looks.LinkLook.{LinkLook}
-use Rattle.rotor_base.specs.Place.{same_place, place_cmp}
+use Rattle.rotor_base.specs.Place.{place_cmp}
 use Rattle.shape_core.specs.Looks.{is_member}
 use Rattle.binding_model.specs.Steps.{a_ref}
 use Rattle.binding_model.specs.Looks.{behind_darks, later, would_find, would_source}
@@ -60,8 +60,3 @@ HasRefLooks ls looks = (p : Place) → get place_cmp looks p ≡ ref_look_at ls 
 
 abbrev pub HasLinkLooks : List LinkLook → BTreeMap ℕ LinkLook → Type 0
 HasLinkLooks ls looks = (n : ℕ) → get nat_cmp looks n ≡ link_look_at ls n
-
--- names with the new one at some places
-abbrev pub renamed_at : List Place → List ℕ → Option (List ℕ) → Place → Option (List ℕ)
-renamed_at [] x o d = o
-renamed_at (p ∷ ps) x o d = renamed_at ps x (if same_place p d then Some x else o) d

@@ -11,10 +11,10 @@ ghost use Rattle.capture_check.specs.Firsts.{fault_of};
 use crate::changes::{first_capture, first_mislink};
 use crate::fault::{Change, Fault, Repeat};
 use crate::repeats::first_repeat;
-use crate::table::names_of;
 use ml_trees::Project;
 use rotor_base::{Facts, Goal, Memory};
 use std::alloc::Global;
+use value_places::PlacedProject;
 
 /// The first clash, capture or mislink of a project, `project`, whose facts are `new`, against the facts that it had.
 /// `Memory` is the only error.
@@ -31,8 +31,8 @@ pub fn first_fault(
     requires groups { old.now.groups ≡ new.now.groups }
     ensures { IfOk result (IsFirstFault (name_of (view_project project.now)) old.now new.now) }
 {
-    let names = names_of(alloc, project)?;
-    let repeat = first_repeat(alloc, &names, new.groups.as_slice())?;
+    let placed = PlacedProject::new(alloc, project)?;
+    let repeat = first_repeat(alloc, &placed, new.groups.as_slice())?;
     let capture = first_capture(old.refs.as_slice(), new.refs.as_slice());
     let mislink = first_mislink(old.links.as_slice(), new.links.as_slice());
     Ok(fault_of(repeat, capture, mislink))

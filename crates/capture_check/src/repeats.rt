@@ -3,22 +3,40 @@
 ghost use Rattle.std.specs.Prelude.{◌≡◌, ◌∷◌, ℕ, List, [], IfOk, OnOk, Some, bytes_eq, if◌then◌else◌};
 ghost use Rattle.name_tables.specs.Names.{at};
 ghost use Rattle.capture_check.specs.Firsts.{IsFirstRepeat, is_lesser, earlier_repeat, repeat_of, lesser};
-ghost use Rattle.capture_check.specs.Tables.{named};
+ghost use Rattle.value_places.specs.Placed.{name_in};
+ghost use Rattle.capture_check.specs.Named.{named};
 
 use crate::fault::Repeat;
+use crate::named::{BinderNames, name_at};
 use crate::order::is_before;
 use name_tables::Names;
-use rotor_base::{Memory, Name, Place, Row};
+use rotor_base::{Memory, Place, Row};
 use std::alloc::Global;
-use std::collections::BTreeMap;
-
-/// The name of each binder.
-pub type NameTable = BTreeMap<Place, Name>;
+use std::collections::BTreeSet;
+use value_places::PlacedProject;
 
 /// The first repeat of a name in a group: of the least place that repeats one, and the least place of that name there.
+/// `Memory` is the only error.
 pub fn first_repeat(
     alloc: Global,
-    names: &NameTable,
+    placed: &PlacedProject<'_>,
+    groups: &[Row<Place>],
+) -> Result<Option<Repeat>, Memory>
+    ensures { IfOk result (IsFirstRepeat (name_in placed.now) groups.now) }
+{
+    let none = BTreeSet::new(alloc);
+    let names = BinderNames {
+        placed,
+        renamed: &none,
+        new: &[],
+    };
+    first_repeat_of(alloc, &names, groups)
+}
+
+/// The first repeat of a name in a group, if some binders have a new name.
+pub fn first_repeat_of(
+    alloc: Global,
+    names: &BinderNames<'_, '_>,
     groups: &[Row<Place>],
 ) -> Result<Option<Repeat>, Memory>
     ensures { IfOk result (IsFirstRepeat (named names.now) groups.now) }
@@ -32,7 +50,11 @@ pub fn first_repeat(
 }
 
 /// The first repeat of a name in one group.
-fn repeat_in(alloc: Global, names: &NameTable, group: &[Place]) -> Result<Option<Repeat>, Memory>
+fn repeat_in(
+    alloc: Global,
+    names: &BinderNames<'_, '_>,
+    group: &[Place],
+) -> Result<Option<Repeat>, Memory>
     ensures { IfOk result (IsFirstRepeat (named names.now) (group.now ∷ [])) }
 {
     if group.len() < 2 {
@@ -45,16 +67,6 @@ fn repeat_in(alloc: Global, names: &NameTable, group: &[Place]) -> Result<Option
         least = earlier_repeat(least, found);
     }
     Ok(least)
-}
-
-/// The name of a place, or the empty name.
-fn name_at<'a>(names: &'a NameTable, place: Place) -> &'a [u8]
-    ensures { result.now ≡ named names.now place }
-{
-    match names.get(&place) {
-        Some(name) => name.as_bytes(),
-        None => &[],
-    }
 }
 
 /// Adds a place of a name, and keeps the least place of the name. The result is the repeat that the place makes with

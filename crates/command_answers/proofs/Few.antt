@@ -29,7 +29,7 @@ use Rattle.project_reading.specs.Reads.{Reads}
 use Rattle.project_reading.specs.Source.{kind_of_source}
 use Rattle.project_reading.proofs.Soundness.{read_is_sound}
 use Rattle.project_reading.proofs.Twins.{parts_are_trees}
-use Rattle.rename_parts.specs.Binders.{binding}
+use Rattle.value_places.specs.Binders.{binding}
 use Rattle.rename_survey.specs.declared.answer.Binder.{Binder}
 use Rattle.rename_survey.specs.Survey.{binder_of, binders_of}
 use Rattle.rename_verify.specs.Candidate.{changes, given_name}

@@ -21,6 +21,7 @@ use rename_project::{find_aim, resolve_facts};
 use rotor_base::{Facts, Files, Memory, Place, Refusal, Row, Target};
 use shape_core::Scope;
 use std::alloc::Global;
+use value_places::PlacedProject;
 
 /// The facts of a folder, the declarations of the footprint that a target names, and where the path of the target
 /// stops.
@@ -121,7 +122,8 @@ fn declarations(
     requires top { entries_of top.now ≡ after_units none (view_project read.now.project) }
     ensures { IfOk result (AreDeclarations files.now (view_project read.now.project) target.now) }
 {
-    match find_aim(alloc, files, read, top, target) {
+    let placed = PlacedProject::new(alloc, &read.project)?;
+    match find_aim(alloc, files, read, &placed, top, target) {
         Ok(aim) => Ok(footprint(alloc, facts, aim.place)?.decls),
         Err(refusal) => no_declarations(alloc, &refusal),
     }

@@ -1,6 +1,7 @@
 //! What is said of a folder that is checked.
 ghost use Rattle.std.specs.Prelude.{◌≡◌, Err, IfOk, Ok, map};
 ghost use Rattle.ml_lexer.specs.Lexed.{view_tokens};
+ghost use Rattle.ml_syntax.specs.Sound.{IsSound};
 ghost use Rattle.ml_trees.specs.View.{view_project};
 ghost use Rattle.binding_model.specs.Facts.{facts as facts_of};
 ghost use Rattle.project_reading.specs.Reads.{Reads};
@@ -16,9 +17,9 @@ use crate::refused::{is_memory, project_told};
 use crate::told::Told;
 use difference_words::warnings;
 use messages::{counted, joined};
-use rename_parts::binder_places;
 use rotor_base::{Counts, Files, Memory, Refusal, Row};
 use std::alloc::Global;
+use value_places::PlacedProject;
 
 /// What is said of the files of a project: warnings of the places at which OCaml may read them otherwise, and what they
 /// have; or the first refusal of `check`, and if a source is outside the language, a message for each that is. The one
@@ -46,6 +47,7 @@ fn refused_check(alloc: Global, files: &Files, refusal: &Refusal) -> Result<Told
 /// What is said of a folder that is read.
 fn checked_told(alloc: Global, files: &Files, opened: &Opened<'_>) -> Result<Told, Memory>
     requires reads { Reads files.now (view_project opened.now.read.project) }
+    requires sound { IsSound (view_project opened.now.read.project) }
     requires cut { AreCut files.now.entries (map (λ list. view_tokens list.items) opened.now.read.tokens.items) }
     requires passed { IsFreeOf (refusals_of_project (view_project opened.now.read.project)) }
     requires facts { opened.now.resolved.facts ≡ facts_of (view_project opened.now.read.project) }
@@ -64,15 +66,16 @@ fn checked_told(alloc: Global, files: &Files, opened: &Opened<'_>) -> Result<Tol
 /// What a project has.
 fn counts_of(alloc: Global, files: &Files, opened: &Opened<'_>) -> Result<Counts, Memory>
     requires reads { Reads files.now (view_project opened.now.read.project) }
+    requires sound { IsSound (view_project opened.now.read.project) }
     requires passed { IsFreeOf (refusals_of_project (view_project opened.now.read.project)) }
     requires facts { opened.now.resolved.facts ≡ facts_of (view_project opened.now.read.project) }
     ensures { IfOk result (λ counts. Checks files.now (Ok counts)) }
 {
-    let binders = binder_places(alloc, &opened.read.project)?;
+    let placed = PlacedProject::new(alloc, &opened.read.project)?;
     Ok(Counts {
         files: files.entries().len() as u64,
         units: opened.read.project.units.as_slice().len() as u64,
-        declarations: binders.as_slice().len() as u64,
+        declarations: placed.binders().len() as u64,
         references: opened.resolved.facts.refs.as_slice().len() as u64,
         links: opened.resolved.facts.links.as_slice().len() as u64,
     })

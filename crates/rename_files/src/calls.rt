@@ -7,6 +7,7 @@ ghost use Rattle.ml_trees.specs.View.{view_project};
 ghost use Rattle.shape_core.specs.Node.{entries_of};
 ghost use Rattle.shape_core.specs.Shape.{none};
 ghost use Rattle.binding_model.specs.Facts.{facts as facts_of};
+ghost use Rattle.binding_model.specs.Renaming.{places};
 ghost use Rattle.binding_model.specs.Scopes.{after_units};
 ghost use Rattle.binding_model.specs.Sums.{heavy};
 ghost use Rattle.project_reading.specs.Reads.{Reads};
@@ -19,11 +20,12 @@ use crate::judge::judge;
 use dependency_kernel::footprint;
 use mod_shape::Resolved;
 use project_reading::{Read, read_project};
-use rename_parts::{binder_places, count_refs};
-use rename_project::{find_aim, resolve};
+use rename_parts::count_refs;
+use rename_project::{find_aim, resolve_placed};
 use rename_steps::{changed_files, remake};
 use rotor_base::{Counts, Files, FootReport, Name, Refusal, Renamed, Row, Target, Watch};
 use std::alloc::Global;
+use value_places::PlacedProject;
 use watched::set_of;
 
 /// What a project has: its files, units, declarations, references and links.
@@ -38,12 +40,12 @@ pub fn check(alloc: Global, files: &Files) -> Result<Counts, Refusal>
     ensures refused { IfErr result (IsRefusedFor (λ why. Checks files.now (Err why))) }
 {
     let read = read_project(alloc, files)?;
-    let resolved = resolve(alloc, &read.project)?;
-    let binders = binder_places(alloc, &read.project)?;
+    let placed = PlacedProject::new(alloc, &read.project)?;
+    let resolved = resolve_placed(alloc, &read.project, &placed)?;
     Ok(Counts {
         files: files.entries().len() as u64,
         units: read.project.units.as_slice().len() as u64,
-        declarations: binders.as_slice().len() as u64,
+        declarations: placed.binders().len() as u64,
         references: resolved.facts.refs.as_slice().len() as u64,
         links: resolved.facts.links.as_slice().len() as u64,
     })
@@ -60,8 +62,9 @@ pub fn foot(alloc: Global, files: &Files, target: &Target) -> Result<FootReport,
     ensures refused { IfErr result (IsRefusedFor (λ why. Shows files.now target.now (Err why))) }
 {
     let read = read_project(alloc, files)?;
-    let resolved = resolve(alloc, &read.project)?;
-    foot_in(alloc, files, &read, &resolved, target)
+    let placed = PlacedProject::new(alloc, &read.project)?;
+    let resolved = resolve_placed(alloc, &read.project, &placed)?;
+    foot_placed(alloc, files, &read, &placed, &resolved, target)
 }
 
 /// The answer of [`foot`] over files that were read and resolved. The caller ensures that the project is that of the files,
@@ -86,7 +89,29 @@ pub fn foot_in(
     ensures shown { IfOk result (λ shown. Shows files.now target.now (Ok shown)) }
     ensures refused { IfErr result (IsRefusedFor (λ why. Shows files.now target.now (Err why))) }
 {
-    let aim = find_aim(alloc, files, read, &resolved.top, target)?;
+    let placed = PlacedProject::new(alloc, &read.project)?;
+    foot_placed(alloc, files, read, &placed, resolved, target)
+}
+
+/// The answer of [`foot_in`] over a project whose places are listed.
+fn foot_placed(
+    alloc: Global,
+    files: &Files,
+    read: &Read,
+    placed: &PlacedProject<'_>,
+    resolved: &Resolved,
+    target: &Target,
+) -> Result<FootReport, Refusal>
+    requires reads { Reads files.now (view_project read.now.project) }
+    requires cut { AreCut files.now.entries (map (λ list. view_tokens list.items) read.now.tokens.items) }
+    requires placed { placed.now ≡ places (view_project read.now.project) }
+    requires passed { IsFreeOf (refusals_of_project (view_project read.now.project)) }
+    requires facts { resolved.now.facts ≡ facts_of (view_project read.now.project) }
+    requires top { entries_of resolved.now.top ≡ after_units none (view_project read.now.project) }
+    ensures shown { IfOk result (λ shown. Shows files.now target.now (Ok shown)) }
+    ensures refused { IfErr result (IsRefusedFor (λ why. Shows files.now target.now (Err why))) }
+{
+    let aim = find_aim(alloc, files, read, placed, &resolved.top, target)?;
     let foot = footprint(alloc, &resolved.facts, aim.place)?;
     let members = set_of(alloc, foot.decls.as_slice())?;
     let refs = count_refs(resolved.facts.refs.as_slice(), &members);
@@ -119,8 +144,9 @@ pub fn rename(
     ensures refused { IfErr result (IsRefusedFor (λ why. Renames files.now target.now name.now (Err why))) }
 {
     let read = read_project(alloc, files)?;
-    let resolved = resolve(alloc, &read.project)?;
-    rename_in(alloc, files, &read, &resolved, target, name)
+    let placed = PlacedProject::new(alloc, &read.project)?;
+    let resolved = resolve_placed(alloc, &read.project, &placed)?;
+    rename_placed(alloc, files, &read, &placed, &resolved, target, name)
 }
 
 /// The answer of [`rename`] over files that were read and resolved. The caller ensures what [`foot_in`] requires, and that
@@ -147,7 +173,32 @@ pub fn rename_in(
     ensures done { IfOk result (λ done. Renames files.now target.now name.now (Ok done)) }
     ensures refused { IfErr result (IsRefusedFor (λ why. Renames files.now target.now name.now (Err why))) }
 {
-    let aim = find_aim(alloc, files, read, &resolved.top, target)?;
+    let placed = PlacedProject::new(alloc, &read.project)?;
+    rename_placed(alloc, files, read, &placed, resolved, target, name)
+}
+
+/// The answer of [`rename_in`] over a project whose places are listed.
+fn rename_placed(
+    alloc: Global,
+    files: &Files,
+    read: &Read,
+    placed: &PlacedProject<'_>,
+    resolved: &Resolved,
+    target: &Target,
+    name: &[u8],
+) -> Result<Renamed, Refusal>
+    requires reads { Reads files.now (view_project read.now.project) }
+    requires sound { IsSound (view_project read.now.project) }
+    requires cut { AreCut files.now.entries (map (λ list. view_tokens list.items) read.now.tokens.items) }
+    requires placed { placed.now ≡ places (view_project read.now.project) }
+    requires passed { IsFreeOf (refusals_of_project (view_project read.now.project)) }
+    requires light { heavy (view_project read.now.project) ≡ None }
+    requires facts { resolved.now.facts ≡ facts_of (view_project read.now.project) }
+    requires top { entries_of resolved.now.top ≡ after_units none (view_project read.now.project) }
+    ensures done { IfOk result (λ done. Renames files.now target.now name.now (Ok done)) }
+    ensures refused { IfErr result (IsRefusedFor (λ why. Renames files.now target.now name.now (Err why))) }
+{
+    let aim = find_aim(alloc, files, read, placed, &resolved.top, target)?;
     let facts = &resolved.facts;
     let foot = footprint(alloc, facts, aim.place)?;
     let members = set_of(alloc, foot.decls.as_slice())?;
@@ -158,7 +209,9 @@ pub fn rename_in(
         new,
         foot,
     };
-    let judged = judge(alloc, files, read, facts, &watch, &members, aim.place)?;
+    let judged = judge(
+        alloc, files, read, placed, facts, &watch, &members, aim.place,
+    )?;
     let changed = changed_files(alloc, &judged.places, files.entries())?;
     let files = remake(alloc, files, judged.sources)?;
     Ok(Renamed {

@@ -12,7 +12,7 @@ ghost use Rattle.dependency_kernel.specs.Foot.{IsFoot};
 ghost use Rattle.binding_model.specs.Facts.{facts as facts_of};
 ghost use Rattle.binding_model.specs.Renaming.{IsBinder};
 ghost use Rattle.binding_model.specs.Local.{IsWatched};
-ghost use Rattle.binding_model.specs.Renaming.{name_of, in_file};
+ghost use Rattle.binding_model.specs.Renaming.{name_of, in_file, places};
 ghost use Rattle.binding_model.specs.Sums.{heavy};
 ghost use Rattle.shape_core.specs.Places.{HasPlaces};
 ghost use Rattle.project_reading.specs.Sources.{AreCut};
@@ -23,7 +23,7 @@ ghost use Rattle.rename_steps.specs.Sources.{AreMade};
 ghost use Rattle.rename_project.specs.Steps.{IsRefusedFor, IsFreeOf};
 ghost use Rattle.rename_files.specs.Steps.{LastRungs};
 
-use capture_check::local_fault;
+use capture_check::local_fault_of;
 use mod_shape::looks;
 use project_reading::Read;
 use rename_parts::first_over;
@@ -31,6 +31,7 @@ use rename_steps::{judge_foot, new_source, refusal_of_fault};
 use rotor_base::{Facts, Files, Memory, Place, Refusal, SourceFile, Token, Watch};
 use std::alloc::Global;
 use std::collections::BTreeSet;
+use value_places::PlacedProject;
 
 /// What an accepted renaming makes: the places that take the new word, and the new sources.
 #[derive(Drop)]
@@ -45,6 +46,7 @@ pub fn judge(
     alloc: Global,
     files: &Files,
     read: &Read,
+    placed: &PlacedProject<'_>,
     facts: &Facts,
     watch: &Watch,
     members: &BTreeSet<Place>,
@@ -52,6 +54,7 @@ pub fn judge(
 ) -> Result<Judged, Refusal>
     requires sound { IsSound (view_project read.now.project) }
     requires cut { AreCut files.now.entries (map (λ list. view_tokens list.items) read.now.tokens.items) }
+    requires placed { placed.now ≡ places (view_project read.now.project) }
     requires facts { facts.now ≡ facts_of (view_project read.now.project) }
     requires light { heavy (view_project read.now.project) ≡ None }
     requires binds { IsBinder (view_project read.now.project) binder }
@@ -64,12 +67,12 @@ pub fn judge(
     ensures passed { OnOk result (IsFreeOf (refusals_of_binder files.now.entries (view_project read.now.project) binder watch.now.foot watch.now.new)) }
     ensures refused { IfErr result (IsRefusedFor (refusals_of_binder files.now.entries (view_project read.now.project) binder watch.now.foot watch.now.new)) }
 {
-    let found = judge_foot(alloc, &read.project, facts, watch, members)?;
+    let found = judge_foot(alloc, placed, facts, watch, members)?;
     let sources = new_sources(alloc, files, read, &found.set, watch.new.as_bytes())?;
     if let Some(file) = first_over(&sources) {
         return Err(Refusal::Grown { file });
     }
-    judge_faults(alloc, read, facts, watch)?;
+    judge_faults(alloc, read, placed, facts, watch)?;
     Ok(Judged {
         places: found.list,
         sources,
@@ -78,8 +81,15 @@ pub fn judge(
 
 /// Returns the first fault of the renamed project as a refusal, or `Ok` if it keeps the facts and no group has a name
 /// twice.
-fn judge_faults(alloc: Global, read: &Read, facts: &Facts, watch: &Watch) -> Result<(), Refusal>
+fn judge_faults(
+    alloc: Global,
+    read: &Read,
+    placed: &PlacedProject<'_>,
+    facts: &Facts,
+    watch: &Watch,
+) -> Result<(), Refusal>
     requires sound { IsSound (view_project read.now.project) }
+    requires placed { placed.now ≡ places (view_project read.now.project) }
     requires facts { facts.now ≡ facts_of (view_project read.now.project) }
     requires light { heavy (view_project read.now.project) ≡ None }
     requires watched { IsWatched (view_project read.now.project) watch.now }
@@ -87,7 +97,7 @@ fn judge_faults(alloc: Global, read: &Read, facts: &Facts, watch: &Watch) -> Res
     ensures refused { IfErr result (IsRefusedFor (LastRungs (view_project read.now.project) watch.now)) }
 {
     let looks = looks(alloc, &read.project, watch)?;
-    match local_fault(alloc, &read.project, facts, &looks, watch)? {
+    match local_fault_of(alloc, placed, facts, &looks, watch)? {
         None => Ok(()),
         Some(fault) => Err(refusal_of_fault(fault)),
     }

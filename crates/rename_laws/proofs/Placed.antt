@@ -22,7 +22,7 @@ use Rattle.ml_syntax.specs.Each.{Each}
 use Rattle.binding_model.specs.Renaming.{placed_sites, file_places, places}
 use Rattle.binding_model.specs.Scopes.{here}
 use Rattle.binding_model.proofs.Sounds.{each_joined}
-use Rattle.capture_check.specs.Tables as table
+use Rattle.value_places.specs.Placed as table
 use Rattle.renamed_sources.proofs.ValueNames.{no_keyword, no_mark, same_word}
 use Rattle.ml_trees.specs.Words.{words}
 use Rattle.ml_syntax.specs.Sound.{AreNumbered, IsSoundUnit, IsBodyPart, IsFacePart}

@@ -1,6 +1,6 @@
 -- The binders of a project, file by file.
 use Rattle.std.proofs.Common.{◌≡◌, ◌≢◌, ℕ, zero, suc, ◌<◌, ◌==◌, ◌&&◌, List, [], ◌∷◌, ◌++◌, Bool, true, false, true≢false, cond, Option, Some, None}
-use Rattle.std.proofs.Common.{option_map, map, length, get_or, refl, ap, sym, ◌∙◌, arith, append_assoc}
+use Rattle.std.proofs.Common.{option_map, map, length, get_or, refl, ap, sym, ◌∙◌, arith}
 use Rattle.std.specs.List.{filter}
 use Rattle.rotor_base.specs.declared.place.Place.{Place}
 use Rattle.rotor_base.specs.Place.{same_place}
@@ -16,9 +16,11 @@ use Rattle.binding_model.specs.Renaming.{places, placed_sites, file_places, at_p
 use Rattle.binding_model.proofs.Leasts.{place_in}
 use Rattle.binding_model.proofs.Sounds.{found_all}
 use Rattle.binding_model.proofs.Telltale.{apart_of}
-use Rattle.capture_check.specs.Tables.{number_of}
+use Rattle.value_places.specs.Binders.{binding}
+use Rattle.value_places.specs.Placed.{number_of}
+use Rattle.value_places.proofs.Units.{at_append}
 use Rattle.rename_model.specs.Target.{first_at}
-use Rattle.rename_parts.specs.Binders.{binding, mark_at, IsMarkAt}
+use Rattle.rename_parts.specs.Binders.{mark_at, IsMarkAt}
 
 -- ---- lists of places
 
@@ -30,15 +32,6 @@ binding_case e xs ys false h = h
 pub binding_append : (xs ys : List (Place × Site)) → binding (xs ++ ys) ≡ binding xs ++ binding ys
 binding_append [] ys = refl
 binding_append (e ∷ xs) ys = binding_case e xs ys e.1.binds (binding_append xs ys)
-
-else_assoc : {V : Type 0} (a b c : Option V) → or_else (or_else a b) c ≡ or_else a (or_else b c)
-else_assoc (Some v) b c = refl
-else_assoc None b c = refl
-
-at_append : (xs ys : List (Place × Site)) (p : Place) → at_place (xs ++ ys) p ≡ or_else (at_place xs p) (at_place ys p)
-at_append [] ys p = refl
-at_append (e ∷ xs) ys p = ap (or_else (some_if (same_place e.0 p) e.1)) (at_append xs ys p)
-    ∙ sym (else_assoc (some_if (same_place e.0 p) e.1) (at_place xs p) (at_place ys p))
 
 over_else : (a b : Option Site) → over mark (or_else a b) ≡ or_else (over mark a) (over mark b)
 over_else (Some x) b = refl
@@ -58,29 +51,6 @@ unit_mark u us p a b o e f h =
     ∙ (ap (or_else (mark_at (file_places u.body) p)) (sym (mark_append (file_places u.face) (places us) p))
     ∙ (sym (mark_append (file_places u.body) (file_places u.face ++ places us) p) ∙ h)))
 
-abbrev pub spots_of : List (Place × Site) → List Place
-spots_of ps = map (λ e. e.0) (binding ps)
-
-map_append : (xs ys : List (Place × Site)) → map (λ (e : Place × Site). e.0) (xs ++ ys) ≡ map (λ (e : Place × Site). e.0) xs ++ map
-    (λ (e : Place × Site). e.0) ys
-map_append [] ys = refl
-map_append (e ∷ xs) ys = ap (λ l. e.0 ∷ l) (map_append xs ys)
-
-pub spots_append : (xs ys : List (Place × Site)) → spots_of (xs ++ ys) ≡ spots_of xs ++ spots_of ys
-spots_append xs ys = ap (map (λ (e : Place × Site). e.0)) (binding_append xs ys) ∙ map_append (binding xs) (binding ys)
-
-pub unit_spots : (u : UnitTree) (us : List UnitTree) (old mid new all : List Place) → mid ≡ old ++ spots_of (file_places u.body)
-    → new ≡ mid ++ spots_of (file_places u.face)
-    → old ++ spots_of (places (u ∷ us)) ≡ all → new ++ spots_of (places us) ≡ all
-unit_spots u us old mid new all e f h =
-    let B = spots_of (file_places u.body) in
-    let F = spots_of (file_places u.face) in
-    let R = spots_of (places us) in
-    let whole : spots_of (places (u ∷ us)) ≡ B ++ (F ++ R) = spots_append (file_places u.body) (file_places u.face ++ places us)
-    ∙ ap (λ l. B ++ l) (spots_append (file_places u.face) (places us)) in
-    ap (λ l. l ++ R) (f ∙ ap (λ l. l ++ F) e)
-    ∙ (append_assoc (old ++ B) F R ∙ (append_assoc old B (F ++ R) ∙ (ap (λ l. old ++ l) (sym whole) ∙ h)))
-
 -- ---- one file
 
 placed_case : (f : ℕ) (x : Site) (xs ys : List Site) (b : Bool) → binding (placed_sites f xs) ≡ placed_sites f ys
@@ -95,18 +65,6 @@ binding_placed f (x ∷ xs) = placed_case f x xs (filter (λ x. x.binds) xs) x.b
 pub file_binding : (t : FileTree) → binding (file_places (Some t)) ≡ placed_sites (number_of t) (binder_sites t)
 file_binding (Body file is) = binding_placed file (sites (Body file is))
 file_binding (Face file is) = binding_placed file (sites (Face file is))
-
--- the places of marks
-placed_spots : (f : ℕ) (xs : List Site) → map (λ (e : Place × Site). e.0) (placed_sites f xs) ≡ map (λ (m : Mark). here f m.token) (map mark xs)
-placed_spots f [] = refl
-placed_spots f (x ∷ xs) = ap (λ l. here f x.at ∷ l) (placed_spots f xs)
-
-pub file_spots : (t : FileTree) (f : ℕ) (marks : List Mark) → f ≡ number_of t → marks ≡ map mark (binder_sites t)
-    → map (λ (m : Mark). here f m.token) marks ≡ spots_of (file_places (Some t))
-file_spots t f marks e m =
-    ap (λ n. map (λ (x : Mark). here n x.token) marks) e
-    ∙ (ap (map (λ (x : Mark). here (number_of t) x.token)) m
-    ∙ (sym (placed_spots (number_of t) (binder_sites t)) ∙ ap (map (λ (z : Place × Site). z.0)) (sym (file_binding t))))
 
 -- no place of another file
 other_file : (f n : ℕ) (b : Bool) → (f == n) ≡ b → f ≢ n → b ≡ false

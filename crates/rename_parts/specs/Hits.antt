@@ -1,5 +1,5 @@
 -- The places of a project that take a new word, with what is there (own).
-use Rattle.std.specs.Prelude.{ℕ, suc, List, [], ◌∷◌, ◌++◌, Bool, true, false, not, map, filter, if◌then◌else◌, ◌&&◌}
+use Rattle.std.specs.Prelude.{ℕ, suc, List, [], ◌∷◌, Bool, true, false, Option, Some, None, flat_map, if◌then◌else◌, ◌&&◌}
 use Rattle.std.specs.BTreeSet.{BTreeSet, contains}
 use Rattle.rotor_base.specs.declared.place.Place.{Place}
 use Rattle.rotor_base.specs.declared.token.Class.{Class}
@@ -7,25 +7,25 @@ use Rattle.rotor_base.specs.declared.token.Class.TheVariants as class
 use Rattle.rotor_base.specs.Place.{place_cmp}
 use Rattle.ml_lexer.specs.Lexed.{Lexeme}
 use Rattle.ml_syntax.specs.Places.{Site}
-use Rattle.ml_trees.specs.Tree.{UnitTree}
 use Rattle.binding_model.specs.Scopes.{here}
-use Rattle.binding_model.specs.Renaming.{file_places}
+use Rattle.binding_model.specs.Renaming.{at_place}
 use Rattle.rename_parts.specs.declared.checks.Hit.{Hit}
 
--- what is at a place
-abbrev pub hit_of : Place × Site → Hit
-hit_of e = record { place = e.0; pun = e.1.pun; operator = e.1.operator }
+-- what is at a place of a value
+abbrev pub hit_of : Place → Site → Hit
+hit_of p x = record { place = p; pun = x.pun; operator = x.operator }
 
--- the places of a file that are in a set: its binders, and then its uses
-abbrev pub hits_in : BTreeSet Place → List (Place × Site) → List Hit
-hits_in set ps = map hit_of
-    (filter (λ e. contains place_cmp set e.0) (filter (λ e. e.1.binds) ps) ++ filter (λ e. contains place_cmp set e.0)
-    (filter (λ e. not e.1.binds) ps))
+abbrev pub hit_if : Place → Option Site → List Hit
+hit_if p None = []
+hit_if p (Some x) = hit_of p x ∷ []
 
--- of all files
-abbrev pub all_hits : BTreeSet Place → List UnitTree → List Hit
-all_hits set [] = []
-all_hits set (u ∷ us) = hits_in set (file_places u.body) ++ (hits_in set (file_places u.face) ++ all_hits set us)
+-- what is at a place, if it is one of a value
+abbrev pub hit_at : List (Place × Site) → Place → List Hit
+hit_at ls p = hit_if p (at_place ls p)
+
+-- what is at some places, in order
+abbrev pub all_hits : List Place → List (Place × Site) → List Hit
+all_hits ps ls = flat_map (hit_at ls) ps
 
 -- the words of lexemes, numbered from one: the new one for a lower-case word in a set
 abbrev pub is_lower : Class → Bool

@@ -1,19 +1,47 @@
-//! The binders of a project.
+//! The binder at a place.
 
-ghost use Rattle.std.specs.Prelude.{◌≡◌, ◌<◌, ◌==◌, ◌++◌, IfOk, IfSome, OnOk, Some, length, map};
+ghost use Rattle.std.specs.Prelude.{◌≡◌, ◌<◌, ◌==◌, IfOk, IfSome, Some, length};
 ghost use Rattle.ml_trees.specs.View.{view_project, view_part_of, view_file};
 ghost use Rattle.ml_syntax.specs.Sound.{IsSound};
-ghost use Rattle.binding_model.specs.Renaming.{places, file_places};
-ghost use Rattle.capture_check.specs.Tables.{number_of};
+ghost use Rattle.ml_syntax.specs.Places.{mark};
+ghost use Rattle.ml_syntax.specs.Sites.{view_site};
+ghost use Rattle.binding_model.specs.Renaming.{file_places};
 ghost use Rattle.rename_model.specs.Target.{first_at};
-ghost use Rattle.rename_parts.specs.Binders.{binding, mark_at, IsMarkAt};
+ghost use Rattle.rename_parts.specs.Binders.{mark_at, IsMarkAt, IsMarkIn};
 
-use ml_syntax::{Mark, binders};
+use ml_syntax::{Mark, Site, binders};
 use ml_trees::{FileTree, Project};
-use rotor_base::{Memory, Place};
+use rotor_base::{Memory, Name, Place};
 use std::alloc::Global;
+use value_places::{PlacedProject, number_of_file};
 
-/// The binder at a place, or none. `Memory` is the only error.
+/// The binder at a place, or none, of a project whose places are listed. `Memory` is the only error.
+pub fn placed_binder(
+    alloc: Global,
+    placed: &PlacedProject<'_>,
+    place: Place,
+) -> Result<Option<Mark>, Memory>
+    ensures { IfOk result (IsMarkIn placed.now place) }
+{
+    match placed.site_at(place) {
+        Some(site) if site.binds => Ok(Some(mark_of_site(alloc, site)?)),
+        _ => Ok(None),
+    }
+}
+
+/// The mark of a site.
+fn mark_of_site(alloc: Global, site: &Site) -> Result<Mark, Memory>
+    ensures { IfOk result (λ found. found ≡ mark (view_site site.now)) }
+{
+    Ok(Mark {
+        token: site.token,
+        name: Name::new(alloc, site.name.as_bytes())?,
+        pun: site.pun,
+        operator: site.operator,
+    })
+}
+
+/// The binder at a place, or none. The call walks the place's file alone. `Memory` is the only error.
 pub fn binder_at(alloc: Global, project: &Project, place: Place) -> Result<Option<Mark>, Memory>
     requires { IsSound (view_project project.now) }
     ensures { IfOk result (IsMarkAt (view_project project.now) place) }
@@ -64,51 +92,4 @@ fn mark_of(marks: &[Mark], token: u32) -> Option<usize>
         }
     }
     None
-}
-
-/// The places of all binders, file by file in link order. `Memory` is the only error.
-pub fn binder_places(alloc: Global, project: &Project) -> Result<Vec<Place>, Memory>
-    ensures { IfOk result (λ list. list.items ≡ map (λ e. e.0) (binding (places (view_project project.now)))) }
-{
-    let mut list = Vec::new(alloc);
-    for unit in &project.units {
-        add_part(alloc, &mut list, &unit.body)?;
-        add_part(alloc, &mut list, &unit.face)?;
-    }
-    Ok(list)
-}
-
-/// Adds the binders of a part of a unit.
-fn add_part(alloc: Global, list: &mut Vec<Place>, part: &Option<FileTree>) -> Result<(), Memory>
-    ensures { OnOk result (list.new.items ≡ list.old.items ++ map (λ e. e.0) (binding (file_places (view_part_of part.now)))) }
-{
-    match part {
-        None => Ok(()),
-        Some(tree) => add_file(alloc, list, tree),
-    }
-}
-
-/// Adds the binders of a file.
-fn add_file(alloc: Global, list: &mut Vec<Place>, tree: &FileTree) -> Result<(), Memory>
-    ensures { OnOk result (list.new.items ≡ list.old.items ++ map (λ e. e.0) (binding (file_places (Some (view_file tree.now))))) }
-{
-    let file = number_of_file(tree);
-    let marks = binders(alloc, tree)?;
-    for mark in &marks {
-        list.push(Place {
-            file,
-            token: mark.token,
-        })?;
-    }
-    Ok(())
-}
-
-/// The number of a file.
-pub fn number_of_file(tree: &FileTree) -> u32
-    ensures { result ≡ number_of (view_file tree.now) }
-{
-    match tree {
-        FileTree::Body(file, _) => *file,
-        FileTree::Face(file, _) => *file,
-    }
 }

@@ -5,17 +5,15 @@ mod binders;
 mod blurred;
 mod bytes;
 mod checks;
-mod groups;
 mod leasts;
 mod links;
 mod members;
 mod targets;
 
-pub use binders::{binder_at, binder_places, number_of_file};
+pub use binders::{binder_at, placed_binder};
 pub use blurred::least_blurred;
 pub use bytes::{first_over, new_bytes};
 pub use checks::{Hit, has_operator, hit_marks, least_pun};
-pub use groups::first_duplicate;
 pub use links::least_unmatched;
 pub use members::{count_refs, files_of, hit_places};
 pub use targets::{dotted, number_of, token_at};

@@ -3,12 +3,12 @@
 ghost use Rattle.std.specs.Prelude.{◌≡◌, IfErr, IfNone, IfOk, IfSome, Some, map};
 ghost use Rattle.rotor_base.specs.declared.place.Place.{Place};
 ghost use Rattle.ml_lexer.specs.Lexed.{view_tokens};
-ghost use Rattle.ml_syntax.specs.Sound.{IsSound};
 ghost use Rattle.ml_trees.specs.View.{view_project};
 ghost use Rattle.shape_core.specs.Node.{entries_of};
 ghost use Rattle.shape_core.specs.Shape.{none};
 ghost use Rattle.shape_core.specs.Respell.{over};
 ghost use Rattle.binding_model.specs.Scopes.{after_units};
+ghost use Rattle.binding_model.specs.Renaming.{places};
 ghost use Rattle.project_reading.specs.Sources.{AreCut};
 ghost use Rattle.rename_model.specs.Renaming.{HasNoTarget};
 ghost use Rattle.rename_model.specs.Target.{IsSpot, Names, Aims, number_of};
@@ -17,10 +17,11 @@ ghost use Rattle.rename_project.specs.Steps.{IsRefusedFor};
 
 use ml_syntax::Mark;
 use project_reading::Read;
-use rename_parts::{binder_at, dotted, number_of, token_at};
+use rename_parts::{dotted, number_of, placed_binder, token_at};
 use rotor_base::{Files, Name, Place, Refusal, Target};
 use shape_core::Scope;
 use std::alloc::Global;
+use value_places::PlacedProject;
 
 /// A binder: its place, and its name.
 #[derive(Drop)]
@@ -29,8 +30,8 @@ pub struct Aim {
     pub mark: Mark,
 }
 
-/// The binder that a target names. The caller ensures that the project is sound and that the tokens are those of the
-/// files. `top` is the scope after the units of the project.
+/// The binder that a target names. The caller ensures that the places are those of the project, and that the tokens are
+/// those of the files. `top` is the scope after the units of the project.
 ///
 /// # Errors
 ///
@@ -39,10 +40,11 @@ pub fn find_aim(
     alloc: Global,
     files: &Files,
     read: &Read,
+    placed: &PlacedProject<'_>,
     top: &Scope,
     target: &Target,
 ) -> Result<Aim, Refusal>
-    requires sound { IsSound (view_project read.now.project) }
+    requires placed { placed.now ≡ places (view_project read.now.project) }
     requires cut { AreCut files.now.entries (map (λ list. view_tokens list.items) read.now.tokens.items) }
     requires top { entries_of top.now ≡ after_units none (view_project read.now.project) }
     ensures aims { IfOk result (λ aim. Aims files.now (view_project read.now.project) target.now aim.place) }
@@ -52,7 +54,7 @@ pub fn find_aim(
     let Some(place) = named(files, read, top, target) else {
         return Err(Refusal::NoTarget);
     };
-    match binder_at(alloc, &read.project, place)? {
+    match placed_binder(alloc, placed, place)? {
         Some(mark) => Ok(Aim { place, mark }),
         None => Err(Refusal::NoTarget),
     }

@@ -5,4 +5,4 @@ mod aim;
 mod project;
 
 pub use aim::{Aim, find_aim};
-pub use project::{resolve, resolve_facts};
+pub use project::{resolve, resolve_facts, resolve_placed};

@@ -1,8 +1,7 @@
 -- The words that the tables give are those of the map.
-use Rattle.std.proofs.Common.{◌≡◌, ℕ, suc, List, [], ◌∷◌, Bool, cond, not, Option, Some, None, Bor, option_copied, refl, ap, ◌∙◌}
+use Rattle.std.proofs.Common.{◌≡◌, ℕ, suc, List, [], ◌∷◌, Option, Some, None, Bor, option_copied, refl, ap, ◌∙◌}
 use Rattle.std.proofs.Common.{Result, Ok, Err, IfOk}
 use Rattle.std.specs.BTreeMap.{BTreeMap, get}
-use Rattle.std.specs.Str.{bytes_eq}
 use Rattle.rotor_base.specs.declared.place.Goal.{Goal}
 use Rattle.rotor_base.specs.declared.place.Goal.TheVariants.{Decl, Outside, Missing, Hidden, Blur}
 use Rattle.rotor_base.specs.declared.place.Place.{Place}
@@ -13,18 +12,12 @@ use Rattle.rotor_base.specs.declared.token.Class.TheVariants as class
 use Rattle.rotor_base.specs.Place.{place_cmp}
 use Rattle.ml_lexer.specs.Lexed.{Lexeme}
 use Rattle.ml_lexer.specs.Respelled.{respelled}
-use Rattle.ml_syntax.specs.Each.{Each}
 use Rattle.ml_syntax.specs.Places.{label_name}
 use Rattle.ml_syntax.specs.Respelled.{Spelling}
-use Rattle.ml_syntax.specs.Sound.{IsSound}
-use Rattle.ml_trees.specs.Tree.{UnitTree}
 use Rattle.shape_core.specs.Respell.{Words}
 use Rattle.shape_core.specs.Shape.{Name, or_value}
-use Rattle.binding_model.specs.Renaming.{IsBinder}
 use Rattle.binding_model.specs.Renaming.{Renaming, at_place, goal_at, in_file, new_word, words_of}
-use Rattle.capture_check.proofs.Binders.{named_is}
-use Rattle.capture_check.specs.Tables.{IsTableOf, named}
-use Rattle.rename_respell.specs.Respelled.{changed, changed_from, label_with, new_text, new_texts, AreRespelledBytes}
+use Rattle.rename_respell.specs.Respelled.{label_with, new_text, new_texts, AreRespelledBytes}
 use Rattle.rename_respell.specs.Tables.{word_by, words_in}
 
 -- ---- one word
@@ -80,19 +73,6 @@ bytes_same w w' h n (old ∷ olds) (new ∷ news) k = (
   },
   bytes_same w w' h (suc n) olds news k.1,
 )
-
--- ---- what the map changes
-
-filter_case : (e : Place × Name) (a b : Bool) (xs ys : Renaming) → a ≡ b → xs ≡ ys → cond a (e ∷ xs) xs ≡ cond b (e ∷ ys) ys
-filter_case e a b xs ys h k = ap (λ t. cond t (e ∷ xs) xs) h ∙ ap (λ l. cond b (e ∷ l) l) k
-
-pub changed_is : (us : List UnitTree) → IsSound us → (table : BTreeMap Place (List ℕ)) → IsTableOf us table → (r : Renaming)
-    → Each (λ e. IsBinder us e.0) r → changed_from (named table) r ≡ changed us r
-changed_is us sound table t [] h = refl
-changed_is us sound table t (e ∷ r) h =
-    filter_case e _ _ (changed_from (named table) r) (changed us r)
-    (ap (λ old. not (bytes_eq e.1 old)) (named_is us sound table e.0 t h.0))
-    (changed_is us sound table t r h.1)
 
 -- ---- an answer that says more
 

@@ -7,7 +7,7 @@ ghost use Rattle.ml_trees.specs.Tree.{UnitTree};
 ghost use Rattle.ml_trees.specs.View.{view_project};
 ghost use Rattle.ml_lexer.specs.Lexed.{view_tokens};
 ghost use Rattle.binding_model.specs.Facts.{facts as facts_of};
-ghost use Rattle.binding_model.specs.Renaming.{IsBinder};
+ghost use Rattle.binding_model.specs.Renaming.{IsBinder, places};
 ghost use Rattle.project_reading.specs.Reads.{Reads};
 ghost use Rattle.project_reading.specs.Sources.{AreCut};
 ghost use Rattle.rename_project.specs.Steps.{IsRefusedFor};
@@ -16,11 +16,11 @@ ghost use Rattle.rename_respell.specs.Tables.{words_in};
 
 use crate::source::respell_source;
 use crate::words::{NewWords, goal_table, new_names};
-use capture_check::names_of;
 use project_reading::{Read, read_project};
 use rename_project::resolve_facts;
 use rotor_base::{Facts, Files, Memory, Name, Place, Refusal};
 use std::alloc::Global;
+use value_places::PlacedProject;
 
 /// The bytes of each source, if the binders of a map take the names that it gives them. A binder that the map gives
 /// another name takes it, and so does each reference to it. In a label the word alone changes. All other bytes stay. The
@@ -36,26 +36,28 @@ pub fn respell(alloc: Global, files: &Files, map: &[(Place, Name)]) -> Result<Ve
 {
     let read = read_project(alloc, files)?;
     let resolved = resolve_facts(alloc, &read.project)?;
-    Ok(respell_read(alloc, files, &read, &resolved.facts, map)?)
+    let placed = PlacedProject::new(alloc, &read.project)?;
+    Ok(respell_read(alloc, files, &read, &placed, &resolved.facts, map)?)
 }
 
-/// What [`respell`] returns, of files that are read and resolved. `Memory` is the only error.
+/// What [`respell`] returns, of files that are read and resolved, and whose places are listed. `Memory` is the only error.
 pub fn respell_read(
     alloc: Global,
     files: &Files,
     read: &Read,
+    placed: &PlacedProject<'_>,
     facts: &Facts,
     map: &[(Place, Name)],
 ) -> Result<Vec<Vec<u8>>, Memory>
     requires sound { IsSound (view_project read.now.project) }
+    requires placed { placed.now ≡ places (view_project read.now.project) }
     requires cut { AreCut files.now.entries (map_list (λ list. view_tokens list.items) read.now.tokens.items) }
     requires facts { facts.now ≡ facts_of (view_project read.now.project) }
     requires binders { Each (λ e. IsBinder (view_project read.now.project) e.0) map.now }
     ensures { IfOk result (λ sources. AreRespelledBytes (mapped_words (view_project read.now.project) map.now) 0 files.now.entries (map_list (λ bytes. bytes.items) sources.items)) }
 {
-    let table = names_of(alloc, &read.project)?;
     let words = NewWords {
-        names: new_names(alloc, &table, map)?,
+        names: new_names(alloc, placed, map)?,
         goals: goal_table(alloc, facts.refs.as_slice())?,
     };
     respell_all(alloc, files, read, &words)

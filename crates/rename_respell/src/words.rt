@@ -6,14 +6,14 @@ ghost use Rattle.rotor_base.specs.declared.place.Place.{Place};
 ghost use Rattle.rotor_base.specs.Place.{same_place, place_cmp};
 ghost use Rattle.shape_core.specs.Shape.{or_else, some_if};
 ghost use Rattle.binding_model.specs.Renaming.{at_place, goal_at};
-ghost use Rattle.capture_check.specs.Tables.{named};
+ghost use Rattle.value_places.specs.Placed.{name_in};
 ghost use Rattle.rename_respell.specs.Respelled.{changed_from};
 ghost use Rattle.rename_respell.specs.Tables.{word_in};
 
-use capture_check::NameTable;
 use rotor_base::{Goal, Memory, Name, Place, Ref};
 use std::alloc::Global;
 use std::collections::BTreeMap;
+use value_places::PlacedProject;
 
 /// The new name of each binder that takes another one.
 pub type NewNames<'m> = BTreeMap<Place, &'m [u8]>;
@@ -42,31 +42,28 @@ impl<'m> NewWords<'m> {
     }
 }
 
-/// The entries of a map that give a binder another name than that of a table.
+/// The entries of a map that give a binder another name than its own.
 pub fn new_names<'m>(
     alloc: Global,
-    table: &NameTable,
+    placed: &PlacedProject<'_>,
     map: &'m [(Place, Name)],
 ) -> Result<NewNames<'m>, Memory>
-    ensures { IfOk result (λ names. (p : Place) → option_copied (get place_cmp names p) ≡ at_place (changed_from (named table.now) map.now) p) }
+    ensures { IfOk result (λ names. (p : Place) → option_copied (get place_cmp names p) ≡ at_place (changed_from (name_in placed.now) map.now) p) }
 {
     let mut names = BTreeMap::new(alloc);
     for entry in map {
-        if !has_name(table, entry.0, &entry.1) {
+        if !has_name(placed, entry.0, &entry.1) {
             add_name(&mut names, entry.0, &entry.1)?;
         }
     }
     Ok(names)
 }
 
-/// Whether a table gives a place this name.
-fn has_name(table: &NameTable, place: Place, name: &Name) -> bool
-    ensures { result ≡ bytes_eq name.now (named table.now place) }
+/// Whether a place has this name.
+fn has_name(placed: &PlacedProject<'_>, place: Place, name: &Name) -> bool
+    ensures { result ≡ bytes_eq name.now (name_in placed.now place) }
 {
-    match table.get(&place) {
-        Some(old) => name.as_bytes() == old.as_bytes(),
-        None => name.as_bytes().is_empty(),
-    }
+    name.as_bytes() == placed.name_at(place)
 }
 
 /// Adds a name, if its place has none.

@@ -1,5 +1,5 @@
 -- What the scans find is what the conditions require.
-use Rattle.std.proofs.Common.{◌≡◌, ◌⊎◌, inl, inr, List, [], ◌∷◌, ◌++◌, Bool, true, false, true≢false, not, cond, Option, Some, None, filter, Contains}
+use Rattle.std.proofs.Common.{◌≡◌, ◌⊎◌, inl, inr, List, [], ◌∷◌, Bool, true, false, true≢false, cond, Option, Some, None, Contains}
 use Rattle.std.proofs.Common.{refl, ap, sym, subst, ◌∙◌}
 use Rattle.std.specs.BTreeSet.{BTreeSet, contains}
 use Rattle.std.specs.List.{list_any}
@@ -12,25 +12,23 @@ use Rattle.rotor_base.specs.declared.place.Foot.{Foot}
 use Rattle.rotor_base.specs.declared.place.Facts.{Facts}
 use Rattle.rotor_base.specs.declared.refusal.Refusal.TheVariants as refusal
 use Rattle.ml_syntax.specs.Places.{Site}
-use Rattle.ml_syntax.specs.Sound.{IsSound}
 use Rattle.ml_trees.specs.Tree.{UnitTree}
 use Rattle.shape_core.specs.Shape.{or_else, some_if}
 use Rattle.binding_model.specs.Facts.{facts}
-use Rattle.binding_model.specs.Renaming.{places, file_places, at_place, HasBehind, IsBlur}
+use Rattle.binding_model.specs.Renaming.{places, at_place, HasBehind, IsBlur}
 use Rattle.binding_model.proofs.LastEntries.{same_is}
-use Rattle.binding_model.proofs.Sounds.{found_all, same_self}
+use Rattle.binding_model.proofs.Sounds.{same_self}
 use Rattle.binding_model.proofs.Standing.{member_in}
-use Rattle.binding_model.proofs.Telltale.{apart_of}
 use Rattle.rename_model.specs.Foot.{hits, IsIn, IsHit}
 use Rattle.rename_model.specs.Renaming.{IsOperatorAt, IsPunAt, IsBlurredAt, at_reference, at_item, at_source, IsOperator}
 use Rattle.rename_parts.specs.declared.checks.Hit.{Hit}
 use Rattle.rename_parts.specs.Blurs.{in_set, behind_in, item_in, blurred_item, place_if, BlursRef, BlursLink}
-use Rattle.rename_parts.specs.Hits.{hit_of, hits_in, all_hits}
+use Rattle.rename_parts.specs.Hits.{hit_of, hit_if, hit_at, all_hits}
 use Rattle.rename_parts.specs.Leasts.{IsLeastOrNone}
 use Rattle.shape_core.specs.Places.{HasPlaces}
 use Rattle.rename_parts.proofs.Earliest.{least_same}
-use Rattle.rename_steps.proofs.Having.{Has, has_as, has_left, has_right, has_split, has_mapped, has_unmapped, has_filtered, has_unfiltered, has_any}
-use Rattle.rename_steps.proofs.Having.{any_has, has_contained, contained_has, has_each}
+use Rattle.rename_steps.proofs.Having.{Has, has_left, has_right, has_split, has_any}
+use Rattle.rename_steps.proofs.Having.{any_has, has_contained, contained_has}
 
 -- ---- sets of places
 
@@ -52,135 +50,71 @@ pub site_found : (L : List (Place × Site)) (p : Place) (x : Site) → at_place 
 site_found [] p x e = let wrong : None ≡ Some x = e in absurd cc
 site_found (z ∷ L) p x e = site_case z L p x (same_place z.0 p) refl (site_found L p x) e
 
-site_at : (us : List UnitTree) → IsSound us → (p : Place) (P : Site → Type 0) → Has (λ e. (e.0 ≡ p) × P e.1) (places us)
-    → (x : Site) × (at_place (places us) p ≡ Some x) × P x
-site_at us s p P h =
-    let L = places us in
-    let k = contained_has (λ e. ((e.0 ≡ p) × P e.1) × (at_place L e.0 ≡ Some e.1)) L
-    (has_each (λ e. (e.0 ≡ p) × P e.1) (λ e. at_place L e.0 ≡ Some e.1) L (found_all L (apart_of us s)) h) in
-    (k.0.1, subst (λ q. at_place L q ≡ Some k.0.1) k.2.0.0 k.2.1, k.2.0.1)
+-- ---- what is at the hits
 
--- ---- the hits of all files
+module _ (P : Hit → Type 0) (ls : List (Place × Site)) where
+  hit_down : (p : Place) (o : Option Site) → Has P (hit_if p o) → (x : Site) × (o ≡ Some x) × P (hit_of p x)
+  hit_down p None h = absurd h
+  hit_down p (Some x) (inl h) = (x, refl, h)
+  hit_down p (Some x) (inr h) = absurd h
 
-module _ (set : BTreeSet Place) (P : Hit → Type 0) where
-  abbrev In : Place × Site → Type 0
-  In e = P (hit_of e) × (contains place_cmp set e.0 ≡ true)
+  pub hits_down : (ps : List Place) → Has P (all_hits ps ls) → (p : Place) × (x : Site) × Has (λ q. q ≡ p) ps × (at_place ls p ≡ Some x)
+      × P (hit_of p x)
+  hits_down [] h = absurd h
+  hits_down (p ∷ ps) h = elim (has_split P (hit_at ls p) (all_hits ps ls) h) [
+    | inl a ↦ (let k = hit_down p (at_place ls p) a in (p, k.0, inl refl, k.1, k.2))
+    | inr b ↦ (let k = hits_down ps b in (k.0, k.1, inr k.2, k.3, k.4))
+  ]
 
-  drop_test : (test : Place × Site → Bool) (ps : List (Place × Site))
-      → Has (λ e. P (hit_of e)) (filter (λ e. contains place_cmp set e.0) (filter test ps)) → Has In ps
-  drop_test test ps h =
-      has_as (λ e. In e × (test e ≡ true)) In ps (λ e k. k.0)
-      (has_unfiltered test In ps (has_unfiltered (λ e. contains place_cmp set e.0) (λ e. P (hit_of e)) (filter test ps) h))
-
-  keep_test : (test : Place × Site → Bool) (ps : List (Place × Site)) → Has (λ e. In e × (test e ≡ true)) ps
-      → Has (λ e. P (hit_of e)) (filter (λ e. contains place_cmp set e.0) (filter test ps))
-  keep_test test ps h = has_filtered (λ e. contains place_cmp set e.0) (λ e. P (hit_of e)) (filter test ps) (has_filtered test In ps h)
-
-  part_down : (ps : List (Place × Site)) → Has P (hits_in set ps) → Has In ps
-  part_down ps h =
-      elim (has_split (λ e. P (hit_of e)) (filter (λ e. contains place_cmp set e.0) (filter (λ e. e.1.binds) ps))
-      (filter (λ e. contains place_cmp set e.0) (filter (λ e. not e.1.binds) ps)) (has_unmapped hit_of P _ h)) [
-        | inl a ↦ drop_test (λ e. e.1.binds) ps a
-        | inr b ↦ drop_test (λ e. not e.1.binds) ps b
-      ]
-
-  kind_of : (e : Place × Site) (ps : List (Place × Site)) (b : Bool) → e.1.binds ≡ b → In e → Has (λ z. In z × (z.1.binds ≡ true)) (e ∷ ps)
-      ⊎ Has (λ z. In z × (not z.1.binds ≡ true)) (e ∷ ps)
-  kind_of e ps true t k = inl (inl (k, t))
-  kind_of e ps false t k = inr (inl (k, ap not t))
-
-  two_kinds : (ps : List (Place × Site)) → Has In ps → Has (λ e. In e × (e.1.binds ≡ true)) ps ⊎ Has (λ e. In e × (not e.1.binds ≡ true)) ps
-  two_kinds [] h = absurd h
-  two_kinds (e ∷ ps) (inl k) = kind_of e ps e.1.binds refl k
-  two_kinds (e ∷ ps) (inr h) = elim (two_kinds ps h) [ inl a ↦ inl (inr a) | inr b ↦ inr (inr b) ]
-
-  part_up : (ps : List (Place × Site)) → Has In ps → Has P (hits_in set ps)
-  part_up ps h =
-      let ds = filter (λ (e : Place × Site). contains place_cmp set e.0) (filter (λ e. e.1.binds) ps) in
-      let us = filter (λ (e : Place × Site). contains place_cmp set e.0) (filter (λ e. not e.1.binds) ps) in
-      has_mapped hit_of P (ds ++ us)
-      (elim (two_kinds ps h) [
-        | inl a ↦ has_left (λ e. P (hit_of e)) ds us (keep_test (λ e. e.1.binds) ps a)
-        | inr b ↦ has_right (λ e. P (hit_of e)) ds us (keep_test (λ e. not e.1.binds) ps b)
-      ])
-
-  face_down : (face rest : List (Place × Site)) (hs : List Hit) → (Has P hs → Has In rest) → Has P (hits_in set face) ⊎ Has P hs
-      → Has In (face ++ rest)
-  face_down face rest hs f (inl a) = has_left In face rest (part_down face a)
-  face_down face rest hs f (inr b) = has_right In face rest (f b)
-
-  pub hits_down : (us : List UnitTree) → Has P (all_hits set us) → Has In (places us)
-  hits_down [] h = h
-  hits_down (u ∷ us) h =
-      let body = file_places u.body in
-      let face = file_places u.face in
-      elim (has_split P (hits_in set body) (hits_in set face ++ all_hits set us) h) [
-        | inl a ↦ has_left In body (face ++ places us) (part_down body a)
-        | inr b ↦ has_right In body (face ++ places us)
-            (face_down face (places us) (all_hits set us) (hits_down us) (has_split P (hits_in set face) (all_hits set us) b))
-      ]
-
-  face_up : (face rest : List (Place × Site)) (hs : List Hit) → (Has In rest → Has P hs) → Has In face ⊎ Has In rest → Has P (hits_in set face ++ hs)
-  face_up face rest hs f (inl a) = has_left P (hits_in set face) hs (part_up face a)
-  face_up face rest hs f (inr b) = has_right P (hits_in set face) hs (f b)
-
-  pub hits_up : (us : List UnitTree) → Has In (places us) → Has P (all_hits set us)
-  hits_up [] h = h
-  hits_up (u ∷ us) h =
-      let body = file_places u.body in
-      let face = file_places u.face in
-      elim (has_split In body (face ++ places us) h) [
-        | inl a ↦ has_left P (hits_in set body) (hits_in set face ++ all_hits set us) (part_up body a)
-        | inr b ↦ has_right P (hits_in set body) (hits_in set face ++ all_hits set us)
-            (face_up face (places us) (all_hits set us) (hits_up us) (has_split In face (places us) b))
-      ]
+  pub hits_up : (ps : List Place) (p : Place) (x : Site) → Has (λ q. q ≡ p) ps → at_place ls p ≡ Some x → P (hit_of p x)
+      → Has P (all_hits ps ls)
+  hits_up [] p x h e k = absurd h
+  hits_up (q ∷ ps) p x (inl h) e k =
+      has_left P (hit_at ls q) (all_hits ps ls)
+      (subst (λ z. Has P (hit_at ls z)) (sym h) (subst (λ o. Has P (hit_if p o)) (sym e) (inl k)))
+  hits_up (q ∷ ps) p x (inr h) e k = has_right P (hit_at ls q) (all_hits ps ls) (hits_up ps p x h e k)
 
 -- ---- operators and puns
 
-module _ (us : List UnitTree) (foot : Foot) (set : BTreeSet Place) (sound : IsSound us) (has : HasPlaces (hits (facts us).refs foot) set) where
+module _ (us : List UnitTree) (foot : Foot) where
+  abbrev hs : List Place
+  hs = hits (facts us).refs foot
+
   -- a place of a kind that takes the new word is among the hits, and the other way round
   kind_up : (P : Site → Type 0) (Q : Hit → Type 0) (p : Place) (x : Site) → at_place (places us) p ≡ Some x → IsHit us foot p → P x
-      → ((e : Place × Site) → e.0 ≡ p → P e.1 → Q (hit_of e)) → Has Q (all_hits set us)
-  kind_up P Q p x e hit px up =
-      hits_up set Q us
-      (has_as (λ z. (z.0 ≡ p) × (z.1 ≡ x)) (λ z. Q (hit_of z) × (contains place_cmp set z.0 ≡ true)) (places us)
-      (λ z k. (
-        up z k.0 (subst P (sym k.1) px),
-        subst (λ q. contains place_cmp set q ≡ true) (sym k.0)
-            (has_set (hits (facts us).refs foot) set p has hit),
-      )) (site_found (places us) p x e))
+      → (P x → Q (hit_of p x)) → Has Q (all_hits hs (places us))
+  kind_up P Q p x e hit px up = hits_up Q (places us) hs p x (has_contained (λ q. q ≡ p) hs p hit refl) e (up px)
 
-  kind_down : (P : Site → Type 0) (Q : Hit → Type 0) (p : Place) → ((e : Place × Site) → Q (hit_of e) → (e.0 ≡ p) × P e.1) → Has Q (all_hits set us)
+  kind_down : (P : Site → Type 0) (Q : Hit → Type 0) (p : Place) → ((q : Place) (x : Site) → Q (hit_of q x) → (q ≡ p) × P x) → Has Q (all_hits hs (places us))
       → IsHit us foot p × ((x : Site) × (at_place (places us) p ≡ Some x) × P x)
   kind_down P Q p down h =
-      let k = hits_down set Q us h in
-      let f = contained_has (λ z. Q (hit_of z) × (contains place_cmp set z.0 ≡ true)) (places us) k in
-      let at = down f.0 f.2.0 in (
-        set_has (hits (facts us).refs foot) set p has (subst (λ q. contains place_cmp set q ≡ true) at.0 f.2.1),
-        site_at us sound p P (has_as (λ z. Q (hit_of z) × (contains place_cmp set z.0 ≡ true)) (λ z. (z.0 ≡ p) × P z.1) (places us)
-            (λ z j. down z j.0) k),
+      let k = hits_down Q (places us) hs h in
+      let at = down k.0 k.1 k.4 in
+      let c = contained_has (λ q. q ≡ k.0) hs k.2 in (
+        subst (Contains hs) (c.2 ∙ at.0) c.1,
+        (k.1, subst (λ q. at_place (places us) q ≡ Some k.1) at.0 k.3, at.1),
       )
 
-  pub operator_met : list_any (λ h. h.operator) (all_hits set us) ≡ true → IsOperator us foot refusal.Operator
+  pub operator_met : list_any (λ h. h.operator) (all_hits hs (places us)) ≡ true → IsOperator us foot refusal.Operator
   operator_met e =
-      let h = contained_has (λ (z : Hit). z.operator ≡ true) (all_hits set us) (has_any (λ (z : Hit). z.operator) (all_hits set us) e) in
-      let k = kind_down (λ x. x.operator ≡ true) (λ z. (z.operator ≡ true) × (z.place ≡ h.0.place)) h.0.place (λ z j. (j.1, j.0))
-      (has_contained (λ (z : Hit). (z.operator ≡ true) × (z.place ≡ h.0.place)) (all_hits set us) h.0 h.1 (h.2, refl)) in
+      let h = contained_has (λ (z : Hit). z.operator ≡ true) (all_hits hs (places us)) (has_any (λ (z : Hit). z.operator) (all_hits hs (places us)) e) in
+      let k = kind_down (λ x. x.operator ≡ true) (λ z. (z.operator ≡ true) × (z.place ≡ h.0.place)) h.0.place (λ q x j. (j.1, j.0))
+      (has_contained (λ (z : Hit). (z.operator ≡ true) × (z.place ≡ h.0.place)) (all_hits hs (places us)) h.0 h.1 (h.2, refl)) in
       (h.0.place, k.0, k.1)
 
-  pub operator_none : list_any (λ h. h.operator) (all_hits set us) ≡ false → (p : Place) → IsHit us foot p → IsOperatorAt us p → ⊥
+  pub operator_none : list_any (λ h. h.operator) (all_hits hs (places us)) ≡ false → (p : Place) → IsHit us foot p → IsOperatorAt us p → ⊥
   operator_none e p hit at =
-      let some = kind_up (λ x. x.operator ≡ true) (λ z. z.operator ≡ true) p at.0 at.1 hit at.2 (λ z i j. j) in
-      true≢false (sym (any_has (λ (z : Hit). z.operator) (all_hits set us) some) ∙ e)
+      let some = kind_up (λ x. x.operator ≡ true) (λ z. z.operator ≡ true) p at.0 at.1 hit at.2 (λ j. j) in
+      true≢false (sym (any_has (λ (z : Hit). z.operator) (all_hits hs (places us)) some) ∙ e)
 
-  pub pun_least : (o : Option Place) → IsLeastOrNone (λ p. (h : Hit) × Contains (all_hits set us) h × (h.pun ≡ true) × (h.place ≡ p)) o
+  pub pun_least : (o : Option Place) → IsLeastOrNone (λ p. (h : Hit) × Contains (all_hits hs (places us)) h × (h.pun ≡ true) × (h.place ≡ p)) o
       → IsLeastOrNone (λ p. IsHit us foot p × IsPunAt us p) o
   pun_least o l =
-      least_same (λ p. (h : Hit) × Contains (all_hits set us) h × (h.pun ≡ true) × (h.place ≡ p)) (λ p. IsHit us foot p × IsPunAt us p) o
-      (λ p h. kind_down (λ x. x.pun ≡ true) (λ z. (z.pun ≡ true) × (z.place ≡ p)) p (λ z j. (j.1, j.0))
-      (has_contained (λ (z : Hit). (z.pun ≡ true) × (z.place ≡ p)) (all_hits set us) h.0 h.1 (h.2, h.3)))
-      (λ p k. let r = contained_has (λ (z : Hit). (z.pun ≡ true) × (z.place ≡ p)) (all_hits set us)
-      (kind_up (λ x. x.pun ≡ true) (λ z. (z.pun ≡ true) × (z.place ≡ p)) p k.1.0 k.1.1 k.0 k.1.2 (λ z i j. (j, i))) in (r.0, r.1, r.2.0, r.2.1)) l
+      least_same (λ p. (h : Hit) × Contains (all_hits hs (places us)) h × (h.pun ≡ true) × (h.place ≡ p)) (λ p. IsHit us foot p × IsPunAt us p) o
+      (λ p h. kind_down (λ x. x.pun ≡ true) (λ z. (z.pun ≡ true) × (z.place ≡ p)) p (λ q x j. (j.1, j.0))
+      (has_contained (λ (z : Hit). (z.pun ≡ true) × (z.place ≡ p)) (all_hits hs (places us)) h.0 h.1 (h.2, h.3)))
+      (λ p k. let r = contained_has (λ (z : Hit). (z.pun ≡ true) × (z.place ≡ p)) (all_hits hs (places us))
+      (kind_up (λ x. x.pun ≡ true) (λ z. (z.pun ≡ true) × (z.place ≡ p)) p k.1.0 k.1.1 k.0 k.1.2 (λ j. (j, refl))) in (r.0, r.1, r.2.0, r.2.1)) l
 
 -- ---- what outside modules hide
 

@@ -1,13 +1,12 @@
 //! The refusals of a renaming before its new sources are made.
 
-ghost use Rattle.std.specs.Prelude.{◌≡◌, ◌⊎◌, Contains, IfErr, IfOk, OnOk, bytes_eq, true};
+ghost use Rattle.std.specs.Prelude.{◌≡◌, ◌⊎◌, List, Contains, IfErr, IfOk, OnOk, bytes_eq, true};
 ghost use Rattle.std.specs.List.{list_any};
 ghost use Rattle.rotor_base.specs.Name.{is_value_name};
-ghost use Rattle.ml_syntax.specs.Sound.{IsSound};
-ghost use Rattle.ml_trees.specs.View.{view_project};
+ghost use Rattle.ml_trees.specs.Tree.{UnitTree};
 ghost use Rattle.rotor_base.specs.declared.place.Place.{Place};
 ghost use Rattle.binding_model.specs.Facts.{facts as facts_of};
-ghost use Rattle.binding_model.specs.Renaming.{name_of};
+ghost use Rattle.binding_model.specs.Renaming.{name_of, places};
 ghost use Rattle.rename_model.specs.Foot.{hits};
 ghost use Rattle.rename_parts.specs.declared.checks.Hit.{Hit};
 ghost use Rattle.rename_parts.specs.Blurs.{BlursRef, BlursLink};
@@ -15,11 +14,11 @@ ghost use Rattle.rename_parts.specs.Leasts.{IsLeastOrNone};
 ghost use Rattle.shape_core.specs.Places.{HasPlaces};
 ghost use Rattle.rename_steps.specs.Findings.{IsFree, IsRefused, refusal_of};
 
-use ml_trees::Project;
 use rename_parts::{Hit, has_operator, hit_marks, hit_places, least_blurred, least_pun};
 use rotor_base::{Facts, Place, Refusal, Watch, is_name};
 use std::alloc::Global;
 use std::collections::BTreeSet;
+use value_places::PlacedProject;
 use watched::set_of;
 
 /// What is found of a footprint: whether its name is an operator, whether the new name is a value name and whether it
@@ -46,22 +45,20 @@ pub struct Hits {
 /// ensures that `members` is the set of the footprint's members.
 pub fn judge_foot(
     alloc: Global,
-    project: &Project,
+    placed: &PlacedProject<'_>,
     facts: &Facts,
     watch: &Watch,
     members: &BTreeSet<Place>,
 ) -> Result<Hits, Refusal>
-    requires sound { IsSound (view_project project.now) }
-    requires facts { facts.now ≡ facts_of (view_project project.now) }
     requires members { HasPlaces watch.now.foot.decls members.now }
-    ensures list { IfOk result (λ found. found.list.items ≡ hits (facts_of (view_project project.now)).refs watch.now.foot) }
-    ensures set { IfOk result (λ found. HasPlaces (hits (facts_of (view_project project.now)).refs watch.now.foot) found.set) }
-    ensures free { OnOk result ((d : Place) → watch.now.old ≡ name_of (view_project project.now) d → IsFree (view_project project.now) d watch.now.foot watch.now.new) }
-    ensures refused { IfErr result (λ why. (d : Place) → watch.now.old ≡ name_of (view_project project.now) d → IsRefused (view_project project.now) d watch.now.foot watch.now.new why) }
+    ensures list { IfOk result (λ found. found.list.items ≡ hits facts.now.refs watch.now.foot) }
+    ensures set { IfOk result (λ found. HasPlaces (hits facts.now.refs watch.now.foot) found.set) }
+    ensures free { OnOk result ((us : List UnitTree) (d : Place) → placed.now ≡ places us → facts.now ≡ facts_of us → watch.now.old ≡ name_of us d → IsFree us d watch.now.foot watch.now.new) }
+    ensures refused { IfErr result (λ why. (us : List UnitTree) (d : Place) → placed.now ≡ places us → facts.now ≡ facts_of us → watch.now.old ≡ name_of us d → IsRefused us d watch.now.foot watch.now.new why) }
 {
     let list = hit_places(alloc, facts.refs.as_slice(), &watch.foot, members)?;
     let set = set_of(alloc, &list)?;
-    let marks = hit_marks(alloc, project, &list, &set)?;
+    let marks = hit_marks(alloc, placed, &list)?;
     let found = find_all(facts, watch, members, &marks);
     match first_refusal(found) {
         Some(why) => Err(why),

@@ -11,7 +11,7 @@ use Rattle.binding_model.proofs.Naming.{each_ordered}
 use Rattle.binding_model.proofs.Sounds.{found_all}
 use Rattle.binding_model.proofs.Telltale.{apart_of}
 use Rattle.project_reading.proofs.OneReading.{one_project}
-use Rattle.rename_parts.specs.Binders.{binding}
+use Rattle.value_places.specs.Binders.{binding}
 use Rattle.rename_survey.specs.declared.answer.Binder.{Binder}
 use Rattle.rename_survey.specs.Laws.{ListedAreBinders}
 use Rattle.rename_survey.specs.Survey.{binder_of}

@@ -1,3 +1,4 @@
 pub mod Resolved
 pub mod Survey
 pub mod Laws
+pub mod Listed

@@ -12,7 +12,7 @@ use Rattle.binding_model.specs.Renaming.{places}
 use Rattle.capture_check.specs.Fault.{IsMet, before}
 use Rattle.rename_model.specs.Ladder.{no_more}
 use Rattle.rename_model.specs.Project.{IsDuplicate, IsUnmatched}
-use Rattle.rename_parts.specs.Binders.{binding}
+use Rattle.value_places.specs.Binders.{binding}
 use Rattle.rename_survey.specs.declared.answer.Binder.{Binder}
 use Rattle.rename_survey.specs.declared.answer.Survey.{Survey}
 use Rattle.rename_survey.specs.Resolved.{Resolves, Unresolved}

@@ -1,57 +1,40 @@
 //! The binders of a project.
 
-ghost use Rattle.std.specs.Prelude.{◌≡◌, ◌++◌, IfOk, OnOk, Some, map};
-ghost use Rattle.ml_trees.specs.View.{view_project, view_part_of, view_file};
-ghost use Rattle.binding_model.specs.Renaming.{file_places};
-ghost use Rattle.rename_parts.specs.Binders.{binding};
-ghost use Rattle.rename_survey.specs.Survey.{binder_of, binders_of};
+ghost use Rattle.std.specs.Prelude.{◌≡◌, ◌++◌, IfOk, OnOk};
+ghost use Rattle.rename_survey.specs.Listed.{binder_at, binders_in};
 
 use crate::answer::Binder;
-use ml_syntax::binders;
-use ml_trees::{FileTree, Project};
-use rename_parts::number_of_file;
-use rotor_base::{Memory, Place};
+use rotor_base::{Memory, Name, Place};
 use std::alloc::Global;
+use value_places::PlacedProject;
 
 /// All binders of a project, in the order of their places. `Memory` is the only error.
-pub fn list_binders(alloc: Global, project: &Project) -> Result<Vec<Binder>, Memory>
-    ensures { IfOk result (λ list. list.items ≡ binders_of (view_project project.now)) }
+pub fn list_binders(alloc: Global, placed: &PlacedProject<'_>) -> Result<Vec<Binder>, Memory>
+    ensures { IfOk result (λ list. list.items ≡ binders_in placed.now) }
 {
     let mut list = Vec::new(alloc);
-    for unit in &project.units {
-        add_part(alloc, &mut list, &unit.body)?;
-        add_part(alloc, &mut list, &unit.face)?;
+    for place in placed.binders() {
+        add_binder(alloc, &mut list, placed, *place)?;
     }
     list.sort_by_key(|binder| binder.at)?;
     Ok(list)
 }
 
-/// Adds the binders of a part of a unit.
-fn add_part(alloc: Global, list: &mut Vec<Binder>, part: &Option<FileTree>) -> Result<(), Memory>
-    ensures { OnOk result (list.new.items ≡ list.old.items ++ map binder_of (binding (file_places (view_part_of part.now)))) }
+/// Adds what is at a place, if a value is there.
+fn add_binder(
+    alloc: Global,
+    list: &mut Vec<Binder>,
+    placed: &PlacedProject<'_>,
+    place: Place,
+) -> Result<(), Memory>
+    ensures { OnOk result (list.new.items ≡ list.old.items ++ binder_at placed.now place) }
 {
-    match part {
-        None => Ok(()),
-        Some(tree) => add_file(alloc, list, tree),
-    }
-}
-
-/// Adds the binders of a file.
-#[tactic(auto, using(crate::proofs::Listing::file_listed))]
-fn add_file(alloc: Global, list: &mut Vec<Binder>, tree: &FileTree) -> Result<(), Memory>
-    ensures { OnOk result (list.new.items ≡ list.old.items ++ map binder_of (binding (file_places (Some (view_file tree.now))))) }
-{
-    let file = number_of_file(tree);
-    for mark in binders(alloc, tree)? {
-        let at = Place {
-            file,
-            token: mark.token,
-        };
+    if let Some(site) = placed.site_at(place) {
         list.push(Binder {
-            at,
-            name: mark.name,
-            operator: mark.operator,
-            pun: mark.pun,
+            at: place,
+            name: Name::new(alloc, site.name.as_bytes())?,
+            operator: site.operator,
+            pun: site.pun,
         })?;
     }
     Ok(())

@@ -1,20 +1,24 @@
 //! The survey of files.
 
-ghost use Rattle.std.specs.Prelude.{◌≡◌, IfErr, IfOk, Err, Ok};
+ghost use Rattle.std.specs.Prelude.{◌≡◌, List, IfErr, IfOk, Err, Ok};
 ghost use Rattle.ml_syntax.specs.Sound.{IsSound};
+ghost use Rattle.ml_trees.specs.Tree.{UnitTree};
 ghost use Rattle.ml_trees.specs.View.{view_project};
 ghost use Rattle.binding_model.specs.Facts.{facts as facts_of};
+ghost use Rattle.binding_model.specs.Renaming.{places};
 ghost use Rattle.rename_project.specs.Steps.{IsRefusedFor};
-ghost use Rattle.rename_survey.specs.Survey.{IsFirstBad, Surveys};
+ghost use Rattle.rename_survey.specs.Survey.{binders_of, IsFirstBad, Surveys};
 
-use crate::answer::Survey;
+use crate::answer::{Binder, Survey};
 use crate::binders::list_binders;
+use capture_check::first_repeat;
 use ml_trees::Project;
 use project_reading::read_project;
-use rename_parts::{first_duplicate, least_unmatched};
+use rename_parts::least_unmatched;
 use rename_project::resolve_facts;
 use rotor_base::{Facts, Files, Memory, Refusal};
 use std::alloc::Global;
+use value_places::PlacedProject;
 
 /// The survey of the project that files are read as.
 ///
@@ -28,8 +32,7 @@ pub fn survey(alloc: Global, files: &Files) -> Result<Survey, Refusal>
 {
     let read = read_project(alloc, files)?;
     let facts = resolve_facts(alloc, &read.project)?.facts;
-    let bad = first_bad(alloc, &read.project, &facts)?;
-    let binders = list_binders(alloc, &read.project)?;
+    let (binders, bad) = look_over(alloc, &read.project, &facts)?;
     Ok(Survey {
         project: read.project,
         binders,
@@ -38,13 +41,33 @@ pub fn survey(alloc: Global, files: &Files) -> Result<Survey, Refusal>
     })
 }
 
-/// The first of `Duplicate` and `Unmatched` that holds of a project, or none. `Memory` is the only error.
-fn first_bad(alloc: Global, project: &Project, facts: &Facts) -> Result<Option<Refusal>, Memory>
+/// The binders of a project, and its first refusal of `Duplicate` and `Unmatched`, or none. `Memory` is the only error.
+fn look_over(
+    alloc: Global,
+    project: &Project,
+    facts: &Facts,
+) -> Result<(Vec<Binder>, Option<Refusal>), Memory>
     requires sound { IsSound (view_project project.now) }
     requires facts { facts.now ≡ facts_of (view_project project.now) }
-    ensures { IfOk result (IsFirstBad (view_project project.now)) }
+    ensures binders { IfOk result (λ found. found.0.items ≡ binders_of (view_project project.now)) }
+    ensures bad { IfOk result (λ found. IsFirstBad (view_project project.now) found.1) }
 {
-    if let Some(repeat) = first_duplicate(alloc, project, facts.groups.as_slice())? {
+    let placed = PlacedProject::new(alloc, project)?;
+    let bad = first_bad(alloc, &placed, facts)?;
+    let binders = list_binders(alloc, &placed)?;
+    Ok((binders, bad))
+}
+
+/// The first of `Duplicate` and `Unmatched` that holds of a project with these places and facts, or none. `Memory` is the
+/// only error.
+fn first_bad(
+    alloc: Global,
+    placed: &PlacedProject<'_>,
+    facts: &Facts,
+) -> Result<Option<Refusal>, Memory>
+    ensures { (us : List UnitTree) → placed.now ≡ places us → facts.now ≡ facts_of us → IfOk result (IsFirstBad us) }
+{
+    if let Some(repeat) = first_repeat(alloc, placed, facts.groups.as_slice())? {
         return Ok(Some(Refusal::Duplicate {
             first: repeat.first,
             again: repeat.again,

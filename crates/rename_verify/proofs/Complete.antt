@@ -33,7 +33,7 @@ use Rattle.project_reading.proofs.Soundness.{read_is_sound}
 use Rattle.respelled_reading.specs.Renamed.{AreRenamed, GivesValueNames}
 use Rattle.respelled_reading.proofs.Renamed.{changes_places, renamed_files_are_cut, renamed_files_are_read}
 use Rattle.rename_files.specs.Answer.{Accepts}
-use Rattle.rename_parts.specs.Binders.{binding}
+use Rattle.value_places.specs.Binders.{binding}
 use Rattle.rename_respell.specs.Respelled.{AreRespelledBytes, changed, mapped_words}
 use Rattle.rename_respell.proofs.Given.{bytes_same}
 use Rattle.rename_steps.proofs.Having.{Has, has_as, has_mapped, has_filtered, contained_has}

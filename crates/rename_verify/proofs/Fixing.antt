@@ -18,10 +18,10 @@ use Rattle.binding_model.specs.Renaming.{places, at_place, HasBehind, IsBlur, Is
 use Rattle.binding_model.proofs.Sounds.{found_all}
 use Rattle.binding_model.proofs.Telltale.{apart_of}
 use Rattle.rename_parts.specs.declared.checks.Hit.{Hit}
-use Rattle.rename_parts.specs.Hits.{all_hits, hit_of}
+use Rattle.rename_parts.specs.Hits.{all_hits}
 use Rattle.rename_parts.specs.Leasts.{IsLeastOrNone}
 use Rattle.shape_core.specs.Places.{HasPlaces}
-use Rattle.rename_steps.proofs.Found.{set_has, has_set, hits_down, hits_up, site_found}
+use Rattle.rename_steps.proofs.Found.{set_has, has_set, hits_down, hits_up}
 use Rattle.rename_steps.proofs.Having.{Has, has_as, has_mapped, has_unmapped, has_filtered, has_unfiltered, has_contained, contained_has, has_each}
 use Rattle.rename_verify.specs.Changed.{Changed}
 use Rattle.rename_verify.specs.Fixed.{behind, fixed_by, fixed_by_link, fixed_by_ref, fixed_by_use, joined, HasFixedUses, IsHeld, IsLeastHeld}
@@ -58,53 +58,38 @@ fixed_site : (o : Option Site) → IsFixedSite o → (x : Site) × (o ≡ Some x
 fixed_site None h = absurd h
 fixed_site (Some x) h = (x, refl, h)
 
-module _ (us : List UnitTree) (sound : IsSound us) (refs : List Ref) (ps : List Place) (all uses : BTreeSet Place) (marks : List Hit)
-    (fixed : List Place)
-    (ps_are : ps ≡ map (λ r. r.at) refs) (all_has : HasPlaces ps all) (marks_are : marks ≡ all_hits all us)
+module _ (ls : List (Place × Site)) (refs : List Ref) (ps : List Place) (uses : BTreeSet Place) (marks : List Hit) (fixed : List Place)
+    (ps_are : ps ≡ map (λ r. r.at) refs) (marks_are : marks ≡ all_hits ps ls)
     (fixed_are : fixed ≡ map (λ h. h.place) (filter is_fixed marks)) (uses_has : HasPlaces fixed uses) where
   At : Place → Hit → Type 0
   At p h = (h.place ≡ p) × (is_fixed h ≡ true)
 
-  down : (p : Place) → contains place_cmp uses p ≡ true → IsFixedSite (at_place (places us) p)
+  down : (p : Place) → contains place_cmp uses p ≡ true → IsFixedSite (at_place ls p)
   unfolding At
   down p e =
-      let L = places us in
-      let Q : Place × Site → Type 0 = λ z. (z.0 ≡ p) × (z.1.operator || z.1.pun ≡ true) in
       let listed : Contains (map (λ (h : Hit). h.place) (filter is_fixed marks)) p = subst (λ l. Contains l p) fixed_are
       (set_has fixed uses p uses_has e) in
       let hit : Has (λ (h : Hit). h.place ≡ p) (filter is_fixed marks) =
       has_unmapped (λ (h : Hit). h.place) (λ q. q ≡ p) (filter is_fixed marks)
       (has_contained (λ q. q ≡ p) (map (λ (h : Hit). h.place) (filter is_fixed marks)) p listed refl) in
-      let among : Has (At p) (all_hits all us) = subst (Has (At p)) marks_are (has_unfiltered is_fixed (λ (h : Hit). h.place ≡ p) marks hit) in
-      let placed : Has Q L = has_as (λ z. At p (hit_of z) × (contains place_cmp all z.0 ≡ true)) Q L (λ z k. k.0) (hits_down all (At p) us among) in
-      let k = contained_has (λ z. Q z × (at_place L z.0 ≡ Some z.1)) L
-      (has_each Q (λ z. at_place L z.0 ≡ Some z.1) L (found_all L (apart_of us sound)) placed) in
-      let site : at_place L p ≡ Some k.0.1 = subst (λ q. at_place L q ≡ Some k.0.1) k.2.0.0 k.2.1 in
-      subst IsFixedSite (sym site) k.2.0.1
+      let among : Has (At p) (all_hits ps ls) = subst (Has (At p)) marks_are (has_unfiltered is_fixed (λ (h : Hit). h.place ≡ p) marks hit) in
+      let k = hits_down (At p) ls ps among in
+      subst (λ q. IsFixedSite (at_place ls q)) k.4.0 (subst IsFixedSite (sym k.3) k.4.1)
 
-  up : (r : Ref) → Contains refs r → IsFixedSite (at_place (places us) r.at) → contains place_cmp uses r.at ≡ true
+  up : (r : Ref) → Contains refs r → IsFixedSite (at_place ls r.at) → contains place_cmp uses r.at ≡ true
   unfolding At
   up r c h =
-      let L = places us in
-      let x = fixed_site (at_place L r.at) h in
-      let In : Place × Site → Type 0 = λ z. At r.at (hit_of z) × (contains place_cmp all z.0 ≡ true) in
-      let place : Contains ps r.at = subst (λ l. Contains l r.at) (sym ps_are)
-      (let m = contained_has (λ q. q ≡ r.at) (map (λ (s : Ref). s.at) refs)
+      let x = fixed_site (at_place ls r.at) h in
+      let place : Has (λ q. q ≡ r.at) ps = subst (Has (λ q. q ≡ r.at)) (sym ps_are)
       (has_mapped (λ (s : Ref). s.at) (λ q. q ≡ r.at) refs (has_contained (λ (s : Ref). s.at ≡ r.at) refs r c refl)) in
-      subst (Contains (map (λ (s : Ref). s.at) refs)) m.2 m.1) in
-      let asked : contains place_cmp all r.at ≡ true = has_set ps all r.at all_has place in
-      let there : Has In L =
-      has_as (λ z. (z.0 ≡ r.at) × (z.1 ≡ x.0)) In L
-      (λ z k. ((k.0, subst (λ (s : Site). s.operator || s.pun ≡ true) (sym k.1) x.2), subst (λ q. contains place_cmp all q ≡ true) (sym k.0) asked))
-      (site_found L r.at x.0 x.1) in
-      let among : Has (At r.at) marks = subst (Has (At r.at)) (sym marks_are) (hits_up all (At r.at) us there) in
+      let among : Has (At r.at) marks = subst (Has (At r.at)) (sym marks_are) (hits_up (At r.at) ls ps r.at x.0 place x.1 (refl, x.2)) in
       let hit : Has (λ (h : Hit). h.place ≡ r.at) (filter is_fixed marks) = has_filtered is_fixed (λ (h : Hit). h.place ≡ r.at) marks among in
       let m = contained_has (λ q. q ≡ r.at) (map (λ (h : Hit). h.place) (filter is_fixed marks))
       (has_mapped (λ (h : Hit). h.place) (λ q. q ≡ r.at) (filter is_fixed marks) hit) in
       has_set fixed uses r.at uses_has
       (subst (λ l. Contains l r.at) (sym fixed_are) (subst (Contains (map (λ (h : Hit). h.place) (filter is_fixed marks))) m.2 m.1))
 
-  pub has_fixed_uses : HasFixedUses us refs uses
+  pub has_fixed_uses : HasFixedUses ls refs uses
   has_fixed_uses r c = (down r.at, up r c)
 
 -- ---- what references and links fix
@@ -186,7 +171,7 @@ join_blur i s d e h = subst (λ (g : Goal). Contains (joined g s) d) (sym e) (bl
 
 -- ---- free, or held
 
-module _ (us : List UnitTree) (uses : BTreeSet Place) (has : HasFixedUses us (facts us).refs uses) where
+module _ (us : List UnitTree) (uses : BTreeSet Place) (has : HasFixedUses (places us) (facts us).refs uses) where
   abbrev Fs : Facts
   Fs = facts us
 
@@ -245,7 +230,7 @@ module _ (us : List UnitTree) (uses : BTreeSet Place) (has : HasFixedUses us (fa
 abbrev pub Among : List Changed → BTreeSet Place → Place → Type 0
 Among list fixed p = (c : Changed) × Contains list c × (c.0 ≡ p) × (contains place_cmp fixed p ≡ true)
 
-module _ (us : List UnitTree) (uses fixed : BTreeSet Place) (has : HasFixedUses us (facts us).refs uses)
+module _ (us : List UnitTree) (uses fixed : BTreeSet Place) (has : HasFixedUses (places us) (facts us).refs uses)
     (all : HasPlaces (fixed_by uses (facts us)) fixed) (list : List Changed)
     (words : (c : Changed) → Contains list c → IsFixedSite (at_place (places us) c.0) → ⊥) where
   free_if : (p : Place) (b : Bool) → contains place_cmp fixed p ≡ b → (IsFixedSite (at_place (places us) p) → ⊥) → (IsFree us p → ⊥) → b ≡ true

@@ -4,6 +4,7 @@ use Rattle.std.proofs.lemmas.List.{length-map}
 use Rattle.rotor_base.specs.Files.{FileSet, IsProject, names_of}
 use Rattle.rotor_base.specs.declared.place.Facts.{Facts}
 use Rattle.rotor_base.specs.declared.place.Place.{Place}
+use Rattle.ml_syntax.specs.Places.{Site}
 use Rattle.rotor_base.specs.declared.source.SourceFile.{SourceFile}
 use Rattle.ml_lexer.specs.Lexed.{Lexeme}
 use Rattle.ml_syntax.specs.Each.{Each}
@@ -27,7 +28,10 @@ use Rattle.rename_verify.specs.Candidate.{AreLexemesOf, candidate, changes}
 use Rattle.rename_verify.specs.Changed.{Changed}
 use Rattle.rename_verify.specs.Differ.{FilesPartAt}
 use Rattle.rename_verify.specs.Fixed.{IsLeastHeld}
-use Rattle.rename_verify.specs.Steps.{HasFirstFault, HasSpot, IsSameShape, IsSuggested}
+use Rattle.rename_verify.specs.Steps.{HasFirstFault, HasSpot, IsSameShape, IsSuggested, IsSuggestedFor}
+use Rattle.rename_survey.specs.declared.answer.Binder.{Binder}
+use Rattle.rename_survey.specs.Listed.{binders_in}
+use Rattle.rename_survey.proofs.Listing.{all_listed}
 use Rattle.rename_verify.specs.Verdict.{AreChanges, IsBytes, IsFixedAt, IsSources, reasons}
 use Rattle.rename_verify.proofs.Given.{are_binders}
 use Rattle.rename_verify.proofs.Listing.{all_free, least_fixed, not_fixed}
@@ -115,7 +119,10 @@ module _ (old new : FileSet) (us : List UnitTree) (p : IsProject old) (reads : R
 -- the same by what the words of the new files suggest
 module _ (old new : FileSet) (us : List UnitTree) (p : IsProject old) (reads : Reads old us) (light : heavy us ≡ None)
     (names : names_of old.entries ≡ names_of new.entries) (manifest : old.manifest ≡ new.manifest)
-    (m : Renaming) (list : List Changed) (h : IsSuggested us new m list) where
+    (m : Renaming) (list : List Changed) (ls : List (Place × Site)) (at : ls ≡ places us) (g : IsSuggestedFor (binders_in ls) new m list) where
+  h : IsSuggested us new m list
+  h = subst (λ (bs : List Binder). IsSuggestedFor bs new m list) (ap binders_in at ∙ all_listed us (read_is_sound old us p reads)) g
+
   pub names_binders : Each (λ e. IsBinder us e.0) m
   names_binders = subst (λ (r : Renaming). Each (λ e. IsBinder us e.0) r) (sym h.2) (are_binders us (read_is_sound old us p reads) h.0)
 

@@ -25,7 +25,7 @@ use Rattle.binding_model.proofs.Leasts.{place_in}
 use Rattle.parse_module.specs.declared.files.FileKind.{FileKind}
 use Rattle.parse_module.specs.declared.files.FileKind.TheVariants as kind
 use Rattle.parse_module.specs.Whole.{IsOfFile}
-use Rattle.capture_check.specs.Tables as table
+use Rattle.value_places.specs.Placed as table
 use Rattle.ml_trees.specs.Tree.{Body, Face}
 use Rattle.project_reading.specs.Reads.{Reads}
 use Rattle.project_reading.specs.Respelled.{respelled_lists}

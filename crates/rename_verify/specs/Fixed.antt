@@ -8,6 +8,7 @@ use Rattle.rotor_base.specs.declared.place.Link.{Link}
 use Rattle.rotor_base.specs.declared.place.Place.{Place}
 use Rattle.rotor_base.specs.declared.place.Ref.{Ref}
 use Rattle.rotor_base.specs.Place.{place_cmp}
+use Rattle.ml_syntax.specs.Places.{Site}
 use Rattle.ml_trees.specs.Tree.{UnitTree}
 use Rattle.binding_model.specs.Renaming.{places, at_place, IsFixedSite, IsFree}
 use Rattle.rename_model.specs.Ladder.{IsLeast}
@@ -42,12 +43,12 @@ fixed_by_link l = joined l.item l.source ++ behind l.source
 abbrev pub fixed_by : BTreeSet Place → Facts → List Place
 fixed_by uses fs = flat_map (fixed_by_ref uses) fs.refs ++ flat_map fixed_by_link fs.links
 
--- the set has those uses of a project that are operators or puns, and no other
-abbrev pub HasFixedUses : List UnitTree → List Ref → BTreeSet Place → Type 0
-HasFixedUses us refs uses =
+-- the set has those uses that are operators or puns among places, and no other
+abbrev pub HasFixedUses : List (Place × Site) → List Ref → BTreeSet Place → Type 0
+HasFixedUses ps refs uses =
     (r : Ref) → Contains refs r
-    → (contains place_cmp uses r.at ≡ true → IsFixedSite (at_place (places us) r.at))
-    × (IsFixedSite (at_place (places us) r.at) → contains place_cmp uses r.at ≡ true)
+    → (contains place_cmp uses r.at ≡ true → IsFixedSite (at_place ps r.at))
+    × (IsFixedSite (at_place ps r.at) → contains place_cmp uses r.at ≡ true)
 
 -- one of the changed binders is at this place, and may not take another name
 pub record IsHeld (us : List UnitTree) (list : List Changed) (d : Place) : Type 0 where

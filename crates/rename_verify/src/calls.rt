@@ -9,7 +9,7 @@ ghost use Rattle.ml_syntax.specs.Sound.{IsSound};
 ghost use Rattle.ml_trees.specs.Tree.{UnitTree};
 ghost use Rattle.ml_trees.specs.View.{view_project};
 ghost use Rattle.binding_model.specs.Facts.{facts as facts_of};
-ghost use Rattle.binding_model.specs.Renaming.{IsBinder};
+ghost use Rattle.binding_model.specs.Renaming.{IsBinder, places};
 ghost use Rattle.binding_model.specs.Sums.{heavy};
 ghost use Rattle.project_reading.specs.Reads.{Reads};
 ghost use Rattle.project_reading.specs.Sources.{AreCut};
@@ -24,10 +24,11 @@ use crate::names::other_source;
 use crate::verdict::{Verdict, Why};
 use capture_check::{Fault, first_fault};
 use project_reading::{Read, read_project};
-use rename_project::{resolve, resolve_facts};
+use rename_project::{resolve_facts, resolve_placed};
 use rename_respell::respell_read;
 use rotor_base::{Facts, Files, Memory, Refusal};
 use std::alloc::Global;
+use value_places::PlacedProject;
 
 /// Whether a project is a valid respelling of another, by the renaming that gives each binder the word of the same
 /// token in the new sources.
@@ -40,11 +41,12 @@ pub fn verify(alloc: Global, old: &Files, new: &Files) -> Result<Verdict, Refusa
     ensures refused { IfErr result (IsRefusedFor (λ why. Verdicts old.now new.now (Err why))) }
 {
     let read = read_project(alloc, old)?;
-    let facts = resolve(alloc, &read.project)?.facts;
+    let placed = PlacedProject::new(alloc, &read.project)?;
+    let facts = resolve_placed(alloc, &read.project, &placed)?.facts;
     if let Some(name) = other_source(alloc, old, new)? {
         return Ok(Verdict::No(Why::Sources { name }));
     }
-    judge(alloc, old, new, &read, &facts)
+    judge(alloc, old, new, &read, &placed, &facts)
 }
 
 /// The verdict on two projects whose sources have the same names and whose manifests are the same.
@@ -53,11 +55,13 @@ fn judge(
     old: &Files,
     new: &Files,
     read: &Read,
+    placed: &PlacedProject<'_>,
     facts: &Facts,
 ) -> Result<Verdict, Refusal>
     requires reads { Reads old.now (view_project read.now.project) }
     requires project { IsProject old.now }
     requires cut { AreCut old.now.entries (map (λ list. view_tokens list.items) read.now.tokens.items) }
+    requires placed { placed.now ≡ places (view_project read.now.project) }
     requires facts { facts.now ≡ facts_of (view_project read.now.project) }
     requires light { heavy (view_project read.now.project) ≡ None }
     requires names { names_of old.now.entries ≡ names_of new.now.entries }
@@ -65,14 +69,14 @@ fn judge(
     ensures verdict { IfOk result (IsVerdict old.now new.now (view_project read.now.project)) }
     ensures memory { IfErr result (λ why. why ≡ refusal.Memory) }
 {
-    let found = suggest(alloc, &read.project, new)?;
-    if let Some(spot) = other_byte(alloc, old, new, read, facts, &found)? {
+    let found = suggest(alloc, placed, new)?;
+    if let Some(spot) = other_byte(alloc, old, new, read, placed, facts, &found)? {
         return Ok(Verdict::No(Why::Bytes {
             file: spot.file,
             offset: spot.offset,
         }));
     }
-    if let Some(at) = least_fixed(alloc, &read.project, facts, &found.changes)? {
+    if let Some(at) = least_fixed(alloc, placed, facts, &found.changes)? {
         return Ok(Verdict::No(Why::Fixed { at }));
     }
     match broken(alloc, new, facts)? {
@@ -88,17 +92,19 @@ fn other_byte(
     old: &Files,
     new: &Files,
     read: &Read,
+    placed: &PlacedProject<'_>,
     facts: &Facts,
     found: &Suggested,
 ) -> Result<Option<Spot>, Memory>
     requires sound { IsSound (view_project read.now.project) }
     requires cut { AreCut old.now.entries (map (λ list. view_tokens list.items) read.now.tokens.items) }
+    requires placed { placed.now ≡ places (view_project read.now.project) }
     requires facts { facts.now ≡ facts_of (view_project read.now.project) }
     requires binders { Each (λ e. IsBinder (view_project read.now.project) e.0) found.now.names.items }
     requires names { names_of old.now.entries ≡ names_of new.now.entries }
     ensures { IfOk result (HasSpot (view_project read.now.project) found.now.names.items old.now new.now) }
 {
-    let sources = respell_read(alloc, old, read, facts, &found.names)?;
+    let sources = respell_read(alloc, old, read, placed, facts, &found.names)?;
     Ok(first_spot(&sources, new.entries()))
 }
 

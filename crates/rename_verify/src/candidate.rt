@@ -4,16 +4,16 @@ ghost use Rattle.std.specs.Prelude.{◌≡◌, ◌≤◌, All, IfOk, OnOk, lengt
 ghost use Rattle.std.specs.Option.{option_copied};
 ghost use Rattle.rotor_base.specs.Limits.{max_file_bytes};
 ghost use Rattle.ml_lexer.specs.Lexed.{view_tokens};
-ghost use Rattle.ml_trees.specs.View.{view_project};
 ghost use Rattle.rename_verify.specs.Candidate.{AreLexemes, AreLexemesOf, candidate, changes, given_name, if_lower, word_at};
-ghost use Rattle.rename_verify.specs.Steps.{IsSuggested};
+ghost use Rattle.rename_survey.specs.Listed.{binders_in};
+ghost use Rattle.rename_verify.specs.Steps.{IsSuggestedFor};
 
 use crate::verdict::Change;
 use ml_lexer::{LexError, lex};
-use ml_trees::Project;
 use rename_survey::{Binder, list_binders};
 use rotor_base::{Class, Files, Memory, Name, Place, SourceFile, Token};
 use std::alloc::Global;
+use value_places::PlacedProject;
 
 /// What the words of new sources suggest: a name for each binder, and the binders that take another one.
 #[derive(Drop)]
@@ -23,10 +23,10 @@ pub struct Suggested {
 }
 
 /// What the words of new files suggest for the binders of a project. `Memory` is the only error.
-pub fn suggest(alloc: Global, project: &Project, new: &Files) -> Result<Suggested, Memory>
-    ensures { IfOk result (λ found. IsSuggested (view_project project.now) new.now found.names.items found.changes.items) }
+pub fn suggest(alloc: Global, placed: &PlacedProject<'_>, new: &Files) -> Result<Suggested, Memory>
+    ensures { IfOk result (λ found. IsSuggestedFor (binders_in placed.now) new.now found.names.items found.changes.items) }
 {
-    let binders = list_binders(alloc, project)?;
+    let binders = list_binders(alloc, placed)?;
     let lists = lex_all(alloc, new.entries())?;
     name_binders(alloc, &binders, &lists)
 }

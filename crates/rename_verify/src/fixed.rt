@@ -1,10 +1,9 @@
 //! The binders that may not take another name.
 
-ghost use Rattle.std.specs.Prelude.{◌≡◌, ◌++◌, ◌||◌, true, Contains, IfOk, OnOk, filter, map, if◌then◌else◌};
+ghost use Rattle.std.specs.Prelude.{◌≡◌, ◌++◌, ◌||◌, List, true, Contains, IfOk, OnOk, filter, map, if◌then◌else◌};
 ghost use Rattle.std.specs.BTreeSet.{contains};
 ghost use Rattle.rotor_base.specs.Place.{place_cmp};
-ghost use Rattle.ml_syntax.specs.Sound.{IsSound};
-ghost use Rattle.ml_trees.specs.View.{view_project};
+ghost use Rattle.ml_trees.specs.Tree.{UnitTree};
 ghost use Rattle.binding_model.specs.Facts.{earlier, facts as facts_of};
 ghost use Rattle.binding_model.specs.Renaming.{places, at_place, IsFixedSite};
 ghost use Rattle.rename_parts.specs.Leasts.{IsLeastOrNone};
@@ -14,39 +13,39 @@ ghost use Rattle.rename_verify.specs.Fixed.{behind, fixed_by, fixed_by_link, fix
 
 use crate::verdict::Change;
 use capture_check::is_before;
-use ml_trees::Project;
 use rename_parts::{Hit, hit_marks};
 use rotor_base::{Facts, Goal, Link, Memory, Place, Ref};
 use std::alloc::Global;
 use std::collections::BTreeSet;
+use value_places::PlacedProject;
 use watched::set_of;
 
 /// The least of some changed binders that may not take another name: a use of it is an operator, or its word is a label
-/// or a field too; a link joins it with the outside; or an outside module may hide it. `Memory` is the only error.
+/// or a field too; a link joins it with the outside; or an outside module may hide it. The places and the facts are those
+/// of the project. `Memory` is the only error.
 pub fn least_fixed(
     alloc: Global,
-    project: &Project,
+    placed: &PlacedProject<'_>,
     facts: &Facts,
     changes: &[Change],
 ) -> Result<Option<Place>, Memory>
-    requires sound { IsSound (view_project project.now) }
-    requires facts { facts.now ≡ facts_of (view_project project.now) }
-    requires words { (c : Changed) → Contains changes.now c → IsFixedSite (at_place (places (view_project project.now)) c.0) → ⊥ }
-    ensures { IfOk result (IsLeastHeld (view_project project.now) changes.now) }
+    ensures { (us : List UnitTree) → placed.now ≡ places us → facts.now ≡ facts_of us → ((c : Changed) → Contains changes.now c → IsFixedSite (at_place (places us) c.0) → ⊥) → IfOk result (IsLeastHeld us changes.now) }
 {
-    let uses = fixed_uses(alloc, project, facts.refs.as_slice())?;
+    let uses = fixed_uses(alloc, placed, facts.refs.as_slice())?;
     let fixed = fixed_binders(alloc, facts, &uses)?;
     Ok(least_among(changes, &fixed))
 }
 
 /// The references that are operators, or whose word is a label or a field too.
-fn fixed_uses(alloc: Global, project: &Project, refs: &[Ref]) -> Result<BTreeSet<Place>, Memory>
-    requires { IsSound (view_project project.now) }
-    ensures { IfOk result (HasFixedUses (view_project project.now) refs.now) }
+fn fixed_uses(
+    alloc: Global,
+    placed: &PlacedProject<'_>,
+    refs: &[Ref],
+) -> Result<BTreeSet<Place>, Memory>
+    ensures { IfOk result (HasFixedUses placed.now refs.now) }
 {
     let places = places_of(alloc, refs)?;
-    let set = set_of(alloc, &places)?;
-    let marks = hit_marks(alloc, project, &places, &set)?;
+    let marks = hit_marks(alloc, placed, &places)?;
     let fixed = fixed_places(alloc, &marks)?;
     set_of(alloc, &fixed)
 }

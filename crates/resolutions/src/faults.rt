@@ -28,6 +28,7 @@ use rotor_base::{
 };
 use std::alloc::{AllocError, Global};
 use std::collections::BTreeSet;
+use value_places::PlacedProject;
 use watched::set_of;
 
 /// A renaming that is weighed: the places that take the new word, and the first fault by the looks.
@@ -78,7 +79,8 @@ fn weigh(
     requires old { watch.now.old ≡ name_of (view_project project.now) binder }
 {
     let members = set_of(alloc, watch.foot.decls.as_slice())?;
-    let hits = match judge_foot(alloc, project, facts, watch, &members) {
+    let placed = PlacedProject::new(alloc, project)?;
+    let hits = match judge_foot(alloc, &placed, facts, watch, &members) {
         Ok(hits) => hits,
         Err(why) => return Err(why),
     };

@@ -12,9 +12,10 @@ ghost use Rattle.binding_model.specs.Sums.{heavy};
 use dependency_kernel::footprint;
 use ml_trees::Project;
 use project_reading::read_project;
-use rename_project::{find_aim, resolve};
+use rename_project::{find_aim, resolve_placed};
 use rotor_base::{Facts, Files, Name, Place, Refusal, Target, Watch};
 use std::alloc::Global;
+use value_places::PlacedProject;
 
 /// A project, its facts, the place of a binder, and the renaming of its footprint that is watched.
 #[derive(Drop)]
@@ -40,8 +41,10 @@ pub fn watch_target(
     ensures foot { IfOk result (λ found. IsFoot found.facts.links found.binder found.watch.foot) }
 {
     let read = read_project(alloc, files)?;
-    let resolved = resolve(alloc, &read.project)?;
-    let aim = find_aim(alloc, files, &read, &resolved.top, target)?;
+    let placed = PlacedProject::new(alloc, &read.project)?;
+    let resolved = resolve_placed(alloc, &read.project, &placed)?;
+    let aim = find_aim(alloc, files, &read, &placed, &resolved.top, target)?;
+    drop(placed);
     let foot = footprint(alloc, &resolved.facts, aim.place)?;
     let new = Name::new(alloc, name.as_bytes())?;
     Ok(Watched {

@@ -4,7 +4,7 @@ use Rattle.rotor_base.specs.declared.place.Place.{Place}
 use Rattle.name_tables.specs.Names.{at}
 use Rattle.capture_check.specs.declared.fault.Repeat.{Repeat}
 use Rattle.capture_check.specs.Firsts.{repeat_of, lesser}
-use Rattle.capture_check.specs.Tables.{named}
+use Rattle.capture_check.specs.Named.{named}
 use Rattle.capture_check.proofs.Groups.{Scans, scan_more, scan_end}
 use Rattle.capture_check.proofs.repeats.repeat_in.Goals as goal
 

@@ -1,5 +1,5 @@
 use Rattle.name_tables.specs.Names.{at}
-use Rattle.capture_check.specs.Tables.{named}
+use Rattle.capture_check.specs.Named.{named}
 use Rattle.capture_check.proofs.Groups.{Scans}
 use Rattle.capture_check.proofs.repeats.repeat_in.Given as goal
 

@@ -7,7 +7,7 @@ use Rattle.ml_trees.specs.View.{view_project, view_unit}
 use Rattle.ml_syntax.specs.Places.{Site}
 use Rattle.binding_model.specs.Facts.{facts}
 use Rattle.binding_model.specs.Renaming.{places}
-use Rattle.rename_parts.specs.Binders.{binding}
+use Rattle.value_places.specs.Binders.{binding, binder_places}
 use Rattle.rename_project.proofs.Cuts.{length_map}
 use Rattle.explain.proofs.checked.counts_of.Goals as goal
 
@@ -22,13 +22,13 @@ returns c =
     let fs = c.requires.facts in (
       us,
       record { reads = c.requires.reads; none = c.requires.passed },
-      five (length c.entries.result.now) (length c.as_slice.result.now) (length c.as_slice-2.result.now) (length c.as_slice-3.result.now)
-          (length c.as_slice-4.result.now)
+      five (length c.entries.result.now) (length c.as_slice.result.now) (length c.binders.result.now) (length c.as_slice-2.result.now)
+          (length c.as_slice-3.result.now)
           (length c.args.files.now.entries) (length us) (length (binding (places us))) (length (facts us).refs) (length (facts us).links)
           (ap (λ (l : List SourceFile). length l) c.entries.ensures.entries)
           (ap (λ (l : List _). length l) c.as_slice.ensures.value ∙ sym (length_map view_unit c.args.opened.now.read.project.units.items))
-          (ap (λ (l : List Place). length l) c.as_slice-2.ensures.value
-          ∙ (ap (λ (l : List Place). length l) c.in_ok-binders.ensures ∙ length_map (λ (e : Place × Site). e.0) (binding (places us))))
-          (ap (λ (l : List _). length l) (c.as_slice-3.ensures ∙ ap (λ (f : Facts). f.refs) fs))
-          (ap (λ (l : List _). length l) (c.as_slice-4.ensures ∙ ap (λ (f : Facts). f.links) fs)),
+          (ap (λ (l : List Place). length l) (c.binders.ensures ∙ ap binder_places c.in_ok-placed.ensures)
+          ∙ length_map (λ (e : Place × Site). e.0) (binding (places us)))
+          (ap (λ (l : List _). length l) (c.as_slice-2.ensures ∙ ap (λ (f : Facts). f.refs) fs))
+          (ap (λ (l : List _). length l) (c.as_slice-3.ensures ∙ ap (λ (f : Facts). f.links) fs)),
     )

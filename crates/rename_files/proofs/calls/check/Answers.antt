@@ -8,7 +8,7 @@ use Rattle.ml_trees.specs.View.{view_project, view_unit}
 use Rattle.ml_syntax.specs.Places.{Site}
 use Rattle.binding_model.specs.Facts.{facts}
 use Rattle.binding_model.specs.Renaming.{places}
-use Rattle.rename_parts.specs.Binders.{binding}
+use Rattle.value_places.specs.Binders.{binding, binder_places}
 use Rattle.rename_files.specs.Answer.{Rejects}
 use Rattle.rename_project.specs.Steps.{IsRefusedFor}
 use Rattle.rename_project.proofs.Cuts.{length_map}
@@ -28,9 +28,9 @@ returns-in_err-resolved-clause-refused c =
     (rejects c.args.files.now (view_project c.in_ok-read.read.project) c.in_err-resolved.field-0.0 c.in_ok-read.ensures.project
     c.in_err-resolved.ensures.refused)
 
-pub returns-in_err-binders-clause-refused : goal.returns-in_err-binders-clause-refused
-returns-in_err-binders-clause-refused c =
-    stopped c.from_residual-in_err-binders.result refusal.Memory (IsRefusedFor (Rejects c.args.files.now)) c.from_residual-in_err-binders.ensures
+pub returns-in_err-placed-clause-refused : goal.returns-in_err-placed-clause-refused
+returns-in_err-placed-clause-refused c =
+    stopped c.from_residual-in_err-placed.result refusal.Memory (IsRefusedFor (Rejects c.args.files.now)) c.from_residual-in_err-placed.ensures
     (inr refl)
 
 pub returns-clause-counted : goal.returns-clause-counted
@@ -39,13 +39,13 @@ returns-clause-counted c =
     let fs = c.in_ok-resolved.ensures.facts in (
       us,
       record { reads = c.in_ok-read.ensures.project; none = c.in_ok-resolved.ensures.passed },
-      five (length c.entries.result.now) (length c.as_slice.result.now) (length c.as_slice-2.result.now) (length c.as_slice-3.result.now)
-          (length c.as_slice-4.result.now)
+      five (length c.entries.result.now) (length c.as_slice.result.now) (length c.binders.result.now) (length c.as_slice-2.result.now)
+          (length c.as_slice-3.result.now)
           (length c.args.files.now.entries) (length us) (length (binding (places us))) (length (facts us).refs) (length (facts us).links)
           (ap (λ (l : List SourceFile). length l) c.entries.ensures.entries)
           (ap (λ (l : List _). length l) c.as_slice.ensures.value ∙ sym (length_map view_unit c.in_ok-read.read.project.units.items))
-          (ap (λ (l : List Place). length l) c.as_slice-2.ensures.value
-          ∙ (ap (λ (l : List Place). length l) c.in_ok-binders.ensures ∙ length_map (λ (e : Place × Site). e.0) (binding (places us))))
-          (ap (λ (l : List _). length l) (c.as_slice-3.ensures ∙ ap (λ (f : Facts). f.refs) fs))
-          (ap (λ (l : List _). length l) (c.as_slice-4.ensures ∙ ap (λ (f : Facts). f.links) fs)),
+          (ap (λ (l : List Place). length l) (c.binders.ensures ∙ ap binder_places c.in_ok-placed.ensures)
+          ∙ length_map (λ (e : Place × Site). e.0) (binding (places us)))
+          (ap (λ (l : List _). length l) (c.as_slice-2.ensures ∙ ap (λ (f : Facts). f.refs) fs))
+          (ap (λ (l : List _). length l) (c.as_slice-3.ensures ∙ ap (λ (f : Facts). f.links) fs)),
     )

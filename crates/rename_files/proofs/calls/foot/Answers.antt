@@ -1,4 +1,5 @@
-use Rattle.std.proofs.Common.{Err}
+use Rattle.std.proofs.Common.{inr, refl, Err}
+use Rattle.rotor_base.specs.declared.refusal.Refusal.TheVariants as refusal
 use Rattle.ml_trees.specs.View.{view_project}
 use Rattle.rename_files.specs.Answer.{Shows}
 use Rattle.rename_project.specs.Steps.{IsRefusedFor}
@@ -14,3 +15,8 @@ returns-in_err-resolved-clause-refused c =
     c.from_residual-in_err-resolved.ensures
     (not_shown files c.args.target.now e
     (rejects files (view_project c.in_ok-read.read.project) e c.in_ok-read.ensures.project c.in_err-resolved.ensures.refused))
+
+pub returns-in_err-placed-clause-refused : goal.returns-in_err-placed-clause-refused
+returns-in_err-placed-clause-refused c =
+    stopped c.from_residual-in_err-placed.result refusal.Memory (IsRefusedFor (λ why. Shows c.args.files.now c.args.target.now (Err why)))
+    c.from_residual-in_err-placed.ensures (inr refl)

@@ -1,10 +1,7 @@
-use Rattle.std.proofs.Common.{◌≡◌, ◌++◌, drop, map}
-use Rattle.ml_trees.specs.View.{view_unit}
-use Rattle.binding_model.specs.Renaming.{places}
-use Rattle.rename_survey.proofs.Listing.{listed}
+use Rattle.std.proofs.Common.{◌≡◌, flat_map, take}
+use Rattle.rename_survey.specs.Listed.{binder_at}
 use Rattle.rename_survey.proofs.binders.list_binders.Given as goal
 
--- with those of the units that are left, they are all
-abbrev pub invariant-loop-unit : goal.invariant-loop-unit
-invariant-loop-unit l = l.list.items ++ listed (places (map view_unit (drop l.unit-index l.unit-items))) ≡ listed
-    (places (map view_unit l.unit-items))
+-- those of the places so far
+abbrev pub invariant-loop-place : goal.invariant-loop-place
+invariant-loop-place l = l.list.items ≡ flat_map (binder_at l.placed) (take l.place-index l.place-items)

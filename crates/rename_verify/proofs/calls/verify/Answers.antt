@@ -1,4 +1,5 @@
-use Rattle.std.proofs.Common.{inl, subst, Err}
+use Rattle.std.proofs.Common.{inl, inr, refl, subst, Err}
+use Rattle.rotor_base.specs.declared.refusal.Refusal.TheVariants as refusal
 use Rattle.ml_trees.specs.View.{view_project}
 use Rattle.rename_files.specs.Answer.{Accepts}
 use Rattle.rename_files.proofs.Refusals.{rejects}
@@ -28,3 +29,8 @@ returns-clause-verdict c =
     let us = view_project c.in_ok-read.read.project in
     let accepts : Accepts c.args.old.now us = record { reads = c.in_ok-read.ensures.project; none = c.in_ok-facts.ensures.passed } in
     ok_more c.judge.result (IsVerdict c.args.old.now c.args.new.now us) _ (λ verdict h. (us, accepts, h)) c.judge.ensures.verdict
+
+pub returns-in_err-placed-clause-refused : goal.returns-in_err-placed-clause-refused
+returns-in_err-placed-clause-refused c =
+    stopped c.from_residual-in_err-placed.result refusal.Memory (IsRefusedFor (λ e. Verdicts c.args.old.now c.args.new.now (Err e)))
+    c.from_residual-in_err-placed.ensures (inr refl)

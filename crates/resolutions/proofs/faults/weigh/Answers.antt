@@ -10,4 +10,5 @@ local_fault-requires-clause-watched c =
     let d = c.args.binder in
     let w = c.args.watch.now in
     let foot = subst (λ (f : Facts). IsFoot f.links d w.foot) c.requires.facts c.requires.foot in
-    is_watched (view_project c.args.project.now) d w c.requires.sound foot c.requires.binds c.requires.old (c.in-Ok.ensures.free d c.requires.old)
+    is_watched (view_project c.args.project.now) d w c.requires.sound foot c.requires.binds c.requires.old
+    (c.in-Ok.ensures.free (view_project c.args.project.now) d c.in_ok-placed.ensures c.requires.facts c.requires.old)

@@ -1,0 +1,3 @@
+pub mod FileSites
+pub mod Searches
+pub mod Units
