@@ -6,6 +6,7 @@ Usage: scripts/check_docs.py [TOP]
 Links and anchors that lead nowhere; names and paths in back quotes that the repository lacks; counts that differ from the
 files; crates that crates.txt lacks; pages and sentences that are too long; lists that their scripts would write otherwise.
 """
+import collections
 import glob
 import os
 import re
@@ -104,6 +105,14 @@ def check_count(page, text, pattern, there, what):
             found.append(f"{page}: {count} {what}, and there are {there}")
 
 
+def counts_of_kinds(drivers):
+    """For each kind of these drivers, the pattern of its count, its number of rows, and what these are."""
+    for driver in drivers:
+        kinds = collections.Counter(row.split("|")[0] for row in read(f"crates/{driver}/stdin").splitlines())
+        for kind, count in kinds.items():
+            yield rf"^\| `{driver}` \| .*?([\d,]+) (?:rows )?`{kind}`", count, f"rows of the kind {kind}"
+
+
 def check_counts(texts):
     edits = len(glob.glob("crates/*/must-fail/*.edit"))
     plants = len(glob.glob("plants/*/*.edit"))
@@ -117,11 +126,8 @@ def check_counts(texts):
         (r"^\| `rows` \| ([\d,]+) rows", len(re.findall(r"^run$", read("crates/rows/stdin"), re.M)), "rows"),
         (r"^\| `resolutions` \| ([\d,]+) folders", len(re.findall(r"^end$", resolutions, re.M)), "folders"),
         (r"^\| `resolutions` \| .* with ([\d,]+) requests", requests, "requests"),
-        (r"^\| `texts` \| ([\d,]+) lines", lines_of(["crates/texts/stdin"]), "lines"),
         (r"^\| `trees` \| ([\d,]+) rows", lines_of(["crates/trees/stdout"]), "rows of trees"),
-        (r"^\| `text_rows` \| ([\d,]+) rows", lines_of(["crates/text_rows/stdin"]), "rows of text_rows"),
-        (r"^\| `sentence_rows` \| ([\d,]+) rows", lines_of(["crates/sentence_rows/stdin"]), "rows of sentence_rows"),
-        (r"^\| `editor_rows` \| ([\d,]+) rows", lines_of(["crates/editor_rows/stdin"]), "rows of editor_rows"),
+        *counts_of_kinds(["text_rows", "folder_rows"]),
     ]:
         if not re.search(pattern, texts[page], re.M):
             found.append(f"{page}: no count of {what}")

@@ -1,0 +1,87 @@
+//! The lines of `batch`, `verify` and `recover`, as the rows give them.
+
+use crate::pieces::number;
+use crate::reports::outcome::long;
+use crate::reports::refusal::{place, refusal};
+use report::{
+    bad_batch_text, bad_list_text, bad_plan_text, batch_line, changed_line, files_line, fixed_text,
+    nothing_text, other_byte_text, other_sources_text, pending_text, push_line, recovered_text,
+    step_line, stopped_text, undo_line, verified_line,
+};
+use rotor_base::{Memory, Name, Row};
+use std::alloc::Global;
+
+/// A line of `batch`, if the pieces are one.
+pub fn batch_text(
+    alloc: Global,
+    names: &[String],
+    pieces: &[&str],
+) -> Result<Option<Vec<u8>>, Memory> {
+    let text = match pieces {
+        ["steps", count] => ended(alloc, batch_line(alloc, long(count))?)?,
+        ["step", old, new, at] => {
+            let (old, new) = (name(alloc, old)?, name(alloc, new)?);
+            ended(alloc, step_line(alloc, names, &old, &new, place(at))?)?
+        }
+        ["files", count] => ended(alloc, files_line(alloc, long(count))?)?,
+        ["undo", at, old] => {
+            let old = name(alloc, old)?;
+            ended(alloc, undo_line(alloc, names, place(at), &old)?)?
+        }
+        ["stopped", step, why @ ..] => match refusal(alloc, why)? {
+            Some(why) => stopped_text(alloc, names, number(step), &why)?,
+            None => return Ok(None),
+        },
+        ["bad", line] => bad_batch_text(alloc, number(line))?,
+        _ => return Ok(None),
+    };
+    Ok(Some(text))
+}
+
+/// A line of `verify`, if the pieces are one.
+pub fn verify_text(
+    alloc: Global,
+    names: &[String],
+    pieces: &[&str],
+) -> Result<Option<Vec<u8>>, Memory> {
+    let text = match pieces {
+        ["changes", count] => ended(alloc, verified_line(alloc, long(count))?)?,
+        ["change", at, old, new] => {
+            let (old, new) = (name(alloc, old)?, name(alloc, new)?);
+            ended(alloc, changed_line(alloc, names, place(at), &old, &new)?)?
+        }
+        ["sources", other] => {
+            let other = name(alloc, other)?;
+            other_sources_text(alloc, &other)?
+        }
+        ["byte", file, offset] => other_byte_text(alloc, names, number(file), number(offset))?,
+        ["fixed", at] => fixed_text(alloc, names, place(at))?,
+        ["bad", list, line] => bad_list_text(alloc, list, number(line))?,
+        _ => return Ok(None),
+    };
+    Ok(Some(text))
+}
+
+/// A line of `recover` or of an open gate, if the pieces are one.
+pub fn recover_text(alloc: Global, pieces: &[&str]) -> Result<Option<Vec<u8>>, Memory> {
+    let text = match pieces {
+        ["files", count] => recovered_text(alloc, long(count))?,
+        ["nothing"] => nothing_text(alloc)?,
+        ["noplan"] => bad_plan_text(alloc)?,
+        ["pending"] => pending_text(alloc, false)?,
+        ["pending", "json"] => pending_text(alloc, true)?,
+        _ => return Ok(None),
+    };
+    Ok(Some(text))
+}
+
+/// A line with its end.
+fn ended(alloc: Global, line: Row<u8>) -> Result<Vec<u8>, Memory> {
+    let mut text = Vec::new(alloc);
+    push_line(&mut text, &[line.as_slice()])?;
+    Ok(text)
+}
+
+fn name(alloc: Global, text: &str) -> Result<Name, Memory> {
+    Name::new(alloc, text.as_bytes())
+}

@@ -1,0 +1,93 @@
+//! Outcomes, as the rows give them.
+
+use crate::pieces::number;
+use crate::reports::refusal::{load_error, place, place_or_none, refusal};
+use rotor_base::{
+    Counts, Files, Foot, FootReport, LoadError, Memory, Name, Outcome, Place, Renamed, Row,
+    SampleReport, make_files,
+};
+use std::alloc::Global;
+
+/// The outcome of some pieces, if they are one.
+pub fn outcome(alloc: Global, pieces: &[&str]) -> Result<Option<Outcome>, Memory> {
+    let outcome = match pieces {
+        ["badwords"] => Outcome::BadWords,
+        ["checked", files, units, declarations, references, links] => Outcome::Checked(Counts {
+            files: long(files),
+            units: long(units),
+            declarations: long(declarations),
+            references: long(references),
+            links: long(links),
+        }),
+        ["sampled", units, footprint, references, undone] => Outcome::Sampled(SampleReport {
+            units: number(units),
+            footprint: long(footprint),
+            references: long(references),
+            undone: *undone == "undone",
+        }),
+        ["shown", old, references, outside, places @ ..] => Outcome::Shown(FootReport {
+            old: Name::new(alloc, old.as_bytes())?,
+            foot: foot(alloc, places, place_or_none(outside))?,
+            refs: long(references),
+        }),
+        ["done", old, new, references, undo, places @ ..] => {
+            Outcome::Done(renamed(alloc, old, new, references, undo, places)?)
+        }
+        pieces => return refused(alloc, pieces),
+    };
+    Ok(Some(outcome))
+}
+
+fn refused(alloc: Global, pieces: &[&str]) -> Result<Option<Outcome>, Memory> {
+    if let Some(error) = load_error(alloc, pieces)? {
+        return Ok(Some(Outcome::NotLoaded(error)));
+    }
+    match refusal(alloc, pieces)? {
+        Some(why) => Ok(Some(Outcome::Refused(why))),
+        None => Ok(None),
+    }
+}
+
+/// A renaming. Each of its declarations is in a file of its own.
+fn renamed(
+    alloc: Global,
+    old: &str,
+    new: &str,
+    references: &str,
+    undo: &str,
+    places: &[&str],
+) -> Result<Renamed, Memory> {
+    let mut changed = Row::new(alloc);
+    for text in places {
+        changed.push(place(text).file)?;
+    }
+    Ok(Renamed {
+        files: no_files(alloc)?,
+        changed,
+        old: Name::new(alloc, old.as_bytes())?,
+        new: Name::new(alloc, new.as_bytes())?,
+        foot: foot(alloc, places, None)?,
+        refs: long(references),
+        undo_at: place(undo),
+    })
+}
+
+fn foot(alloc: Global, places: &[&str], outside: Option<Place>) -> Result<Foot, Memory> {
+    let mut decls = Row::new(alloc);
+    for text in places {
+        decls.push(place(text))?;
+    }
+    Ok(Foot { decls, outside })
+}
+
+/// A project of no files.
+fn no_files(alloc: Global) -> Result<Files, Memory> {
+    match make_files(alloc, Vec::new(alloc), None) {
+        Ok(files) => Ok(files),
+        Err(_) => Err(Memory),
+    }
+}
+
+pub fn long(text: &str) -> u64 {
+    text.parse::<u64>().unwrap_or(0)
+}
