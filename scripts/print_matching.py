@@ -326,7 +326,7 @@ def main():
         imports("Rattle.ml_trees.proofs.Words", used(SYNTAX / "Events.antt", SYNTAX / "Words.antt", PROOFS / "Words.antt")),
         imports("Rattle.ml_trees.specs.WellFormed", used(SYNTAX / "WellFormed.antt")),
         imports("Rattle.ml_trees.specs.Tree", trees),
-        "use Rattle.parse_base.specs.Matching.{is_apart, open_ins}",
+        "use Rattle.token_reading.specs.Matching.{is_apart, open_ins}",
         imports("Rattle.matched_lets.proofs.SmallParts", small),
     ])
     print(head + "\n\n" + body)

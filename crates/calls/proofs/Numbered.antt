@@ -9,9 +9,9 @@ use Rattle.ml_trees.specs.Words.{expr_words}
 use Rattle.ml_syntax.specs.Sound.{AreNumbered, IsWithinFile}
 use Rattle.ml_syntax.proofs.RespelledNames.{lexemes_are_numbered}
 use Rattle.ml_syntax.proofs.SoundFiles.{parts_are_numbered}
-use Rattle.parse_base.specs.Tokens.{from}
-use Rattle.parse_base.proofs.Ends.{from_length}
-use Rattle.parse_base.proofs.Places.{from_drop}
+use Rattle.token_reading.specs.Tokens.{from}
+use Rattle.token_reading.proofs.Ends.{from_length}
+use Rattle.token_reading.proofs.Places.{from_drop}
 use Rattle.project_reading.proofs.Tokens.{toks_same}
 
 pub within : (bytes : List ℕ) (ts : List Token) (n : ℕ) (e : Expr) (rest : List Tok) → Lexed bytes (view_tokens ts) → length ts ≤ 1000

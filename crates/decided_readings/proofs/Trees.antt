@@ -4,14 +4,15 @@ use Rattle.ml_trees.specs.Tok.{Tok}
 use Rattle.ml_trees.specs.Tree.{Items, SigItems, FileTree, Body, Face}
 use Rattle.ml_trees.specs.Words.{words}
 use Rattle.ml_trees.specs.WellFormed.{WfFile}
-use Rattle.parse_base.proofs.Stepping.{from_some}
+use Rattle.token_reading.proofs.Stepping.{from_some}
 use Rattle.parse_module.specs.declared.files.FileKind.{FileKind}
 use Rattle.parse_module.specs.declared.files.FileKind.TheVariants as kind
-use Rattle.parse_module.specs.ModReading.{read_body, read_face, whole_body, whole_face}
+use Rattle.module_reading.specs.ModReading.{read_body, read_face, whole_body, whole_face}
 use Rattle.parse_module.specs.Parts.{read_file}
-use Rattle.parse_module.specs.Whole.{AreOfOneKind, IsOfFile, IsTreeOf, HasNoTree}
-use Rattle.parse_module.proofs.FoundMod.{body_found, face_found}
-use Rattle.parse_module.proofs.LawsMod.{one_file_reading, body_none, face_none}
+use Rattle.module_reading.specs.OneReading.{AreOfOneKind}
+use Rattle.parse_module.specs.Whole.{IsOfFile, IsTreeOf, HasNoTree}
+use Rattle.module_laws.proofs.FoundMod.{body_found, face_found}
+use Rattle.module_laws.proofs.LawsMod.{one_file_reading, body_none, face_none}
 
 body_by : (file : ℕ) (m : Items × List Tok) (t : FileTree) → whole_body file m ≡ Some t → IsOfFile kind.Body file t
 body_by file (is, []) t e = from_some (IsOfFile kind.Body file) e refl

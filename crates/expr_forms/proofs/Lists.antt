@@ -7,7 +7,7 @@ use Rattle.ml_trees.specs.declared.fixed.Fixed.TheVariants as key
 use Rattle.ml_trees.specs.Tok.{Tok, placed, word}
 use Rattle.ml_trees.specs.Tree as pure
 use Rattle.ml_trees.specs.View.{params, view_words}
-use Rattle.parse_base.specs.Steps.{◌>>=◌, expect, expect_at}
+use Rattle.token_reading.specs.Steps.{◌>>=◌, expect, expect_at}
 use Rattle.expr_reading.specs.declared.wanted.Wanted.TheVariants as wanted
 use Rattle.expr_reading.specs.ExprReading.{read_expr, bound, plain_binding, named_binding, fun_end, types_end, wrapped_param, let_module}
 use Rattle.expr_forms.specs.Forms.{wrapped_label, module_named}

@@ -4,8 +4,8 @@ use Rattle.ml_trees.specs.declared.fixed.Fixed.TheVariants as key
 use Rattle.ml_trees.specs.Tok.{Name, Tok, placed}
 use Rattle.ml_trees.specs.Tree.{Pat, Expr, LetModule, Param, DefaultParam}
 use Rattle.ml_trees.specs.View.{view}
-use Rattle.parse_base.specs.Steps.{Read, ◌>>=◌, expect, expect_at}
-use Rattle.parse_base.specs.Pieces.{lower_word, optional_type}
+use Rattle.token_reading.specs.Steps.{Read, ◌>>=◌, expect, expect_at}
+use Rattle.token_reading.specs.Pieces.{lower_word, optional_type}
 use Rattle.expr_reading.specs.declared.wanted.Wanted.TheVariants as wanted
 use Rattle.expr_reading.specs.ExprReading.{Otherwise, last_branch, read_expr, read_local, wrapped_end}
 use Rattle.expr_forms.specs.declared.branches.Otherwise.{Otherwise as Behind}

@@ -4,19 +4,19 @@ ghost use Rattle.std.specs.Prelude.{◌≤◌, length, Some};
 ghost use Rattle.rotor_base.specs.Limits.{max_file_bytes};
 ghost use Rattle.ml_trees.specs.Tree as pure;
 ghost use Rattle.ml_trees.specs.View.{view, view_name, view_type, view_pat, view_binding, bindings, params};
-ghost use Rattle.parse_base.specs.Steps.{many, always};
-ghost use Rattle.parse_base.specs.Gives.{Gives};
-ghost use Rattle.parse_base.specs.Tokens.{from};
+ghost use Rattle.token_reading.specs.Steps.{many, always};
+ghost use Rattle.token_reading.specs.Gives.{Gives};
+ghost use Rattle.token_reading.specs.Tokens.{from};
 ghost use Rattle.expr_reading.specs.ExprReading as r;
 ghost use Rattle.expr_reading.specs.ExprReading.{read_expr};
-ghost use Rattle.expr_forms.specs.Reads.{Nests};
+ghost use Rattle.expr_parts.specs.Reads.{Nests};
 
-use crate::grammar::Grammar;
+use crate::readers::Forms;
 use expr_parts::push_boxed;
 use expr_reading::Wanted;
 use ml_trees::{Binding, Expr, Fixed, Param, Pat, Run, ValueName};
-use parse_base::{ReadError, TokenTable, expect, expect_at, optional_type, value_name};
 use std::alloc::Global;
+use token_reading::{ReadError, TokenTable, expect, expect_at, optional_type, value_name};
 
 impl<
     F: Copy
@@ -28,22 +28,22 @@ impl<
             Wanted,
             usize,
         ) -> Result<(Box<Expr>, usize), ReadError>,
-> Grammar<F> {
+> Forms<F> {
     /// A type or none, `=` and an expression.
     #[tactic(auto, unfolding(expr_reading::specs::ExprReading::bound))]
     #[inline(never)]
-    pub fn bound(
+    pub fn read_bound(
         &self,
         tokens: &TokenTable<'_>,
         at: usize,
     ) -> Result<((Option<Run>, u32, Box<Expr>), usize), ReadError>
-        requires nests { Nests self.now.depth (F.pre self.now.sub) (F.post self.now.sub) }
+        requires nests { Nests self.now.grammar.depth (F.pre self.now.grammar.sub) (F.post self.now.grammar.sub) }
         requires few { length tokens.now ≤ max_file_bytes }
-        ensures { Gives (λ x. ((view_type x.0.0, x.0.1, view x.0.2.value), from tokens.now x.1)) result (r.bound (read_expr self.now.depth) self.now.depth (from tokens.now at)) }
+        ensures { Gives (λ x. ((view_type x.0.0, x.0.1, view x.0.2.value), from tokens.now x.1)) result (r.bound (read_expr self.now.grammar.depth) self.now.grammar.depth (from tokens.now at)) }
     {
-        let (run, at) = optional_type(self.alloc, tokens, at)?;
+        let (run, at) = optional_type(self.grammar.alloc, tokens, at)?;
         let (equals, at) = expect_at(tokens, Fixed::Equals, at)?;
-        let (value, at) = self.sub(tokens, Wanted::Sequence, at)?;
+        let (value, at) = self.grammar.sub(tokens, Wanted::Sequence, at)?;
         Ok(((run, equals, value), at))
     }
 
@@ -55,13 +55,13 @@ impl<
         tokens: &TokenTable<'_>,
         at: usize,
     ) -> Result<(Box<Binding>, usize), ReadError>
-        requires nests { Nests self.now.depth (F.pre self.now.sub) (F.post self.now.sub) }
+        requires nests { Nests self.now.grammar.depth (F.pre self.now.grammar.sub) (F.post self.now.grammar.sub) }
         requires few { length tokens.now ≤ max_file_bytes }
-        ensures { Gives (λ x. (view_binding x.0.value, from tokens.now x.1)) result (r.plain_binding (read_expr self.now.depth) self.now.depth (from tokens.now at)) }
+        ensures { Gives (λ x. (view_binding x.0.value, from tokens.now x.1)) result (r.plain_binding (read_expr self.now.grammar.depth) self.now.grammar.depth (from tokens.now at)) }
     {
         let (pat, at) = self.boxed_pattern(tokens, at)?;
-        let ((run, equals, value), at) = self.bound(tokens, at)?;
-        Ok((plain(self.alloc, pat, run, equals, value)?, at))
+        let ((run, equals, value), at) = self.read_bound(tokens, at)?;
+        Ok((make_plain(self.grammar.alloc, pat, run, equals, value)?, at))
     }
 
     /// After a name and the parameters behind it: what it is bound to, or, if there are none, the whole from `start`
@@ -76,15 +76,18 @@ impl<
         given: Vec<Param>,
         at: usize,
     ) -> Result<(Box<Binding>, usize), ReadError>
-        requires nests { Nests self.now.depth (F.pre self.now.sub) (F.post self.now.sub) }
+        requires nests { Nests self.now.grammar.depth (F.pre self.now.grammar.sub) (F.post self.now.grammar.sub) }
         requires few { length tokens.now ≤ max_file_bytes }
-        ensures { Gives (λ x. (view_binding x.0.value, from tokens.now x.1)) result (r.named_binding (read_expr self.now.depth) self.now.depth (from tokens.now start) (view_name name) (params given.items) (from tokens.now at)) }
+        ensures { Gives (λ x. (view_binding x.0.value, from tokens.now x.1)) result (r.named_binding (read_expr self.now.grammar.depth) self.now.grammar.depth (from tokens.now start) (view_name name) (params given.items) (from tokens.now at)) }
     {
         if given.len() == 0 {
             return self.plain_binding(tokens, start);
         }
-        let ((run, equals, value), at) = self.bound(tokens, at)?;
-        Ok((named(self.alloc, name, given, run, equals, value)?, at))
+        let ((run, equals, value), at) = self.read_bound(tokens, at)?;
+        Ok((
+            make_named(self.grammar.alloc, name, given, run, equals, value)?,
+            at,
+        ))
     }
 
     /// A binding.
@@ -95,11 +98,11 @@ impl<
         tokens: &TokenTable<'_>,
         at: usize,
     ) -> Result<(Box<Binding>, usize), ReadError>
-        requires nests { Nests self.now.depth (F.pre self.now.sub) (F.post self.now.sub) }
+        requires nests { Nests self.now.grammar.depth (F.pre self.now.grammar.sub) (F.post self.now.grammar.sub) }
         requires few { length tokens.now ≤ max_file_bytes }
-        ensures { Gives (λ x. (view_binding x.0.value, from tokens.now x.1)) result (r.binding (read_expr self.now.depth) self.now.depth (from tokens.now at)) }
+        ensures { Gives (λ x. (view_binding x.0.value, from tokens.now x.1)) result (r.binding (read_expr self.now.grammar.depth) self.now.grammar.depth (from tokens.now at)) }
     {
-        match value_name(self.alloc, tokens, at) {
+        match value_name(self.grammar.alloc, tokens, at) {
             Ok((name, after)) => {
                 let (given, after) = self.more_params(tokens, after)?;
                 self.named_binding(tokens, at, name, given, after)
@@ -116,9 +119,9 @@ impl<
         tokens: &TokenTable<'_>,
         at: usize,
     ) -> Result<(Box<Binding>, usize), ReadError>
-        requires nests { Nests self.now.depth (F.pre self.now.sub) (F.post self.now.sub) }
+        requires nests { Nests self.now.grammar.depth (F.pre self.now.grammar.sub) (F.post self.now.grammar.sub) }
         requires few { length tokens.now ≤ max_file_bytes }
-        ensures { Gives (λ x. (view_binding x.0.value, from tokens.now x.1)) result (r.next_binding (read_expr self.now.depth) self.now.depth (from tokens.now at)) }
+        ensures { Gives (λ x. (view_binding x.0.value, from tokens.now x.1)) result (r.next_binding (read_expr self.now.grammar.depth) self.now.grammar.depth (from tokens.now at)) }
     {
         let at = expect(tokens, Fixed::And, at)?;
         self.binding(tokens, at)
@@ -131,13 +134,13 @@ impl<
         tokens: &TokenTable<'_>,
         at: usize,
     ) -> Result<(Vec<Binding>, usize), ReadError>
-        requires nests { Nests self.now.depth (F.pre self.now.sub) (F.post self.now.sub) }
+        requires nests { Nests self.now.grammar.depth (F.pre self.now.grammar.sub) (F.post self.now.grammar.sub) }
         requires few { length tokens.now ≤ max_file_bytes }
-        ensures { Gives (λ x. (bindings x.0.items, from tokens.now x.1)) result (Some (many pure.no_binding pure.more_binding always (r.next_binding (read_expr self.now.depth) self.now.depth) self.now.depth (from tokens.now at))) }
+        ensures { Gives (λ x. (bindings x.0.items, from tokens.now x.1)) result (Some (many pure.no_binding pure.more_binding always (r.next_binding (read_expr self.now.grammar.depth) self.now.grammar.depth) self.now.grammar.depth (from tokens.now at))) }
     {
-        let mut found = Vec::new(self.alloc);
+        let mut found = Vec::new(self.grammar.alloc);
         let mut at = at;
-        for _turn in 0..self.depth {
+        for _turn in 0..self.grammar.depth {
             match self.next_binding(tokens, at) {
                 Ok((next, after)) => {
                     push_boxed(&mut found, next)?;
@@ -158,9 +161,9 @@ impl<
         tokens: &TokenTable<'_>,
         at: usize,
     ) -> Result<((Box<Binding>, Vec<Binding>), usize), ReadError>
-        requires nests { Nests self.now.depth (F.pre self.now.sub) (F.post self.now.sub) }
+        requires nests { Nests self.now.grammar.depth (F.pre self.now.grammar.sub) (F.post self.now.grammar.sub) }
         requires few { length tokens.now ≤ max_file_bytes }
-        ensures { Gives (λ x. ((view_binding x.0.0.value, bindings x.0.1.items), from tokens.now x.1)) result (r.bindings (read_expr self.now.depth) self.now.depth (from tokens.now at)) }
+        ensures { Gives (λ x. ((view_binding x.0.0.value, bindings x.0.1.items), from tokens.now x.1)) result (r.bindings (read_expr self.now.grammar.depth) self.now.grammar.depth (from tokens.now at)) }
     {
         let (first, at) = self.binding(tokens, at)?;
         let (rest, at) = self.more_bindings(tokens, at)?;
@@ -171,7 +174,7 @@ impl<
 /// A pattern and what it is bound to.
 #[tactic(auto, using(ml_trees::proofs::Variants::binding_views))]
 #[inline(never)]
-fn plain(
+fn make_plain(
     alloc: Global,
     pat: Box<Pat>,
     run: Option<Run>,
@@ -196,7 +199,7 @@ fn plain(
 /// A name with parameters and what it is bound to.
 #[tactic(auto, using(ml_trees::proofs::Variants::binding_views))]
 #[inline(never)]
-fn named(
+fn make_named(
     alloc: Global,
     name: ValueName,
     given: Vec<Param>,

@@ -4,20 +4,20 @@ ghost use Rattle.std.specs.Prelude.{◌≤◌, ◌<◌, ◌+◌, length, Some};
 ghost use Rattle.rotor_base.specs.Limits.{max_file_bytes};
 ghost use Rattle.ml_trees.specs.Tree as pure;
 ghost use Rattle.ml_trees.specs.View.{view, tail};
-ghost use Rattle.parse_base.specs.Steps.{many};
-ghost use Rattle.parse_base.specs.Gives.{Gives};
-ghost use Rattle.parse_base.specs.Tokens.{from};
+ghost use Rattle.token_reading.specs.Steps.{many};
+ghost use Rattle.token_reading.specs.Gives.{Gives};
+ghost use Rattle.token_reading.specs.Tokens.{from};
 ghost use Rattle.expr_reading.specs.ExprReading as r;
 ghost use Rattle.expr_reading.specs.ExprReading.{read_expr};
-ghost use Rattle.expr_forms.specs.Reads.{Nests};
+ghost use Rattle.expr_parts.specs.Reads.{Nests};
 ghost use Rattle.expr_forms.specs.Forms.{otherwise_of};
 
-use crate::grammar::Grammar;
+use crate::readers::Forms;
 use expr_parts::{Edge, on_edge};
 use expr_reading::Wanted;
 use ml_trees::{Branch, Expr, Fixed};
-use parse_base::{ReadError, TokenTable, expect, is, number};
 use std::alloc::Global;
+use token_reading::{ReadError, TokenTable, expect, has_fixed, number};
 
 /// What follows an `else`.
 #[derive(Drop)]
@@ -36,7 +36,7 @@ impl<
             Wanted,
             usize,
         ) -> Result<(Box<Expr>, usize), ReadError>,
-> Grammar<F> {
+> Forms<F> {
     /// A condition, `then` and a branch.
     #[tactic(auto, unfolding(expr_reading::specs::ExprReading::then_branch))]
     #[inline(never)]
@@ -45,13 +45,13 @@ impl<
         tokens: &TokenTable<'_>,
         at: usize,
     ) -> Result<((Box<Expr>, Box<Expr>), usize), ReadError>
-        requires nests { Nests self.now.depth (F.pre self.now.sub) (F.post self.now.sub) }
+        requires nests { Nests self.now.grammar.depth (F.pre self.now.grammar.sub) (F.post self.now.grammar.sub) }
         requires few { length tokens.now ≤ max_file_bytes }
-        ensures { Gives (λ x. ((view x.0.0.value, view x.0.1.value), from tokens.now x.1)) result (r.then_branch (read_expr self.now.depth) self.now.depth (from tokens.now at)) }
+        ensures { Gives (λ x. ((view x.0.0.value, view x.0.1.value), from tokens.now x.1)) result (r.then_branch (read_expr self.now.grammar.depth) self.now.grammar.depth (from tokens.now at)) }
     {
-        let (test, at) = self.sub(tokens, Wanted::Sequence, at)?;
+        let (test, at) = self.grammar.sub(tokens, Wanted::Sequence, at)?;
         let at = expect(tokens, Fixed::Then, at)?;
-        let (then, at) = self.sub(tokens, Wanted::Expression, at)?;
+        let (then, at) = self.grammar.sub(tokens, Wanted::Expression, at)?;
         Ok(((test, then), at))
     }
 
@@ -63,12 +63,12 @@ impl<
         tokens: &TokenTable<'_>,
         at: usize,
     ) -> Result<(Otherwise, usize), ReadError>
-        requires nests { Nests self.now.depth (F.pre self.now.sub) (F.post self.now.sub) }
+        requires nests { Nests self.now.grammar.depth (F.pre self.now.grammar.sub) (F.post self.now.grammar.sub) }
         requires few { length tokens.now ≤ max_file_bytes }
-        ensures { Gives (λ x. (otherwise_of x.0, from tokens.now x.1)) result (r.else_branch (read_expr self.now.depth) self.now.depth (from tokens.now at)) }
+        ensures { Gives (λ x. (otherwise_of x.0, from tokens.now x.1)) result (r.else_branch (read_expr self.now.grammar.depth) self.now.grammar.depth (from tokens.now at)) }
     {
         let at = expect(tokens, Fixed::Else, at)?;
-        if is(tokens, Fixed::If, at) {
+        if has_fixed(tokens, Fixed::If, at) {
             let ((test, then), after) = self.then_branch(tokens, at + 1)?;
             let branch = Branch {
                 at: number(at),
@@ -77,7 +77,7 @@ impl<
             };
             return Ok((Otherwise::If(branch), after));
         }
-        let (last, at) = self.sub(tokens, Wanted::Expression, at)?;
+        let (last, at) = self.grammar.sub(tokens, Wanted::Expression, at)?;
         Ok((Otherwise::Last(last), at))
     }
 
@@ -88,13 +88,13 @@ impl<
         tokens: &TokenTable<'_>,
         at: usize,
     ) -> Result<((Vec<Branch>, Option<Box<Expr>>), usize), ReadError>
-        requires nests { Nests self.now.depth (F.pre self.now.sub) (F.post self.now.sub) }
+        requires nests { Nests self.now.grammar.depth (F.pre self.now.grammar.sub) (F.post self.now.grammar.sub) }
         requires few { length tokens.now ≤ max_file_bytes }
-        ensures { Gives (λ x. (tail x.0.0.items x.0.1, from tokens.now x.1)) result (Some (many pure.no_else r.cons_branch r.branch_ends (r.else_branch (read_expr self.now.depth) self.now.depth) self.now.depth (from tokens.now at))) }
+        ensures { Gives (λ x. (tail x.0.0.items x.0.1, from tokens.now x.1)) result (Some (many pure.no_else r.cons_branch r.branch_ends (r.else_branch (read_expr self.now.grammar.depth) self.now.grammar.depth) self.now.grammar.depth (from tokens.now at))) }
     {
-        let mut found = Vec::new(self.alloc);
+        let mut found = Vec::new(self.grammar.alloc);
         let mut at = at;
-        for _turn in 0..self.depth {
+        for _turn in 0..self.grammar.depth {
             match self.else_branch(tokens, at) {
                 Ok((part, after)) => match part {
                     Otherwise::Last(last) => {
@@ -124,12 +124,12 @@ impl<
         taken: &Expr,
         at: usize,
     ) -> Result<((Vec<Branch>, Option<Box<Expr>>), usize), ReadError>
-        requires nests { Nests self.now.depth (F.pre self.now.sub) (F.post self.now.sub) }
+        requires nests { Nests self.now.grammar.depth (F.pre self.now.grammar.sub) (F.post self.now.grammar.sub) }
         requires few { length tokens.now ≤ max_file_bytes }
-        ensures { Gives (λ x. (tail x.0.0.items x.0.1, from tokens.now x.1)) result (Some (r.if_tail (read_expr self.now.depth) self.now.depth (view taken.now) (from tokens.now at))) }
+        ensures { Gives (λ x. (tail x.0.0.items x.0.1, from tokens.now x.1)) result (Some (r.if_tail (read_expr self.now.grammar.depth) self.now.grammar.depth (view taken.now) (from tokens.now at))) }
     {
         if on_edge(Edge::OpenIf, taken) {
-            return Ok(((Vec::new(self.alloc), None), at));
+            return Ok(((Vec::new(self.grammar.alloc), None), at));
         }
         self.if_tail(tokens, at)
     }
@@ -142,16 +142,16 @@ impl<
         tokens: &TokenTable<'_>,
         at: usize,
     ) -> Result<(Box<Expr>, usize), ReadError>
-        requires nests { Nests self.now.depth (F.pre self.now.sub) (F.post self.now.sub) }
+        requires nests { Nests self.now.grammar.depth (F.pre self.now.grammar.sub) (F.post self.now.grammar.sub) }
         requires few { length tokens.now ≤ max_file_bytes }
         requires within { at < length tokens.now }
-        ensures { Gives (λ x. (view x.0.value, from tokens.now x.1)) result (r.if_expr (read_expr self.now.depth) self.now.depth (at + 1) (from tokens.now (at + 1))) }
+        ensures { Gives (λ x. (view x.0.value, from tokens.now x.1)) result (r.if_expr (read_expr self.now.grammar.depth) self.now.grammar.depth (at + 1) (from tokens.now (at + 1))) }
     {
         let ((test, then), after) = self.then_branch(tokens, at + 1)?;
         let ((more, otherwise), after) = self.rest_branches(tokens, &then, after)?;
         Ok((
             Box::new(
-                self.alloc,
+                self.grammar.alloc,
                 Expr::If {
                     at: number(at),
                     test,

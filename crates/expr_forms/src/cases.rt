@@ -4,19 +4,19 @@ ghost use Rattle.std.specs.Prelude.{◌≡◌, ◌≤◌, ◌<◌, ◌+◌, Bool
 ghost use Rattle.rotor_base.specs.Limits.{max_file_bytes};
 ghost use Rattle.ml_trees.specs.Tree as pure;
 ghost use Rattle.ml_trees.specs.View.{view, view_pat, view_case, maybe, cases};
-ghost use Rattle.parse_base.specs.Steps.{many};
-ghost use Rattle.parse_base.specs.Gives.{Gives};
-ghost use Rattle.parse_base.specs.Tokens.{from};
+ghost use Rattle.token_reading.specs.Steps.{many};
+ghost use Rattle.token_reading.specs.Gives.{Gives};
+ghost use Rattle.token_reading.specs.Tokens.{from};
 ghost use Rattle.expr_reading.specs.ExprReading as r;
 ghost use Rattle.expr_reading.specs.ExprReading.{read_expr};
-ghost use Rattle.expr_forms.specs.Reads.{Nests};
+ghost use Rattle.expr_parts.specs.Reads.{Nests};
 
-use crate::grammar::Grammar;
+use crate::readers::Forms;
 use expr_parts::{Edge, first_bar, on_edge, push_boxed};
 use expr_reading::Wanted;
 use ml_trees::{Case, Expr, Fixed, Pat};
-use parse_base::{Kind, ReadError, TokenTable, expect, kind_at, number};
 use std::alloc::Global;
+use token_reading::{Kind, ReadError, TokenTable, expect, kind_at, number};
 
 impl<
     F: Copy
@@ -28,7 +28,7 @@ impl<
             Wanted,
             usize,
         ) -> Result<(Box<Expr>, usize), ReadError>,
-> Grammar<F> {
+> Forms<F> {
     /// A `when` and a guard, or none.
     #[inline(never)]
     pub fn guard(
@@ -36,13 +36,13 @@ impl<
         tokens: &TokenTable<'_>,
         at: usize,
     ) -> Result<(Option<Box<Expr>>, usize), ReadError>
-        requires nests { Nests self.now.depth (F.pre self.now.sub) (F.post self.now.sub) }
+        requires nests { Nests self.now.grammar.depth (F.pre self.now.grammar.sub) (F.post self.now.grammar.sub) }
         requires few { length tokens.now ≤ max_file_bytes }
-        ensures { Gives (λ x. (maybe x.0, from tokens.now x.1)) result (r.case_guard (read_expr self.now.depth) self.now.depth (from tokens.now at)) }
+        ensures { Gives (λ x. (maybe x.0, from tokens.now x.1)) result (r.case_guard (read_expr self.now.grammar.depth) self.now.grammar.depth (from tokens.now at)) }
     {
         match kind_at(tokens, at) {
             Kind::Fixed(Fixed::When) => {
-                let (guard, at) = self.sub(tokens, Wanted::Sequence, at + 1)?;
+                let (guard, at) = self.grammar.sub(tokens, Wanted::Sequence, at + 1)?;
                 Ok((Some(guard), at))
             }
             _ => Ok((None, at)),
@@ -53,15 +53,15 @@ impl<
     #[tactic(auto, unfolding(expr_reading::specs::ExprReading::one_case))]
     #[inline(never)]
     pub fn case(&self, tokens: &TokenTable<'_>, at: usize) -> Result<(Box<Case>, usize), ReadError>
-        requires nests { Nests self.now.depth (F.pre self.now.sub) (F.post self.now.sub) }
+        requires nests { Nests self.now.grammar.depth (F.pre self.now.grammar.sub) (F.post self.now.grammar.sub) }
         requires few { length tokens.now ≤ max_file_bytes }
-        ensures { Gives (λ x. (view_case x.0.value, from tokens.now x.1)) result (r.one_case (read_expr self.now.depth) self.now.depth (from tokens.now at)) }
+        ensures { Gives (λ x. (view_case x.0.value, from tokens.now x.1)) result (r.one_case (read_expr self.now.grammar.depth) self.now.grammar.depth (from tokens.now at)) }
     {
         let (pat, at) = self.boxed_pattern(tokens, at)?;
         let (guard, at) = self.guard(tokens, at)?;
         let at = expect(tokens, Fixed::Arrow, at)?;
-        let (body, at) = self.sub(tokens, Wanted::Sequence, at)?;
-        Ok((case_of(self.alloc, pat, guard, body)?, at))
+        let (body, at) = self.grammar.sub(tokens, Wanted::Sequence, at)?;
+        Ok((case_of(self.grammar.alloc, pat, guard, body)?, at))
     }
 
     /// The next case, behind its `|`.
@@ -71,9 +71,9 @@ impl<
         tokens: &TokenTable<'_>,
         at: usize,
     ) -> Result<(Box<Case>, usize), ReadError>
-        requires nests { Nests self.now.depth (F.pre self.now.sub) (F.post self.now.sub) }
+        requires nests { Nests self.now.grammar.depth (F.pre self.now.grammar.sub) (F.post self.now.grammar.sub) }
         requires few { length tokens.now ≤ max_file_bytes }
-        ensures { Gives (λ x. (view_case x.0.value, from tokens.now x.1)) result (r.next_case (read_expr self.now.depth) self.now.depth (from tokens.now at)) }
+        ensures { Gives (λ x. (view_case x.0.value, from tokens.now x.1)) result (r.next_case (read_expr self.now.grammar.depth) self.now.grammar.depth (from tokens.now at)) }
     {
         let at = expect(tokens, Fixed::Bar, at)?;
         self.case(tokens, at)
@@ -86,13 +86,13 @@ impl<
         tokens: &TokenTable<'_>,
         at: usize,
     ) -> Result<(Vec<Case>, usize), ReadError>
-        requires nests { Nests self.now.depth (F.pre self.now.sub) (F.post self.now.sub) }
+        requires nests { Nests self.now.grammar.depth (F.pre self.now.grammar.sub) (F.post self.now.grammar.sub) }
         requires few { length tokens.now ≤ max_file_bytes }
-        ensures { Gives (λ x. (cases x.0.items, from tokens.now x.1)) result (Some (many pure.no_case pure.more_case r.no_cases (r.next_case (read_expr self.now.depth) self.now.depth) self.now.depth (from tokens.now at))) }
+        ensures { Gives (λ x. (cases x.0.items, from tokens.now x.1)) result (Some (many pure.no_case pure.more_case r.no_cases (r.next_case (read_expr self.now.grammar.depth) self.now.grammar.depth) self.now.grammar.depth (from tokens.now at))) }
     {
-        let mut found = Vec::new(self.alloc);
+        let mut found = Vec::new(self.grammar.alloc);
         let mut at = at;
-        for _turn in 0..self.depth {
+        for _turn in 0..self.grammar.depth {
             match self.next_case(tokens, at) {
                 Ok((next, after)) => {
                     let goes_on = ends_case(&next);
@@ -117,12 +117,12 @@ impl<
         first: &Case,
         at: usize,
     ) -> Result<(Vec<Case>, usize), ReadError>
-        requires nests { Nests self.now.depth (F.pre self.now.sub) (F.post self.now.sub) }
+        requires nests { Nests self.now.grammar.depth (F.pre self.now.grammar.sub) (F.post self.now.grammar.sub) }
         requires few { length tokens.now ≤ max_file_bytes }
-        ensures { Gives (λ x. (cases x.0.items, from tokens.now x.1)) result (Some (r.more_cases (read_expr self.now.depth) self.now.depth (view_case first.now) (from tokens.now at))) }
+        ensures { Gives (λ x. (cases x.0.items, from tokens.now x.1)) result (Some (r.more_cases (read_expr self.now.grammar.depth) self.now.grammar.depth (view_case first.now) (from tokens.now at))) }
     {
         if on_edge(Edge::Cases, &first.body) {
-            return Ok((Vec::new(self.alloc), at));
+            return Ok((Vec::new(self.grammar.alloc), at));
         }
         self.more_cases(tokens, at)
     }
@@ -135,9 +135,9 @@ impl<
         tokens: &TokenTable<'_>,
         at: usize,
     ) -> Result<((bool, Box<Case>, Vec<Case>), usize), ReadError>
-        requires nests { Nests self.now.depth (F.pre self.now.sub) (F.post self.now.sub) }
+        requires nests { Nests self.now.grammar.depth (F.pre self.now.grammar.sub) (F.post self.now.grammar.sub) }
         requires few { length tokens.now ≤ max_file_bytes }
-        ensures { (grown : Bool → pure.Case → pure.Cases → pure.Expr) → Gives (λ x. (grown x.0.0 (view_case x.0.1.value) (cases x.0.2.items), from tokens.now x.1)) result (r.all_cases (read_expr self.now.depth) self.now.depth grown (from tokens.now at)) }
+        ensures { (grown : Bool → pure.Case → pure.Cases → pure.Expr) → Gives (λ x. (grown x.0.0 (view_case x.0.1.value) (cases x.0.2.items), from tokens.now x.1)) result (r.all_cases (read_expr self.now.grammar.depth) self.now.grammar.depth grown (from tokens.now at)) }
     {
         let (bar, at) = first_bar(tokens, at);
         let (first, at) = self.case(tokens, at)?;
@@ -153,15 +153,15 @@ impl<
         tokens: &TokenTable<'_>,
         at: usize,
     ) -> Result<(Box<Expr>, usize), ReadError>
-        requires nests { Nests self.now.depth (F.pre self.now.sub) (F.post self.now.sub) }
+        requires nests { Nests self.now.grammar.depth (F.pre self.now.grammar.sub) (F.post self.now.grammar.sub) }
         requires few { length tokens.now ≤ max_file_bytes }
         requires within { at < length tokens.now }
-        ensures { Gives (λ x. (view x.0.value, from tokens.now x.1)) result (r.all_cases (read_expr self.now.depth) self.now.depth (pure.Function (at + 1)) (from tokens.now (at + 1))) }
+        ensures { Gives (λ x. (view x.0.value, from tokens.now x.1)) result (r.all_cases (read_expr self.now.grammar.depth) self.now.grammar.depth (pure.Function (at + 1)) (from tokens.now (at + 1))) }
     {
         let ((bar, first, rest), after) = self.all_cases(tokens, at + 1)?;
         Ok((
             Box::new(
-                self.alloc,
+                self.grammar.alloc,
                 Expr::Function {
                     at: number(at),
                     bar,
@@ -181,17 +181,17 @@ impl<
         tokens: &TokenTable<'_>,
         at: usize,
     ) -> Result<(Box<Expr>, usize), ReadError>
-        requires nests { Nests self.now.depth (F.pre self.now.sub) (F.post self.now.sub) }
+        requires nests { Nests self.now.grammar.depth (F.pre self.now.grammar.sub) (F.post self.now.grammar.sub) }
         requires few { length tokens.now ≤ max_file_bytes }
         requires within { at < length tokens.now }
-        ensures { Gives (λ x. (view x.0.value, from tokens.now x.1)) result (r.match_expr (read_expr self.now.depth) self.now.depth (pure.Match (at + 1)) (from tokens.now (at + 1))) }
+        ensures { Gives (λ x. (view x.0.value, from tokens.now x.1)) result (r.match_expr (read_expr self.now.grammar.depth) self.now.grammar.depth (pure.Match (at + 1)) (from tokens.now (at + 1))) }
     {
-        let (subject, after) = self.sub(tokens, Wanted::Sequence, at + 1)?;
+        let (subject, after) = self.grammar.sub(tokens, Wanted::Sequence, at + 1)?;
         let after = expect(tokens, Fixed::With, after)?;
         let ((bar, first, rest), after) = self.all_cases(tokens, after)?;
         Ok((
             Box::new(
-                self.alloc,
+                self.grammar.alloc,
                 Expr::Match {
                     at: number(at),
                     subject,
@@ -212,17 +212,17 @@ impl<
         tokens: &TokenTable<'_>,
         at: usize,
     ) -> Result<(Box<Expr>, usize), ReadError>
-        requires nests { Nests self.now.depth (F.pre self.now.sub) (F.post self.now.sub) }
+        requires nests { Nests self.now.grammar.depth (F.pre self.now.grammar.sub) (F.post self.now.grammar.sub) }
         requires few { length tokens.now ≤ max_file_bytes }
         requires within { at < length tokens.now }
-        ensures { Gives (λ x. (view x.0.value, from tokens.now x.1)) result (r.match_expr (read_expr self.now.depth) self.now.depth (pure.Try (at + 1)) (from tokens.now (at + 1))) }
+        ensures { Gives (λ x. (view x.0.value, from tokens.now x.1)) result (r.match_expr (read_expr self.now.grammar.depth) self.now.grammar.depth (pure.Try (at + 1)) (from tokens.now (at + 1))) }
     {
-        let (subject, after) = self.sub(tokens, Wanted::Sequence, at + 1)?;
+        let (subject, after) = self.grammar.sub(tokens, Wanted::Sequence, at + 1)?;
         let after = expect(tokens, Fixed::With, after)?;
         let ((bar, first, rest), after) = self.all_cases(tokens, after)?;
         Ok((
             Box::new(
-                self.alloc,
+                self.grammar.alloc,
                 Expr::Try {
                     at: number(at),
                     subject,

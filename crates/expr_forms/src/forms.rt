@@ -3,20 +3,20 @@
 ghost use Rattle.std.specs.Prelude.{◌≤◌, ◌<◌, ◌+◌, length};
 ghost use Rattle.rotor_base.specs.Limits.{max_file_bytes};
 ghost use Rattle.ml_trees.specs.View.{view, view_word, params};
-ghost use Rattle.parse_base.specs.Gives.{Gives};
-ghost use Rattle.parse_base.specs.Tokens.{from};
+ghost use Rattle.token_reading.specs.Gives.{Gives};
+ghost use Rattle.token_reading.specs.Tokens.{from};
 ghost use Rattle.expr_reading.specs.ExprReading as r;
 ghost use Rattle.expr_reading.specs.ExprReading.{read_expr};
-ghost use Rattle.expr_forms.specs.Reads.{Nests};
+ghost use Rattle.expr_parts.specs.Reads.{Nests};
 ghost use Rattle.expr_forms.specs.Forms.{module_in, module_named};
 
-use crate::grammar::Grammar;
+use crate::readers::Forms;
 use expr_parts::{bang, local_module, path, upper_word};
 use expr_reading::Wanted;
 use ml_trees::{Expr, Fixed, Param, Word};
-use parse_base::{Kind, ReadError, TokenTable, expect, kind_at, number, word};
 use rotor_base::Class;
 use std::alloc::Global;
+use token_reading::{Kind, ReadError, TokenTable, expect, kind_at, number, word};
 
 impl<
     F: Copy
@@ -28,7 +28,7 @@ impl<
             Wanted,
             usize,
         ) -> Result<(Box<Expr>, usize), ReadError>,
-> Grammar<F> {
+> Forms<F> {
     /// The bindings and the body of the `let` at `start`.
     #[tactic(auto, unfolding(expr_reading::specs::ExprReading::let_values), using(ml_trees::proofs::Variants::expr_views))]
     #[inline(never)]
@@ -39,14 +39,14 @@ impl<
         recursive: bool,
         at: usize,
     ) -> Result<(Box<Expr>, usize), ReadError>
-        requires nests { Nests self.now.depth (F.pre self.now.sub) (F.post self.now.sub) }
+        requires nests { Nests self.now.grammar.depth (F.pre self.now.grammar.sub) (F.post self.now.grammar.sub) }
         requires few { length tokens.now ≤ max_file_bytes }
         requires begun { start < length tokens.now }
-        ensures { Gives (λ x. (view x.0.value, from tokens.now x.1)) result (r.let_values (read_expr self.now.depth) self.now.depth (start + 1) recursive (from tokens.now at)) }
+        ensures { Gives (λ x. (view x.0.value, from tokens.now x.1)) result (r.let_values (read_expr self.now.grammar.depth) self.now.grammar.depth (start + 1) recursive (from tokens.now at)) }
     {
         let ((first, rest), at) = self.all_bindings(tokens, at)?;
         let at = expect(tokens, Fixed::In, at)?;
-        let (body, at) = self.sub(tokens, Wanted::Sequence, at)?;
+        let (body, at) = self.grammar.sub(tokens, Wanted::Sequence, at)?;
         let start = number(start);
         let whole = Expr::Let {
             at: start,
@@ -55,7 +55,7 @@ impl<
             rest,
             body,
         };
-        Ok((Box::new(self.alloc, whole)?, at))
+        Ok((Box::new(self.grammar.alloc, whole)?, at))
     }
 
     /// After the `let open` at `start`.
@@ -67,18 +67,18 @@ impl<
         start: usize,
         at: usize,
     ) -> Result<(Box<Expr>, usize), ReadError>
-        requires nests { Nests self.now.depth (F.pre self.now.sub) (F.post self.now.sub) }
+        requires nests { Nests self.now.grammar.depth (F.pre self.now.grammar.sub) (F.post self.now.grammar.sub) }
         requires few { length tokens.now ≤ max_file_bytes }
         requires begun { start + 1 < length tokens.now }
-        ensures { Gives (λ x. (view x.0.value, from tokens.now x.1)) result (r.let_open (read_expr self.now.depth) self.now.depth (start + 1) (start + 2) (from tokens.now at)) }
+        ensures { Gives (λ x. (view x.0.value, from tokens.now x.1)) result (r.let_open (read_expr self.now.grammar.depth) self.now.grammar.depth (start + 1) (start + 2) (from tokens.now at)) }
     {
-        let (bang, at) = bang(self.alloc, tokens, at)?;
-        let (path, at) = path(self.alloc, tokens, self.depth, at)?;
+        let (bang, at) = bang(self.grammar.alloc, tokens, at)?;
+        let (path, at) = path(self.grammar.alloc, tokens, self.grammar.depth, at)?;
         let at = expect(tokens, Fixed::In, at)?;
-        let (body, at) = self.sub(tokens, Wanted::Sequence, at)?;
+        let (body, at) = self.grammar.sub(tokens, Wanted::Sequence, at)?;
         Ok((
             Box::new(
-                self.alloc,
+                self.grammar.alloc,
                 Expr::LetOpen {
                     at: number(start),
                     open: number(start + 1),
@@ -102,14 +102,20 @@ impl<
         equals: u32,
         at: usize,
     ) -> Result<(Box<Expr>, usize), ReadError>
-        requires nests { Nests self.now.depth (F.pre self.now.sub) (F.post self.now.sub) }
+        requires nests { Nests self.now.grammar.depth (F.pre self.now.grammar.sub) (F.post self.now.grammar.sub) }
         requires few { length tokens.now ≤ max_file_bytes }
         requires begun { start + 1 < length tokens.now }
-        ensures { Gives (λ x. (view x.0.value, from tokens.now x.1)) result (module_in self.now.depth (start + 1) (start + 2) (view_word name) equals (from tokens.now at)) }
+        ensures { Gives (λ x. (view x.0.value, from tokens.now x.1)) result (module_in self.now.grammar.depth (start + 1) (start + 2) (view_word name) equals (from tokens.now at)) }
     {
-        let (value, at) = local_module(self.alloc, tokens, self.depth, self.levels, at)?;
+        let (value, at) = local_module(
+            self.grammar.alloc,
+            tokens,
+            self.grammar.depth,
+            self.grammar.levels,
+            at,
+        )?;
         let at = expect(tokens, Fixed::In, at)?;
-        let (body, at) = self.sub(tokens, Wanted::Sequence, at)?;
+        let (body, at) = self.grammar.sub(tokens, Wanted::Sequence, at)?;
         let module = number(start + 1);
         let start = number(start);
         let whole = Expr::LetModule {
@@ -120,7 +126,7 @@ impl<
             value,
             body,
         };
-        Ok((Box::new(self.alloc, whole)?, at))
+        Ok((Box::new(self.grammar.alloc, whole)?, at))
     }
 
     /// After the name of a module that is bound at `start`.
@@ -132,10 +138,10 @@ impl<
         name: Word,
         at: usize,
     ) -> Result<(Box<Expr>, usize), ReadError>
-        requires nests { Nests self.now.depth (F.pre self.now.sub) (F.post self.now.sub) }
+        requires nests { Nests self.now.grammar.depth (F.pre self.now.grammar.sub) (F.post self.now.grammar.sub) }
         requires few { length tokens.now ≤ max_file_bytes }
         requires begun { start + 1 < length tokens.now }
-        ensures { Gives (λ x. (view x.0.value, from tokens.now x.1)) result (module_named self.now.depth (start + 1) (start + 2) (view_word name) (from tokens.now at)) }
+        ensures { Gives (λ x. (view x.0.value, from tokens.now x.1)) result (module_named self.now.grammar.depth (start + 1) (start + 2) (view_word name) (from tokens.now at)) }
     {
         match kind_at(tokens, at) {
             Kind::Fixed(Fixed::Equals) => self.module_in(tokens, start, name, number(at), at + 1),
@@ -152,12 +158,12 @@ impl<
         start: usize,
         at: usize,
     ) -> Result<(Box<Expr>, usize), ReadError>
-        requires nests { Nests self.now.depth (F.pre self.now.sub) (F.post self.now.sub) }
+        requires nests { Nests self.now.grammar.depth (F.pre self.now.grammar.sub) (F.post self.now.grammar.sub) }
         requires few { length tokens.now ≤ max_file_bytes }
         requires begun { start + 1 < length tokens.now }
-        ensures { Gives (λ x. (view x.0.value, from tokens.now x.1)) result (r.let_module (read_expr self.now.depth) self.now.depth (start + 1) (start + 2) (from tokens.now at)) }
+        ensures { Gives (λ x. (view x.0.value, from tokens.now x.1)) result (r.let_module (read_expr self.now.grammar.depth) self.now.grammar.depth (start + 1) (start + 2) (from tokens.now at)) }
     {
-        let (name, at) = upper_word(self.alloc, tokens, at)?;
+        let (name, at) = upper_word(self.grammar.alloc, tokens, at)?;
         self.module_named(tokens, start, name, at)
     }
 
@@ -169,10 +175,10 @@ impl<
         tokens: &TokenTable<'_>,
         at: usize,
     ) -> Result<(Box<Expr>, usize), ReadError>
-        requires nests { Nests self.now.depth (F.pre self.now.sub) (F.post self.now.sub) }
+        requires nests { Nests self.now.grammar.depth (F.pre self.now.grammar.sub) (F.post self.now.grammar.sub) }
         requires few { length tokens.now ≤ max_file_bytes }
         requires within { at < length tokens.now }
-        ensures { Gives (λ x. (view x.0.value, from tokens.now x.1)) result (r.let_expr (read_expr self.now.depth) self.now.depth (at + 1) (from tokens.now (at + 1))) }
+        ensures { Gives (λ x. (view x.0.value, from tokens.now x.1)) result (r.let_expr (read_expr self.now.grammar.depth) self.now.grammar.depth (at + 1) (from tokens.now (at + 1))) }
     {
         match kind_at(tokens, at + 1) {
             Kind::Fixed(Fixed::Open) => self.let_open(tokens, at, at + 2),
@@ -192,23 +198,23 @@ impl<
         given: Vec<Param>,
         at: usize,
     ) -> Result<(Box<Expr>, usize), ReadError>
-        requires nests { Nests self.now.depth (F.pre self.now.sub) (F.post self.now.sub) }
+        requires nests { Nests self.now.grammar.depth (F.pre self.now.grammar.sub) (F.post self.now.grammar.sub) }
         requires few { length tokens.now ≤ max_file_bytes }
         requires begun { start < length tokens.now }
-        ensures { Gives (λ x. (view x.0.value, from tokens.now x.1)) result (r.fun_end (read_expr self.now.depth) self.now.depth (start + 1) (params given.items) (from tokens.now at)) }
+        ensures { Gives (λ x. (view x.0.value, from tokens.now x.1)) result (r.fun_end (read_expr self.now.grammar.depth) self.now.grammar.depth (start + 1) (params given.items) (from tokens.now at)) }
     {
         if given.len() == 0 {
             return Err(ReadError::Syntax);
         }
         let at = expect(tokens, Fixed::Arrow, at)?;
-        let (body, at) = self.sub(tokens, Wanted::Sequence, at)?;
+        let (body, at) = self.grammar.sub(tokens, Wanted::Sequence, at)?;
         let start = number(start);
         let whole = Expr::Fun {
             at: start,
             params: given,
             body,
         };
-        Ok((Box::new(self.alloc, whole)?, at))
+        Ok((Box::new(self.grammar.alloc, whole)?, at))
     }
 
     /// After the `fun` at a place.
@@ -219,10 +225,10 @@ impl<
         tokens: &TokenTable<'_>,
         at: usize,
     ) -> Result<(Box<Expr>, usize), ReadError>
-        requires nests { Nests self.now.depth (F.pre self.now.sub) (F.post self.now.sub) }
+        requires nests { Nests self.now.grammar.depth (F.pre self.now.grammar.sub) (F.post self.now.grammar.sub) }
         requires few { length tokens.now ≤ max_file_bytes }
         requires within { at < length tokens.now }
-        ensures { Gives (λ x. (view x.0.value, from tokens.now x.1)) result (r.fun_expr (read_expr self.now.depth) self.now.depth (at + 1) (from tokens.now (at + 1))) }
+        ensures { Gives (λ x. (view x.0.value, from tokens.now x.1)) result (r.fun_expr (read_expr self.now.grammar.depth) self.now.grammar.depth (at + 1) (from tokens.now (at + 1))) }
     {
         let (given, after) = self.more_params(tokens, at + 1)?;
         self.fun_end(tokens, at, given, after)

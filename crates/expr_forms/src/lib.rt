@@ -5,8 +5,8 @@ mod bindings;
 mod branches;
 mod cases;
 mod forms;
-mod grammar;
 mod params;
+mod readers;
 
 pub use branches::Otherwise;
-pub use grammar::Grammar;
+pub use readers::Forms;

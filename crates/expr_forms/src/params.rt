@@ -4,26 +4,27 @@ ghost use Rattle.std.specs.Prelude.{◌≤◌, ◌<◌, ◌+◌, ◌∷◌, [], 
 ghost use Rattle.rotor_base.specs.Limits.{max_file_bytes};
 ghost use Rattle.ml_trees.specs.Tree as pure;
 ghost use Rattle.ml_trees.specs.View.{view, view_word, view_words, view_type, view_pat, view_param, params};
-ghost use Rattle.parse_base.specs.Steps.{many, always};
-ghost use Rattle.parse_base.specs.PatReading.{read_pat};
-ghost use Rattle.parse_base.specs.Gives.{name_at, Gives};
-ghost use Rattle.parse_base.specs.Tokens.{from};
+ghost use Rattle.token_reading.specs.Steps.{many, always};
+ghost use Rattle.token_reading.specs.PatReading.{read_pat};
+ghost use Rattle.token_reading.specs.Gives.{name_at, Gives};
+ghost use Rattle.token_reading.specs.Tokens.{from};
 ghost use Rattle.expr_reading.specs.ExprReading as r;
 ghost use Rattle.expr_reading.specs.ExprReading.{read_expr};
-ghost use Rattle.expr_forms.specs.Reads.{Nests};
+ghost use Rattle.expr_parts.specs.Reads.{Nests};
 ghost use Rattle.expr_forms.specs.Forms.{default_end, wrapped_label};
-ghost use Rattle.parse_base.specs.Pieces.{lower_word};
+ghost use Rattle.token_reading.specs.Pieces.{lower_word};
 
-use crate::grammar::Grammar;
+use crate::readers::Forms;
 use expr_parts::{has_colon, is_optional, push_boxed};
 use expr_reading::Wanted;
 use ml_trees::{Expr, Fixed, Param, Pat, Run, Word};
-use parse_base::{
-    Kind, ReadError, TokenTable, expect, expect_at, is, kind_at, lower_word, number, optional_type,
-    pattern, simple_pattern, text, word,
-};
+use pattern_reading::{pattern, simple_pattern};
 use rotor_base::Class;
 use std::alloc::Global;
+use token_reading::{
+    Kind, ReadError, TokenTable, expect, expect_at, has_fixed, kind_at, lower_word, number,
+    optional_type, text, word,
+};
 
 impl<
     F: Copy
@@ -35,14 +36,20 @@ impl<
             Wanted,
             usize,
         ) -> Result<(Box<Expr>, usize), ReadError>,
-> Grammar<F> {
+> Forms<F> {
     /// A pattern.
     #[inline(never)]
     pub fn pattern(&self, tokens: &TokenTable<'_>, at: usize) -> Result<(Pat, usize), ReadError>
         requires few { length tokens.now ≤ max_file_bytes }
-        ensures { Gives (λ x. (view_pat x.0, from tokens.now x.1)) result (read_pat self.now.depth (from tokens.now at)) }
+        ensures { Gives (λ x. (view_pat x.0, from tokens.now x.1)) result (read_pat self.now.grammar.depth (from tokens.now at)) }
     {
-        pattern(self.alloc, tokens, self.depth, self.levels / 2, at)
+        pattern(
+            self.grammar.alloc,
+            tokens,
+            self.grammar.depth,
+            self.grammar.levels / 2,
+            at,
+        )
     }
 
     /// The same, in a box.
@@ -53,36 +60,26 @@ impl<
         at: usize,
     ) -> Result<(Box<Pat>, usize), ReadError>
         requires few { length tokens.now ≤ max_file_bytes }
-        ensures { Gives (λ x. (view_pat x.0.value, from tokens.now x.1)) result (read_pat self.now.depth (from tokens.now at)) }
+        ensures { Gives (λ x. (view_pat x.0.value, from tokens.now x.1)) result (read_pat self.now.grammar.depth (from tokens.now at)) }
     {
         let (pat, at) = self.pattern(tokens, at)?;
-        Ok((Box::new(self.alloc, pat)?, at))
+        Ok((Box::new(self.grammar.alloc, pat)?, at))
     }
 
     /// A Simple pattern.
     #[inline(never)]
     pub fn simple(&self, tokens: &TokenTable<'_>, at: usize) -> Result<(Box<Pat>, usize), ReadError>
         requires few { length tokens.now ≤ max_file_bytes }
-        ensures { Gives (λ x. (view_pat x.0.value, from tokens.now x.1)) result (r.simple_at self.now.depth (from tokens.now at)) }
+        ensures { Gives (λ x. (view_pat x.0.value, from tokens.now x.1)) result (r.simple_at self.now.grammar.depth (from tokens.now at)) }
     {
-        let (pat, at) = simple_pattern(self.alloc, tokens, self.depth, self.levels / 2, at)?;
-        Ok((Box::new(self.alloc, pat)?, at))
-    }
-
-    /// An `=` and an expression.
-    #[inline(never)]
-    pub fn equals_value(
-        &self,
-        tokens: &TokenTable<'_>,
-        at: usize,
-    ) -> Result<((u32, Box<Expr>), usize), ReadError>
-        requires nests { Nests self.now.depth (F.pre self.now.sub) (F.post self.now.sub) }
-        requires few { length tokens.now ≤ max_file_bytes }
-        ensures { Gives (λ x. (x.0.0, view x.0.1.value, from tokens.now x.1)) result (r.equals_expr (read_expr self.now.depth) self.now.depth (from tokens.now at)) }
-    {
-        let (equals, at) = expect_at(tokens, Fixed::Equals, at)?;
-        let (value, at) = self.sub(tokens, Wanted::Expression, at)?;
-        Ok(((equals, value), at))
+        let (pat, at) = simple_pattern(
+            self.grammar.alloc,
+            tokens,
+            self.grammar.depth,
+            self.grammar.levels / 2,
+            at,
+        )?;
+        Ok((Box::new(self.grammar.alloc, pat)?, at))
     }
 
     /// After the pattern of a default value and its type.
@@ -97,14 +94,14 @@ impl<
         run: Option<Run>,
         at: usize,
     ) -> Result<(Box<Param>, usize), ReadError>
-        requires nests { Nests self.now.depth (F.pre self.now.sub) (F.post self.now.sub) }
+        requires nests { Nests self.now.grammar.depth (F.pre self.now.grammar.sub) (F.post self.now.grammar.sub) }
         requires few { length tokens.now ≤ max_file_bytes }
-        ensures { Gives (λ x. (view_param x.0.value, from tokens.now x.1)) result (default_end self.now.depth (view_word label) paren (view_pat pat.value) (view_type run) (from tokens.now at)) }
+        ensures { Gives (λ x. (view_param x.0.value, from tokens.now x.1)) result (default_end self.now.grammar.depth (view_word label) paren (view_pat pat.value) (view_type run) (from tokens.now at)) }
     {
         let (equals, at) = expect_at(tokens, Fixed::Equals, at)?;
-        let (value, at) = self.sub(tokens, Wanted::Expression, at)?;
+        let (value, at) = self.grammar.sub(tokens, Wanted::Expression, at)?;
         let at = expect(tokens, Fixed::RightParen, at)?;
-        let param = with_default(self.alloc, label, paren, pat, run, equals, value)?;
+        let param = with_default(self.grammar.alloc, label, paren, pat, run, equals, value)?;
         Ok((param, at))
     }
 
@@ -117,16 +114,16 @@ impl<
         label: Word,
         at: usize,
     ) -> Result<(Box<Param>, usize), ReadError>
-        requires nests { Nests self.now.depth (F.pre self.now.sub) (F.post self.now.sub) }
+        requires nests { Nests self.now.grammar.depth (F.pre self.now.grammar.sub) (F.post self.now.grammar.sub) }
         requires few { length tokens.now ≤ max_file_bytes }
-        ensures { Gives (λ x. (view_param x.0.value, from tokens.now x.1)) result (r.default_param (read_expr self.now.depth) self.now.depth (view_word label) (from tokens.now at)) }
+        ensures { Gives (λ x. (view_param x.0.value, from tokens.now x.1)) result (r.default_param (read_expr self.now.grammar.depth) self.now.grammar.depth (view_word label) (from tokens.now at)) }
     {
-        if !is(tokens, Fixed::LeftParen, at) {
+        if !has_fixed(tokens, Fixed::LeftParen, at) {
             return Err(ReadError::Syntax);
         }
         let paren = number(at);
         let (pat, at) = self.boxed_pattern(tokens, at + 1)?;
-        let (run, at) = optional_type(self.alloc, tokens, at)?;
+        let (run, at) = optional_type(self.grammar.alloc, tokens, at)?;
         self.default_end(tokens, label, paren, pat, run, at)
     }
 
@@ -138,17 +135,17 @@ impl<
         tokens: &TokenTable<'_>,
         at: usize,
     ) -> Result<(Box<Param>, usize), ReadError>
-        requires nests { Nests self.now.depth (F.pre self.now.sub) (F.post self.now.sub) }
+        requires nests { Nests self.now.grammar.depth (F.pre self.now.grammar.sub) (F.post self.now.grammar.sub) }
         requires few { length tokens.now ≤ max_file_bytes }
         requires within { at < length tokens.now }
-        ensures { Gives (λ x. (view_param x.0.value, from tokens.now x.1)) result (r.label_param (read_expr self.now.depth) self.now.depth (name_at tokens.now at) (from tokens.now (at + 1))) }
+        ensures { Gives (λ x. (view_param x.0.value, from tokens.now x.1)) result (r.label_param (read_expr self.now.grammar.depth) self.now.grammar.depth (name_at tokens.now at) (from tokens.now (at + 1))) }
     {
-        let label = word(self.alloc, tokens, Class::Label, at)?;
+        let label = word(self.grammar.alloc, tokens, Class::Label, at)?;
         if !has_colon(text(tokens, at)) {
-            return Ok((Box::new(self.alloc, Param::Label(label))?, at + 1));
+            return Ok((Box::new(self.grammar.alloc, Param::Label(label))?, at + 1));
         }
         match self.simple(tokens, at + 1) {
-            Ok((pat, after)) => Ok((with_label(self.alloc, label, pat)?, after)),
+            Ok((pat, after)) => Ok((with_label(self.grammar.alloc, label, pat)?, after)),
             Err(ReadError::Syntax) => {
                 if !is_optional(text(tokens, at)) {
                     return Err(ReadError::Syntax);
@@ -173,23 +170,30 @@ impl<
         run: Option<Run>,
         at: usize,
     ) -> Result<(Box<Param>, usize), ReadError>
-        requires nests { Nests self.now.depth (F.pre self.now.sub) (F.post self.now.sub) }
+        requires nests { Nests self.now.grammar.depth (F.pre self.now.grammar.sub) (F.post self.now.grammar.sub) }
         requires few { length tokens.now ≤ max_file_bytes }
         requires inside { first < length tokens.now }
-        ensures { Gives (λ x. (view_param x.0.value, from tokens.now x.1)) result (r.wrapped_end (read_expr self.now.depth) self.now.depth (first + 1) optional paren (view_word name) (view_type run) (from tokens.now at)) }
+        ensures { Gives (λ x. (view_param x.0.value, from tokens.now x.1)) result (r.wrapped_end (read_expr self.now.grammar.depth) self.now.grammar.depth (first + 1) optional paren (view_word name) (view_type run) (from tokens.now at)) }
     {
-        if is(tokens, Fixed::RightParen, at) {
-            let param = wrapped(self.alloc, number(first), optional, paren, name, run)?;
+        if has_fixed(tokens, Fixed::RightParen, at) {
+            let param = wrapped(
+                self.grammar.alloc,
+                number(first),
+                optional,
+                paren,
+                name,
+                run,
+            )?;
             return Ok((param, at + 1));
         }
         if !optional {
             return Err(ReadError::Syntax);
         }
         let (equals, at) = expect_at(tokens, Fixed::Equals, at)?;
-        let (value, at) = self.sub(tokens, Wanted::Expression, at)?;
+        let (value, at) = self.grammar.sub(tokens, Wanted::Expression, at)?;
         let at = expect(tokens, Fixed::RightParen, at)?;
         let first = number(first);
-        let param = wrapped_default(self.alloc, first, paren, name, run, equals, value)?;
+        let param = wrapped_default(self.grammar.alloc, first, paren, name, run, equals, value)?;
         Ok((param, at))
     }
 
@@ -203,13 +207,13 @@ impl<
         paren: u32,
         at: usize,
     ) -> Result<(Box<Param>, usize), ReadError>
-        requires nests { Nests self.now.depth (F.pre self.now.sub) (F.post self.now.sub) }
+        requires nests { Nests self.now.grammar.depth (F.pre self.now.grammar.sub) (F.post self.now.grammar.sub) }
         requires few { length tokens.now ≤ max_file_bytes }
         requires inside { first < length tokens.now }
-        ensures { Gives (λ x. (view_param x.0.value, from tokens.now x.1)) result (wrapped_label self.now.depth (first + 1) optional paren (from tokens.now at)) }
+        ensures { Gives (λ x. (view_param x.0.value, from tokens.now x.1)) result (wrapped_label self.now.grammar.depth (first + 1) optional paren (from tokens.now at)) }
     {
-        let (name, at) = lower_word(self.alloc, tokens, at)?;
-        let (run, at) = optional_type(self.alloc, tokens, at)?;
+        let (name, at) = lower_word(self.grammar.alloc, tokens, at)?;
+        let (run, at) = optional_type(self.grammar.alloc, tokens, at)?;
         self.wrapped_end(tokens, first, optional, paren, name, run, at)
     }
 
@@ -222,10 +226,10 @@ impl<
         optional: bool,
         at: usize,
     ) -> Result<(Box<Param>, usize), ReadError>
-        requires nests { Nests self.now.depth (F.pre self.now.sub) (F.post self.now.sub) }
+        requires nests { Nests self.now.grammar.depth (F.pre self.now.grammar.sub) (F.post self.now.grammar.sub) }
         requires few { length tokens.now ≤ max_file_bytes }
         requires within { at < length tokens.now }
-        ensures { Gives (λ x. (view_param x.0.value, from tokens.now x.1)) result (r.wrapped_param (read_expr self.now.depth) self.now.depth (at + 1) optional (from tokens.now (at + 1))) }
+        ensures { Gives (λ x. (view_param x.0.value, from tokens.now x.1)) result (r.wrapped_param (read_expr self.now.grammar.depth) self.now.grammar.depth (at + 1) optional (from tokens.now (at + 1))) }
     {
         let (paren, after) = expect_at(tokens, Fixed::LeftParen, at + 1)?;
         self.wrapped_label(tokens, at, optional, paren, after)
@@ -238,14 +242,14 @@ impl<
         tokens: &TokenTable<'_>,
         at: usize,
     ) -> Result<(Vec<Word>, usize), ReadError>
-        requires nests { Nests self.now.depth (F.pre self.now.sub) (F.post self.now.sub) }
+        requires nests { Nests self.now.grammar.depth (F.pre self.now.grammar.sub) (F.post self.now.grammar.sub) }
         requires few { length tokens.now ≤ max_file_bytes }
-        ensures { Gives (λ x. (view_words x.0.items, from tokens.now x.1)) result (Some (many [] ◌∷◌ always lower_word self.now.depth (from tokens.now at))) }
+        ensures { Gives (λ x. (view_words x.0.items, from tokens.now x.1)) result (Some (many [] ◌∷◌ always lower_word self.now.grammar.depth (from tokens.now at))) }
     {
-        let mut found = Vec::new(self.alloc);
+        let mut found = Vec::new(self.grammar.alloc);
         let mut at = at;
-        for _turn in 0..self.depth {
-            match lower_word(self.alloc, tokens, at) {
+        for _turn in 0..self.grammar.depth {
+            match lower_word(self.grammar.alloc, tokens, at) {
                 Ok((next, after)) => {
                     found.push(next)?;
                     at = after;
@@ -267,10 +271,10 @@ impl<
         names: Vec<Word>,
         at: usize,
     ) -> Result<(Param, usize), ReadError>
-        requires nests { Nests self.now.depth (F.pre self.now.sub) (F.post self.now.sub) }
+        requires nests { Nests self.now.grammar.depth (F.pre self.now.grammar.sub) (F.post self.now.grammar.sub) }
         requires few { length tokens.now ≤ max_file_bytes }
         requires within { start < length tokens.now }
-        ensures { Gives (λ x. (view_param x.0, from tokens.now x.1)) result (r.types_end (read_expr self.now.depth) self.now.depth (start + 1) (view_words names.items, from tokens.now at)) }
+        ensures { Gives (λ x. (view_param x.0, from tokens.now x.1)) result (r.types_end (read_expr self.now.grammar.depth) self.now.grammar.depth (start + 1) (view_words names.items, from tokens.now at)) }
     {
         if names.len() == 0 {
             return Err(ReadError::Syntax);
@@ -287,14 +291,14 @@ impl<
         tokens: &TokenTable<'_>,
         at: usize,
     ) -> Result<(Box<Param>, usize), ReadError>
-        requires nests { Nests self.now.depth (F.pre self.now.sub) (F.post self.now.sub) }
+        requires nests { Nests self.now.grammar.depth (F.pre self.now.grammar.sub) (F.post self.now.grammar.sub) }
         requires few { length tokens.now ≤ max_file_bytes }
         requires within { at < length tokens.now }
-        ensures { Gives (λ x. (view_param x.0.value, from tokens.now x.1)) result (r.types_end (read_expr self.now.depth) self.now.depth (at + 1) (many [] ◌∷◌ always lower_word self.now.depth (from tokens.now (at + 2)))) }
+        ensures { Gives (λ x. (view_param x.0.value, from tokens.now x.1)) result (r.types_end (read_expr self.now.grammar.depth) self.now.grammar.depth (at + 1) (many [] ◌∷◌ always lower_word self.now.grammar.depth (from tokens.now (at + 2)))) }
     {
         let (names, after) = self.more_types(tokens, at + 2)?;
         let (param, after) = self.types_end(tokens, at, names, after)?;
-        Ok((Box::new(self.alloc, param)?, after))
+        Ok((Box::new(self.grammar.alloc, param)?, after))
     }
 
     /// A parameter.
@@ -305,24 +309,24 @@ impl<
         tokens: &TokenTable<'_>,
         at: usize,
     ) -> Result<(Box<Param>, usize), ReadError>
-        requires nests { Nests self.now.depth (F.pre self.now.sub) (F.post self.now.sub) }
+        requires nests { Nests self.now.grammar.depth (F.pre self.now.grammar.sub) (F.post self.now.grammar.sub) }
         requires few { length tokens.now ≤ max_file_bytes }
-        ensures { Gives (λ x. (view_param x.0.value, from tokens.now x.1)) result (r.param (read_expr self.now.depth) self.now.depth (from tokens.now at)) }
+        ensures { Gives (λ x. (view_param x.0.value, from tokens.now x.1)) result (r.param (read_expr self.now.grammar.depth) self.now.grammar.depth (from tokens.now at)) }
     {
         match kind_at(tokens, at) {
             Kind::Word(Class::Label) => self.label_param(tokens, at),
             Kind::Fixed(Fixed::Tilde) => self.wrapped_param(tokens, false, at),
             Kind::Fixed(Fixed::Question) => self.wrapped_param(tokens, true, at),
             Kind::Fixed(Fixed::LeftParen) => {
-                if is(tokens, Fixed::Type, at + 1) {
+                if has_fixed(tokens, Fixed::Type, at + 1) {
                     return self.types_param(tokens, at);
                 }
                 let (pat, after) = self.simple(tokens, at)?;
-                Ok((pattern_param(self.alloc, pat)?, after))
+                Ok((pattern_param(self.grammar.alloc, pat)?, after))
             }
             _ => {
                 let (pat, after) = self.simple(tokens, at)?;
-                Ok((pattern_param(self.alloc, pat)?, after))
+                Ok((pattern_param(self.grammar.alloc, pat)?, after))
             }
         }
     }
@@ -334,13 +338,13 @@ impl<
         tokens: &TokenTable<'_>,
         at: usize,
     ) -> Result<(Vec<Param>, usize), ReadError>
-        requires nests { Nests self.now.depth (F.pre self.now.sub) (F.post self.now.sub) }
+        requires nests { Nests self.now.grammar.depth (F.pre self.now.grammar.sub) (F.post self.now.grammar.sub) }
         requires few { length tokens.now ≤ max_file_bytes }
-        ensures { Gives (λ x. (params x.0.items, from tokens.now x.1)) result (Some (many pure.no_param pure.more_param always (r.param (read_expr self.now.depth) self.now.depth) self.now.depth (from tokens.now at))) }
+        ensures { Gives (λ x. (params x.0.items, from tokens.now x.1)) result (Some (many pure.no_param pure.more_param always (r.param (read_expr self.now.grammar.depth) self.now.grammar.depth) self.now.grammar.depth (from tokens.now at))) }
     {
-        let mut found = Vec::new(self.alloc);
+        let mut found = Vec::new(self.grammar.alloc);
         let mut at = at;
-        for _turn in 0..self.depth {
+        for _turn in 0..self.grammar.depth {
             match self.param(tokens, at) {
                 Ok((next, after)) => {
                     push_boxed(&mut found, next)?;

@@ -19,7 +19,7 @@ use Rattle.ml_trees.specs.Tree as pure
 use Rattle.ml_trees.specs.View.{view, view_binding, view_case, view_argument, view_param, view_part, view_field, links, commas, ops, bindings, cases}
 use Rattle.ml_trees.specs.View.{arguments, params, parts, fields, locals, view_path, view_local, view_local_then, tail_before}
 use Rattle.ml_trees.proofs.Views.{locals_of}
-use Rattle.parse_base.proofs.Turns.{before}
+use Rattle.token_reading.proofs.Turns.{before}
 use Rattle.expr_reading.specs.ExprReading.{given_module, given_none, cons_link, cons_branch, cons_local, grown_seq, grown_chain, grown_apply}
 use Rattle.expr_reading.specs.ExprReading.{grown_postfix}
 use Rattle.expr_parts.specs.Rows.{local_of, link_of, branch_of}

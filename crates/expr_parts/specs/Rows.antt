@@ -12,7 +12,7 @@ use Rattle.ml_trees.specs.Tree.{no_part, more_part, Expr, Constr, Tag, ConstrApp
 use Rattle.ml_trees.specs.Tree.{more_field}
 use Rattle.ml_trees.specs.WellFormed.{op_level, is_constr}
 use Rattle.ml_trees.specs.View.{view, view_tok, view_path, view_locals}
-use Rattle.parse_base.specs.Steps.{Read, ◌>>=◌, expect, many_if, always}
+use Rattle.token_reading.specs.Steps.{Read, ◌>>=◌, expect, many_if, always}
 use Rattle.expr_reading.specs.declared.wanted.Wanted.TheVariants as wanted
 use Rattle.expr_reading.specs.ExprReading.{part_behind, grown_postfix, grown_seq, tier, operator_part, goes_on, cons_operand, grown_chain, read_expr}
 use Rattle.expr_reading.specs.ExprReading.{expr, enclosed, closed_by, no_form, last_of, ends_field, last_field, next_field, semicolon_if}

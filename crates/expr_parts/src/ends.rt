@@ -2,13 +2,13 @@
 
 ghost use Rattle.std.specs.Prelude.{◌≡◌};
 ghost use Rattle.ml_trees.specs.View.{view, view_field, links, fields};
-ghost use Rattle.parse_base.specs.Tokens.{from};
+ghost use Rattle.token_reading.specs.Tokens.{from};
 ghost use Rattle.expr_reading.specs.ExprReading as r;
 ghost use Rattle.ml_trees.specs.WellFormed.{is_constr, is_bare, is_postfix};
 
 use crate::edge::{Edge, is_calm, on_edge};
 use ml_trees::{Expr, Field, Fixed};
-use parse_base::{Kind, TokenTable, kind_at};
+use token_reading::{Kind, TokenTable, kind_at};
 
 /// Whether it is a constructor, alone or behind Prefix words.
 #[tactic(auto, unfolding(ml_trees::specs::View::view))]

@@ -2,14 +2,14 @@
 
 ghost use Rattle.std.specs.Prelude.{◌≡◌, ◌+◌, ◌∷◌, [], Some};
 ghost use Rattle.ml_trees.specs.View.{view, links, commas, ops, arguments, parts};
-ghost use Rattle.parse_base.specs.Gives.{Gives};
+ghost use Rattle.token_reading.specs.Gives.{Gives};
 ghost use Rattle.expr_reading.specs.ExprReading as r;
 ghost use Rattle.std.specs.Prelude.{◌++◌, OnOk, IfErr};
-ghost use Rattle.parse_base.specs.declared.error.ReadError.TheVariants as unread;
+ghost use Rattle.token_reading.specs.declared.error.ReadError.TheVariants as unread;
 
 use ml_trees::{Argument, Expr, Part, Word};
-use parse_base::ReadError;
 use std::alloc::Global;
+use token_reading::ReadError;
 
 /// Adds to a row what a box holds.
 #[inline(never)]

@@ -3,16 +3,16 @@
 ghost use Rattle.std.specs.Prelude.{◌≤◌, length, Some};
 ghost use Rattle.rotor_base.specs.Limits.{max_file_bytes};
 ghost use Rattle.ml_trees.specs.View.{locals, view_local};
-ghost use Rattle.parse_base.specs.Gives.{Gives};
-ghost use Rattle.parse_base.specs.Tokens.{from};
+ghost use Rattle.token_reading.specs.Gives.{Gives};
+ghost use Rattle.token_reading.specs.Tokens.{from};
 ghost use Rattle.expr_reading.specs.ExprReading as r;
 ghost use Rattle.expr_reading.specs.ExprReading.{read_local};
 ghost use Rattle.expr_parts.specs.Rows.{local_of};
 
 use crate::pieces::path;
 use ml_trees::{Fixed, LocalArgument, LocalModule};
-use parse_base::{ReadError, TokenTable, expect, is, number};
 use std::alloc::Global;
+use token_reading::{ReadError, TokenTable, expect, has_fixed, number};
 
 /// A module in parentheses, or `()`.
 #[cycle(local)]
@@ -28,10 +28,10 @@ fn local_argument(
     requires few { length tokens.now ≤ max_file_bytes }
     ensures { Gives (λ x. (local_of x.0, from tokens.now x.1)) result (r.local_part (read_local depth) (from tokens.now at)) }
 {
-    if !is(tokens, Fixed::LeftParen, at) {
+    if !has_fixed(tokens, Fixed::LeftParen, at) {
         return Err(ReadError::Syntax);
     }
-    if is(tokens, Fixed::RightParen, at + 1) {
+    if has_fixed(tokens, Fixed::RightParen, at + 1) {
         return Ok((LocalArgument::Nothing { open: number(at) }, at + 2));
     }
     let (module, after) = local_module(alloc, tokens, depth, levels, at + 1)?;

@@ -1,13 +1,13 @@
 //! The levels of operators.
 
 ghost use Rattle.std.specs.Prelude.{◌≡◌};
-ghost use Rattle.parse_base.specs.Tokens.{from};
+ghost use Rattle.token_reading.specs.Tokens.{from};
 ghost use Rattle.ml_trees.specs.WellFormed.{keyword_level, infix_level};
 ghost use Rattle.expr_parts.specs.Rows.{first_level};
 
 use ml_trees::Fixed;
-use parse_base::{Kind, TokenTable, kind_at, text};
 use rotor_base::Class;
+use token_reading::{Kind, TokenTable, kind_at, text};
 
 /// The level of a keyword that is an operator, or 0.
 #[inline(never)]

@@ -3,9 +3,9 @@
 ghost use Rattle.std.specs.Prelude.{◌≡◌, ◌≤◌, ◌<◌, ◌+◌, false, length, Some};
 ghost use Rattle.rotor_base.specs.Limits.{max_file_bytes};
 ghost use Rattle.ml_trees.specs.View.{view, view_word, view_path, view_run, view_bang, view_variable};
-ghost use Rattle.parse_base.specs.Rows.{path_from};
-ghost use Rattle.parse_base.specs.Gives.{name_at, Gives};
-ghost use Rattle.parse_base.specs.Tokens.{from};
+ghost use Rattle.token_reading.specs.Rows.{path_from};
+ghost use Rattle.token_reading.specs.Gives.{name_at, Gives};
+ghost use Rattle.token_reading.specs.Tokens.{from};
 ghost use Rattle.expr_reading.specs.ExprReading as r;
 ghost use Rattle.ml_trees.specs.WellFormed.{is_literal};
 ghost use Rattle.ml_trees.specs.Events.{closing};
@@ -14,11 +14,12 @@ ghost use Rattle.ml_trees.specs.Runs.{has_colon, is_optional};
 ghost use Rattle.expr_parts.specs.Rows.{upper_word};
 
 use ml_trees::{Bracket, Expr, Fixed, Path, Run, Variable, Word};
-use parse_base::{
-    Kind, ReadError, TokenTable, expect, is, kind_at, more_uppers, number, text, type_run, word,
-};
 use rotor_base::Class;
 use std::alloc::Global;
+use token_reading::{
+    Kind, ReadError, TokenTable, expect, has_fixed, kind_at, more_uppers, number, text, type_run,
+    word,
+};
 
 /// A last `;`, if it may follow, and the place after it.
 #[inline(never)]
@@ -155,7 +156,7 @@ pub fn direction(tokens: &TokenTable<'_>, at: usize) -> Result<(bool, usize), Re
 /// After an expression in parentheses and its type: a `)`, or `:>`, a type and a `)`. `paren` is the place of the `(`.
 #[tactic(auto, using(ml_trees::proofs::Variants::expr_views))]
 #[inline(never)]
-pub fn typed(
+pub fn read_typed(
     alloc: Global,
     tokens: &TokenTable<'_>,
     paren: usize,
@@ -202,7 +203,7 @@ pub fn typed(
 /// After an expression in parentheses: a `)`, or a type and a `)`. `paren` is the place of the `(`.
 #[tactic(auto, using(ml_trees::proofs::Variants::expr_views))]
 #[inline(never)]
-pub fn closed(
+pub fn read_closed(
     alloc: Global,
     tokens: &TokenTable<'_>,
     paren: usize,
@@ -226,7 +227,7 @@ pub fn closed(
         )),
         Kind::Fixed(Fixed::Colon) => {
             let (run, at) = type_run(alloc, tokens, at + 1)?;
-            typed(alloc, tokens, paren, inner, run, at)
+            read_typed(alloc, tokens, paren, inner, run, at)
         }
         Kind::Fixed(Fixed::ColonGreater) => {
             let (to, at) = type_run(alloc, tokens, at + 1)?;

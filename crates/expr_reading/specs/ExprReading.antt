@@ -19,9 +19,9 @@ use Rattle.ml_trees.specs.Tree.{Bindings, no_binding, more_binding, Case, CaseOf
 use Rattle.ml_trees.specs.Tree.{Labelled, Arguments, no_argument, more_argument, Param, PatternParam, LabelParam, LabelPattern, DefaultParam}
 use Rattle.ml_trees.specs.Tree.{WrappedParam, WrappedDefault, TypesParam, Params, no_param, more_param, Part, LabelPart, IndexPart, CharPart, Parts}
 use Rattle.ml_trees.specs.Tree.{no_part, more_part, Field, FieldPun, AssignedField, Fields, no_field, more_field}
-use Rattle.parse_base.specs.Steps.{Read, ◌>>=◌, expect, expect_at, many, many_if, always}
-use Rattle.parse_base.specs.Pieces.{more_uppers, qualifiers, lower_word, value_name, type_run, optional_type}
-use Rattle.parse_base.specs.PatReading.{simple_pat, read_pat, last_semicolon}
+use Rattle.token_reading.specs.Steps.{Read, ◌>>=◌, expect, expect_at, many, many_if, always}
+use Rattle.token_reading.specs.Pieces.{more_uppers, qualifiers, lower_word, value_name, type_run, optional_type}
+use Rattle.token_reading.specs.PatReading.{simple_pat, read_pat, last_semicolon}
 pub use Rattle.expr_reading.specs.declared.wanted.Wanted.{Wanted}
 pub use Rattle.expr_reading.specs.declared.wanted.Wanted.TheVariants as wanted
 

@@ -14,8 +14,8 @@ use Rattle.ml_trees.specs.Tree.{more_functor_param, ModType, TypePath, Sig, Type
 use Rattle.ml_trees.specs.Tree.{no_type, some_type, Item, ExprItem, SeparatorItem, ValueItem, ExternalItem, TypeItem, ExceptionItem, ModuleItem}
 use Rattle.ml_trees.specs.Tree.{ModuleTypeItem, OpenItem, IncludeItem, Items, no_item, more_item, SigItem, SeparatorSig, ValSig, ExternalSig}
 use Rattle.ml_trees.specs.Tree.{TypeSig, ExceptionSig, ModuleSig, AliasSig, ModuleTypeSig, OpenSig, IncludeSig, SigItems, no_sig_item, more_sig_item}
-use Rattle.parse_base.proofs.LawsPat.{path_then_more, name_then_more, optional_then_more}
-use Rattle.expr_reading.proofs.AppendExpr.{bang_then_more, expr_then_more, binding_then_more, bindings_then_more}
+use Rattle.pattern_reading.proofs.LawsPat.{path_then_more, name_then_more, optional_then_more}
+use Rattle.expr_laws.proofs.AppendExpr.{bang_then_more, expr_then_more, binding_then_more, bindings_then_more}
 
 -- more tokens behind are more tokens behind the words
 abbrev pub Adds : (List Tok → List Tok) → Type 0

@@ -5,13 +5,13 @@ use Rattle.ml_trees.specs.Tok.{Tok, fixed}
 use Rattle.ml_trees.proofs.Words.{optional_then, constraint_then, constraints_then, withs_then}
 use Rattle.ml_trees.specs.WellFormed.{WfConstraint, WfConstraints, WfWiths}
 use Rattle.ml_trees.specs.Tree.{Constraint, ConstraintOf, WithClause, WithOf}
-use Rattle.parse_base.specs.Steps.{◌>>=◌, many, always}
-use Rattle.parse_base.specs.Pieces.{type_run}
-use Rattle.parse_base.proofs.Reach.{many_shorter, many_on}
-use Rattle.parse_base.proofs.ReachPieces.{type_run_read}
-use Rattle.parse_module.specs.ModReading.{constraint, next_constraint, more_constraints, with_clause}
-use Rattle.parse_module.proofs.LongerMod.{constraint_more, constraints_more}
-use Rattle.parse_module.proofs.ReachMod.{sign_ends, private_run, constraint_read, next_shorter, at_with, clause_read, clause_shorter}
+use Rattle.token_reading.specs.Steps.{◌>>=◌, many, always}
+use Rattle.token_reading.specs.Pieces.{type_run}
+use Rattle.token_reading.proofs.Reach.{many_shorter, many_on}
+use Rattle.token_reading.proofs.ReachPieces.{type_run_read}
+use Rattle.module_reading.specs.ModReading.{constraint, next_constraint, more_constraints, with_clause}
+use Rattle.module_laws.proofs.LongerMod.{constraint_more, constraints_more}
+use Rattle.module_laws.proofs.ReachMod.{sign_ends, private_run, constraint_read, next_shorter, at_with, clause_read, clause_shorter}
 use Rattle.longest_items.proofs.Passing.{Passes, pass_map, type_run_pass}
 
 module _ (f : ℕ) where

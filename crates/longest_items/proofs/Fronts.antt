@@ -5,7 +5,7 @@ use Rattle.ml_lexer.specs.Lexed.{Lexeme}
 use Rattle.ml_syntax.specs.RespelledFile.{lexeme_toks}
 use Rattle.ml_trees.specs.Tok.{Tok}
 use Rattle.parse_module.specs.declared.files.FileKind.TheVariants as kind
-use Rattle.parse_module.specs.ModReading.{body_start, face_start}
+use Rattle.module_reading.specs.ModReading.{body_start, face_start}
 use Rattle.refusal_places.proofs.Fronts.{toks_length}
 use Rattle.longest_items.specs.Fronts.{FrontsEndLongest}
 use Rattle.longest_items.proofs.Longest.{bodies_begin_longest, faces_begin_longest}

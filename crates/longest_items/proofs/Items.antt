@@ -9,18 +9,18 @@ use Rattle.ml_trees.specs.WellFormed.{WfOpen, WfExternal, WfBinding, WfBindings,
 use Rattle.ml_trees.specs.Tree.{ValueName, Binding, Bindings, ModuleName, ModExpr, FunctorParams, ModType, MaybeType, Item, ExprItem, SeparatorItem}
 use Rattle.ml_trees.specs.Tree.{ValueItem, ExternalItem, TypeItem, ExceptionItem, ModuleItem, ModuleTypeItem, OpenItem, IncludeItem, SigItem}
 use Rattle.ml_trees.specs.Tree.{SeparatorSig, ValSig, ExternalSig, TypeSig, ExceptionSig, ModuleSig, AliasSig, ModuleTypeSig, OpenSig, IncludeSig}
-use Rattle.parse_base.specs.Steps.{many, always}
-use Rattle.parse_base.proofs.LongerPat.{name_longer, run_longer, optional_longer}
-use Rattle.parse_base.proofs.ReachPieces.{name_read, type_run_read}
+use Rattle.token_reading.specs.Steps.{many, always}
+use Rattle.pattern_reading.proofs.LongerPat.{name_longer, run_longer, optional_longer}
+use Rattle.token_reading.proofs.ReachPieces.{name_read, type_run_read}
 use Rattle.expr_reading.specs.declared.wanted.Wanted.TheVariants as wanted
 use Rattle.expr_reading.specs.ExprReading.{read_expr}
-use Rattle.expr_reading.proofs.GoesExpr.{Begun, fixed_begun}
-use Rattle.expr_reading.proofs.LongerExpr.{bang_more}
-use Rattle.expr_reading.proofs.ReachForms.{bang_read}
-use Rattle.parse_module.specs.ModReading.{text_word, External, external_rest, open_rest, value_rest, plain_item, sig_item}
-use Rattle.parse_module.proofs.LongerMod.{module_name_more, functor_params_more, signature_more}
-use Rattle.parse_module.proofs.ReachMod.{not_begun, expr_none, sig_item_at, name_read_module, params_exact, plain_at, signature_read}
-use Rattle.parse_module.proofs.ReachMod.{signature_no_paren, module_is, module_sig_is, params_good, maybe_good}
+use Rattle.expr_laws.proofs.GoesExpr.{Begun, fixed_begun}
+use Rattle.expr_laws.proofs.LongerExpr.{bang_more}
+use Rattle.expr_laws.proofs.ReachForms.{bang_read}
+use Rattle.module_reading.specs.ModReading.{text_word, External, external_rest, open_rest, value_rest, plain_item, sig_item}
+use Rattle.module_laws.proofs.LongerMod.{module_name_more, functor_params_more, signature_more}
+use Rattle.module_laws.proofs.ReachMod.{not_begun, expr_none, sig_item_at, name_read_module, params_exact, plain_at, signature_read}
+use Rattle.module_laws.proofs.ReachMod.{signature_no_paren, module_is, module_sig_is, params_good, maybe_good}
 use Rattle.longest_items.proofs.Passing.{Passes, pass_map, pass_as, exactly, type_run_pass, declaration_run_pass, path_pass, texts_pass}
 use Rattle.longest_items.proofs.Lets.{bindings_pass, value_bound}
 use Rattle.longest_items.proofs.Modules.{read_mod_pass}

@@ -5,19 +5,19 @@ use Rattle.ml_trees.specs.Tok.{Tok, fixed, placed, word}
 use Rattle.ml_trees.proofs.Words.{optional_then, binding_then, bindings_then}
 use Rattle.ml_trees.specs.WellFormed.{WfBinding, WfBindings}
 use Rattle.ml_trees.specs.Tree.{Expr, Binding, Bindings}
-use Rattle.parse_base.specs.Steps.{expect}
-use Rattle.parse_base.proofs.Stepping.{some_is, from_some, bind_ok, expect_ok}
-use Rattle.parse_base.proofs.LongerPat.{begins_pat, Opens, optional_longer}
+use Rattle.token_reading.specs.Steps.{expect}
+use Rattle.token_reading.proofs.Stepping.{some_is, from_some, bind_ok, expect_ok}
+use Rattle.pattern_reading.proofs.LongerPat.{begins_pat, Opens, optional_longer}
 use Rattle.expr_reading.specs.declared.wanted.Wanted.TheVariants as wanted
 use Rattle.expr_reading.specs.ExprReading.{bindings, let_values, let_expr, unary, tier, expr, seq, read_expr}
-use Rattle.expr_reading.proofs.AppendExpr.{expr_front}
-use Rattle.expr_reading.proofs.FoundExpr.{expr_reads}
-use Rattle.expr_reading.proofs.LawsExpr.{expr_longest}
-use Rattle.expr_reading.proofs.LongerExpr.{expr_more}
-use Rattle.expr_reading.proofs.ReachExpr.{binding_good, bindings_good}
-use Rattle.expr_reading.proofs.ReachForms.{bindings_reach, binding_opens}
-use Rattle.parse_module.specs.ModReading.{some_bindings, value_rest}
-use Rattle.parse_module.proofs.ReachMod.{opens_plain}
+use Rattle.expr_laws.proofs.AppendExpr.{expr_front}
+use Rattle.expr_laws.proofs.FoundExpr.{expr_reads}
+use Rattle.expr_laws.proofs.LawsExpr.{expr_longest}
+use Rattle.expr_laws.proofs.LongerExpr.{expr_more}
+use Rattle.expr_laws.proofs.ReachExpr.{binding_good, bindings_good}
+use Rattle.expr_laws.proofs.ReachForms.{bindings_reach, binding_opens}
+use Rattle.module_reading.specs.ModReading.{some_bindings, value_rest}
+use Rattle.module_laws.proofs.ReachMod.{opens_plain}
 use Rattle.longest_items.proofs.Passing.{Passes, passes}
 
 -- ---- bindings

@@ -4,15 +4,15 @@ use Rattle.ml_trees.specs.Tok.{Tok}
 use Rattle.ml_trees.specs.Words.{item_then, sig_item_then}
 use Rattle.ml_trees.specs.WellFormed.{is_separator, WfBinding, WfBindings, WfItem, WfSigItem}
 use Rattle.ml_trees.specs.Tree.{Expr, Binding, Bindings, Item, ExprItem, ValueItem, SigItem, no_sig_item, more_sig_item}
-use Rattle.parse_base.specs.Steps.{turn, many, always}
-use Rattle.parse_base.proofs.Stepping.{from_some}
+use Rattle.token_reading.specs.Steps.{turn, many, always}
+use Rattle.token_reading.proofs.Stepping.{from_some}
 use Rattle.expr_reading.specs.declared.wanted.Wanted.TheVariants as wanted
 use Rattle.expr_reading.specs.ExprReading.{read_expr}
-use Rattle.expr_reading.proofs.AppendExpr.{expr_front}
-use Rattle.expr_reading.proofs.LawsExpr.{expr_longest, expr_none}
-use Rattle.parse_module.specs.ModReading.{body_start, face_start, item_of, items_of, item_then as read_then, read_mod, read_type}
-use Rattle.parse_module.proofs.FoundMod.{item_found, sig_item_found, mod_reads, type_reads}
-use Rattle.parse_module.proofs.ReachMod.{item_at, items_at, sig_item_at, item_longer, sig_item_longer, plain_at, plain_is, sig_shorter}
+use Rattle.expr_laws.proofs.AppendExpr.{expr_front}
+use Rattle.expr_laws.proofs.LawsExpr.{expr_longest, expr_none}
+use Rattle.module_reading.specs.ModReading.{body_start, face_start, item_of, items_of, item_then as read_then, read_mod, read_type}
+use Rattle.module_laws.proofs.FoundMod.{item_found, sig_item_found, mod_reads, type_reads}
+use Rattle.module_laws.proofs.ReachMod.{item_at, items_at, sig_item_at, item_longer, sig_item_longer, plain_at, plain_is, sig_shorter}
 use Rattle.longest_items.specs.Longest.{IsLongestItem, BeginsNoItem, AreLongestItems, none_begins, longest_then, IsLongestSig, BeginsNoSig}
 use Rattle.longest_items.specs.Longest.{AreLongestSigs, no_sig_begins, longest_sig_then}
 use Rattle.longest_items.proofs.Passing.{Passes}

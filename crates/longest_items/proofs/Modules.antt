@@ -6,14 +6,14 @@ use Rattle.ml_trees.proofs.Words.{path_then, mod_then, mod_argument_then, mod_ar
 use Rattle.ml_trees.specs.WellFormed.{is_functor, is_simple_mod, WfMod, WfModArguments}
 use Rattle.ml_trees.specs.Tree.{ModExpr, ModPath, Struct, Functor, ModApply, ModParen, Sealed, ModArgument, ModuleArgument, SealedArgument}
 use Rattle.ml_trees.specs.Tree.{NoArgument, ModArguments, no_mod_argument, more_mod_argument, FunctorParams, no_functor_param, more_functor_param}
-use Rattle.parse_base.specs.Steps.{many, always}
-use Rattle.parse_base.specs.Pieces.{dot_upper}
-use Rattle.parse_base.proofs.Reach.{many_shorter, many_on}
-use Rattle.parse_module.specs.ModReading.{grown_mod, simple_mod, mod_arguments, mod_apply, mod_expr, read_mod, read_type}
-use Rattle.parse_module.proofs.LongerMod.{functor_params_more}
-use Rattle.parse_module.proofs.ReachMod.{simple_mod_at, mod_apply_at, mod_expr_at, mod_longer, argument_longer, params_exact, argument_at}
-use Rattle.parse_module.proofs.ReachMod.{argument_read, argument_shorter, struct_read, paren_mod_read, sealed_read, mod_plain, mod_good}
-use Rattle.parse_module.proofs.ReachMod.{argument_good, params_good, type_good, items_good}
+use Rattle.token_reading.specs.Steps.{many, always}
+use Rattle.token_reading.specs.Pieces.{dot_upper}
+use Rattle.token_reading.proofs.Reach.{many_shorter, many_on}
+use Rattle.module_reading.specs.ModReading.{grown_mod, simple_mod, mod_arguments, mod_apply, mod_expr, read_mod, read_type}
+use Rattle.module_laws.proofs.LongerMod.{functor_params_more}
+use Rattle.module_laws.proofs.ReachMod.{simple_mod_at, mod_apply_at, mod_expr_at, mod_longer, argument_longer, params_exact, argument_at}
+use Rattle.module_laws.proofs.ReachMod.{argument_read, argument_shorter, struct_read, paren_mod_read, sealed_read, mod_plain, mod_good}
+use Rattle.module_laws.proofs.ReachMod.{argument_good, params_good, type_good, items_good}
 use Rattle.longest_items.proofs.Passing.{Passes, pass_map, pass_as, exactly, path_pass}
 
 module _ (f : ℕ) where

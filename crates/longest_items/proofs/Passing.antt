@@ -9,13 +9,13 @@ use Rattle.ml_trees.specs.Tok.{Name, Tok, fixed, word}
 use Rattle.ml_trees.specs.Runs.{bracketing, after_bracket, is_matched, beside_type, begins_type, in_type, in_declaration, is_type_run}
 use Rattle.ml_trees.specs.Runs.{is_declaration_run}
 use Rattle.ml_trees.proofs.Words.{dotted_then, path_then, texts_then}
-use Rattle.parse_base.specs.Steps.{◌>>=◌, many, always}
-use Rattle.parse_base.specs.Pieces.{dot_upper, more_uppers, one_more, longest, cut_at, type_run, declaration_run}
-use Rattle.parse_base.proofs.Stepping.{from_some}
-use Rattle.parse_base.proofs.Reach.{Reach, exact, farther, map_some, many_shorter, many_on}
-use Rattle.parse_base.proofs.ReachPieces.{uppers_reach}
+use Rattle.token_reading.specs.Steps.{◌>>=◌, many, always}
+use Rattle.token_reading.specs.Pieces.{dot_upper, more_uppers, one_more, longest, cut_at, type_run, declaration_run}
+use Rattle.token_reading.proofs.Stepping.{from_some}
+use Rattle.token_reading.proofs.Reach.{Reach, exact, farther, map_some, many_shorter, many_on}
+use Rattle.token_reading.proofs.ReachPieces.{uppers_reach}
 use Rattle.expr_reading.specs.ExprReading.{upper_path}
-use Rattle.parse_module.specs.ModReading.{text_word}
+use Rattle.module_reading.specs.ModReading.{text_word}
 
 -- something is read, and no more is left than these tokens
 abbrev pub Passes : {A : Type 0} → List Tok → Option (A × List Tok) → Type 0

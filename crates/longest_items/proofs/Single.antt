@@ -6,7 +6,7 @@ use Rattle.ml_trees.specs.Tok.{Tok}
 use Rattle.ml_trees.specs.Words.{item_then, sig_item_then}
 use Rattle.ml_trees.specs.WellFormed.{is_separator, WfItem, WfSigItem}
 use Rattle.ml_trees.specs.Tree.{Item, ExprItem, Items, no_item, more_item, SigItem, SigItems, no_sig_item, more_sig_item, Body, Face}
-use Rattle.parse_module.proofs.LawsMod.{one_file_reading}
+use Rattle.module_laws.proofs.LawsMod.{one_file_reading}
 use Rattle.longest_items.specs.Longest.{IsLongestItem, AreLongestItems, none_begins, longest_then, IsLongestSig, AreLongestSigs, no_sig_begins}
 use Rattle.longest_items.specs.Longest.{longest_sig_then, OneLongestBody, OneLongestFace}
 use Rattle.longest_items.proofs.Appended.{item_adds, sig_item_adds}

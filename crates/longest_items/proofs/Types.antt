@@ -6,15 +6,15 @@ use Rattle.ml_trees.proofs.Words.{path_then, withs_then, mod_type_then}
 use Rattle.ml_trees.specs.WellFormed.{is_functor, is_simple_type, WfMod, WfModType}
 use Rattle.ml_trees.specs.Tree.{WithClause, WithOf, ModExpr, FunctorParam, FunctorParams, no_functor_param, more_functor_param, ModType, TypePath}
 use Rattle.ml_trees.specs.Tree.{Sig, TypeOf, TypeParen, With, FunctorType, ParamArrow, Arrow}
-use Rattle.parse_base.specs.Steps.{◌>>=◌, expect, always}
-use Rattle.parse_base.proofs.Stepping.{bind_ok, expect_ok}
-use Rattle.parse_base.proofs.Reach.{many_shorter}
-use Rattle.parse_module.specs.ModReading.{simple_type, arrow_or, with_or, with_clause, with_clauses, mod_type, read_mod, read_type}
-use Rattle.parse_module.proofs.LongerMod.{functor_params_more, mod_type_more}
-use Rattle.parse_module.proofs.FoundMod.{type_reads}
-use Rattle.parse_module.proofs.ReachMod.{simple_type_at, mod_type_at, param_longer, type_longer, param_read, params_exact, clause_shorter, sig_read}
-use Rattle.parse_module.proofs.ReachMod.{paren_type_read, with_at, type_plain, no_withs, arrow_no_with, param_arrow_is, param_good, params_good}
-use Rattle.parse_module.proofs.ReachMod.{type_good, sig_items_good}
+use Rattle.token_reading.specs.Steps.{◌>>=◌, expect, always}
+use Rattle.token_reading.proofs.Stepping.{bind_ok, expect_ok}
+use Rattle.token_reading.proofs.Reach.{many_shorter}
+use Rattle.module_reading.specs.ModReading.{simple_type, arrow_or, with_or, with_clause, with_clauses, mod_type, read_mod, read_type}
+use Rattle.module_laws.proofs.LongerMod.{functor_params_more, mod_type_more}
+use Rattle.module_laws.proofs.FoundMod.{type_reads}
+use Rattle.module_laws.proofs.ReachMod.{simple_type_at, mod_type_at, param_longer, type_longer, param_read, params_exact, clause_shorter, sig_read}
+use Rattle.module_laws.proofs.ReachMod.{paren_type_read, with_at, type_plain, no_withs, arrow_no_with, param_arrow_is, param_good, params_good}
+use Rattle.module_laws.proofs.ReachMod.{type_good, sig_items_good}
 use Rattle.longest_items.proofs.Passing.{Passes, pass_map, exactly, path_pass}
 use Rattle.longest_items.proofs.Modules.{flat_pass}
 use Rattle.longest_items.proofs.Clauses.{Clauses, withs_pass}

@@ -9,7 +9,7 @@ use Rattle.ml_trees.proofs.Words.{bindings_then}
 use Rattle.ml_trees.specs.Tree.{PlainName, OperatorName, Seq, Let, LetOpen, LetModule, Chain, Apply}
 use Rattle.ml_trees.specs.Tree.{ConstrApply, Postfix, BoolExpr, Value, Constr}
 use Rattle.ml_trees.specs.Tree.{EmptyList, ListExpr, Opened}
-use Rattle.parse_base.specs.Matching.{open_ins, lacks_in}
+use Rattle.token_reading.specs.Matching.{open_ins, lacks_in}
 use Rattle.matched_lets.specs.Laws.{LetsHaveTheirIn}
 use Rattle.matched_lets.proofs.SmallParts.{optional_leaves, bang_leaves, path_leaves, local_leaves}
 use Rattle.matched_lets.proofs.Leaves.{binding_leaves, bindings_leaves}

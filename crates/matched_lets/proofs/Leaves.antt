@@ -21,7 +21,7 @@ use Rattle.ml_trees.specs.Tree.{Case, CaseOf, Cases, no_case, more_case, Argumen
 use Rattle.ml_trees.specs.Tree.{more_argument, Param, PatternParam, LabelParam, LabelPattern, DefaultParam, WrappedParam, WrappedDefault, TypesParam}
 use Rattle.ml_trees.specs.Tree.{Params, no_param, more_param, Part, LabelPart, IndexPart, CharPart, Parts, no_part, more_part, Field, FieldPun}
 use Rattle.ml_trees.specs.Tree.{AssignedField, Fields, no_field, more_field}
-use Rattle.parse_base.specs.Matching.{is_apart, open_ins}
+use Rattle.token_reading.specs.Matching.{is_apart, open_ins}
 use Rattle.matched_lets.proofs.SmallParts.{bang_leaves, closing_leaves, direction_leaves, fixed_leaves, local_leaves, lowers_leaves, name_leaves}
 use Rattle.matched_lets.proofs.SmallParts.{names_leaves, open_leaves, opening_leaves, operator_leaves, optional_leaves, path_leaves, qualified_leaves}
 use Rattle.matched_lets.proofs.SmallParts.{run_leaves, semicolon_leaves, truth_leaves, type_leaves, variable_leaves, wrap_leaves}

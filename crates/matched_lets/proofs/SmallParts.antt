@@ -12,7 +12,7 @@ use Rattle.ml_trees.proofs.Words.{open_then, variable_then, local_then, locals_t
 use Rattle.ml_trees.specs.WellFormed.{is_operator, op_level, WfName, WfNames, WfType}
 use Rattle.ml_trees.specs.Tree.{ValueName, PlainName, OperatorName, Variable, PlainVariable, AnyVariable, LocalModule, LocalPath, LocalArguments}
 use Rattle.ml_trees.specs.Tree.{no_local, more_local, no_module}
-use Rattle.parse_base.specs.Matching.{is_apart, ins_before, open_ins}
+use Rattle.token_reading.specs.Matching.{is_apart, ins_before, open_ins}
 
 -- ---- words
 

@@ -4,7 +4,7 @@ use Rattle.ml_trees.specs.Tok.{Tok}
 use Rattle.ml_trees.specs.Tree.{Expr}
 use Rattle.ml_trees.specs.Words.{expr_then}
 use Rattle.ml_trees.specs.WellFormed.{Wf}
-use Rattle.parse_base.specs.Matching.{lacks_in}
+use Rattle.token_reading.specs.Matching.{lacks_in}
 
 -- tokens that begin with an expression do not begin with a `let` that lacks its `in`
 abbrev pub LetsHaveTheirIn : Type 0

@@ -1,13 +1,4 @@
-pub mod Steps
-pub mod Pieces
-pub mod PatReading
-pub mod Longest
-pub mod Tokens
-pub mod Gives
-pub mod Rows
-pub mod RunRows
-pub mod Nesting
-pub mod Stops
 pub mod Forms
-pub mod Matching
-pub mod Table
+pub mod Nesting
+pub mod Plain
+pub mod Stops

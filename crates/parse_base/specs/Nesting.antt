@@ -11,7 +11,7 @@ use Rattle.parse_base.specs.declared.depth.Role.{Role}
 use Rattle.parse_base.specs.declared.depth.Role.TheVariants as role
 use Rattle.parse_base.specs.declared.depth.Mark.{Mark}
 use Rattle.parse_base.specs.declared.depth.Mark.TheVariants as mark
-use Rattle.parse_base.specs.Tokens.{from}
+use Rattle.token_reading.specs.Tokens.{from}
 
 -- what a token is to the rules
 abbrev pub role_of : Tok → Role

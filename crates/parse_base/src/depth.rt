@@ -8,12 +8,10 @@ ghost use Rattle.parse_base.specs.declared.depth.Mark.TheVariants as mark;
 ghost use Rattle.parse_base.specs.Nesting.{role_of, is_let_or_bracket, is_case_or_bracket, after, down_to, without_last, where_last, last_is, is_bracket, is_let, is_case, is_ender, starts_item, is_in_or_semicolon, is_else, is_signed, role_at, DeepIs};
 ghost use Rattle.parse_base.specs.Stops.{test_of};
 
-use crate::names::is_minus;
-use crate::table::{TokenTable, kind_at};
-use crate::tokens::{Kind, number, text};
 use ml_trees::Fixed;
 use rotor_base::{Class, MAX_NESTING, Memory, Token};
 use std::alloc::Global;
+use token_reading::{Kind, TokenTable, is_minus, kind_at, number, text};
 
 /// What a token is to the rules of the nesting.
 #[derive(Clone, Copy)]
@@ -148,7 +146,7 @@ fn stops(stop: Stop, mark: Mark) -> bool
 }
 
 /// How many marks are left if those after the last stop are removed.
-fn kept(marks: &[Mark], stop: Stop) -> usize
+fn count_kept(marks: &[Mark], stop: Stop) -> usize
     ensures left { reverse (take result marks.now) ≡ down_to (test_of stop) (reverse marks.now) }
     ensures within { result ≤ length marks.now }
 {
@@ -177,7 +175,7 @@ fn push(marks: &mut Vec<Mark>, mark: Mark) -> Result<(), Memory>
 fn cut(marks: &mut Vec<Mark>, stop: Stop)
     ensures { reverse marks.new.items ≡ down_to (test_of stop) (reverse marks.old.items) }
 {
-    let left = kept(marks, stop);
+    let left = count_kept(marks, stop);
     marks.truncate(left);
 }
 
@@ -203,7 +201,7 @@ fn ends_with_let(marks: &[Mark]) -> bool
 fn cut_to_let(marks: &mut Vec<Mark>)
     ensures { reverse marks.new.items ≡ where_last is_let (down_to is_let_or_bracket (reverse marks.old.items)) (reverse marks.old.items) }
 {
-    let left = kept(marks, Stop::LetOrBracket);
+    let left = count_kept(marks, Stop::LetOrBracket);
     if ends_with_let(&marks[..left]) {
         marks.truncate(left);
     }
@@ -223,7 +221,7 @@ fn ends_with_case(marks: &[Mark]) -> bool
 fn cut_to_case(marks: &mut Vec<Mark>)
     ensures { reverse marks.new.items ≡ where_last is_case (down_to is_case_or_bracket (reverse marks.old.items)) (reverse marks.old.items) }
 {
-    let left = kept(marks, Stop::CaseOrBracket);
+    let left = count_kept(marks, Stop::CaseOrBracket);
     if ends_with_case(&marks[..left]) {
         marks.truncate(left);
     }

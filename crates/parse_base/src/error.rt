@@ -1,11 +1,9 @@
-//! Why a reading gave nothing.
+//! Why a list of tokens is refused.
 
 ghost use Rattle.std.specs.Prelude.{◌≡◌};
 ghost use Rattle.parse_base.specs.declared.error.ParseError.TheVariants as refused;
-ghost use Rattle.parse_base.specs.declared.error.ReadError.TheVariants as unread;
 
 use rotor_base::{FormKind, Memory};
-use std::alloc::{AllocError, AllocFailed};
 use thiserror::Error;
 
 /// Why a list of tokens is refused.
@@ -29,38 +27,5 @@ impl From<Memory> for ParseError {
 
     fn from(_error: Memory) -> Self {
         ParseError::Memory
-    }
-}
-
-/// Why one reader read nothing.
-#[derive(Clone, Copy, Debug, PartialEq, Eq)]
-pub enum ReadError {
-    /// What it reads does not begin there.
-    Syntax,
-    /// There was no memory for it, or it nests past the bound on levels.
-    Memory,
-}
-
-impl From<Memory> for ReadError {
-    ghost from_gives = { λ _ error. error ≡ unread.Memory };
-
-    fn from(_error: Memory) -> Self {
-        ReadError::Memory
-    }
-}
-
-impl From<AllocError> for ReadError {
-    ghost from_gives = { λ _ error. error ≡ unread.Memory };
-
-    fn from(_error: AllocError) -> Self {
-        ReadError::Memory
-    }
-}
-
-impl<T: Drop> From<AllocFailed<T>> for ReadError {
-    ghost from_gives = { λ _ error. error ≡ unread.Memory };
-
-    fn from(_error: AllocFailed<T>) -> Self {
-        ReadError::Memory
     }
 }

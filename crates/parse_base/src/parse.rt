@@ -3,18 +3,19 @@
 ghost use Rattle.std.specs.Prelude.{◌≡◌, ◌≤◌, ◌+◌, length, Err, IfOk, IfErr};
 ghost use Rattle.rotor_base.specs.Limits.{max_file_bytes};
 ghost use Rattle.ml_trees.specs.View.{view_pat};
-ghost use Rattle.parse_base.specs.Longest.{IsLongestPat, BeginsNoPat};
-ghost use Rattle.parse_base.specs.Gives.{Gives, IsPlain};
-ghost use Rattle.parse_base.specs.PatReading.{read_pat};
-ghost use Rattle.parse_base.specs.Tokens.{from};
+ghost use Rattle.token_reading.specs.Longest.{IsLongestPat, BeginsNoPat};
+ghost use Rattle.parse_base.specs.Plain.{IsPlain};
+ghost use Rattle.token_reading.specs.Gives.{Gives};
+ghost use Rattle.token_reading.specs.PatReading.{read_pat};
+ghost use Rattle.token_reading.specs.Tokens.{from};
 ghost use Rattle.parse_base.specs.declared.error.ParseError.TheVariants as refused;
 
-use crate::error::{ParseError, ReadError};
-use crate::patterns::pattern;
-use crate::table::TokenTable;
+use crate::error::ParseError;
 use ml_trees::Pat;
+use pattern_reading::pattern;
 use rotor_base::{MAX_LEVELS, Token};
 use std::alloc::Global;
+use token_reading::{ReadError, TokenTable};
 
 /// How often the form of a tree may nest in another: each such form takes three of the levels that a tree may have.
 pub const MAX_NESTED: usize = MAX_LEVELS / 3;

@@ -2,12 +2,12 @@
 use Rattle.std.proofs.Common.{◌≡◌, ℕ, ◌+◌, min, List, length, Some, None, ap, ◌∙◌, arith}
 use Rattle.rotor_base.specs.declared.token.Token.{Token}
 use Rattle.ml_trees.specs.Tree.{Expr}
-use Rattle.parse_base.specs.Tokens.{from}
-use Rattle.parse_base.proofs.Ends.{from_length, from_min}
+use Rattle.token_reading.specs.Tokens.{from}
+use Rattle.token_reading.proofs.Ends.{from_length, from_min}
 use Rattle.expr_reading.specs.declared.wanted.Wanted.TheVariants as wanted
 use Rattle.expr_reading.specs.ExprReading.{read_expr}
 use Rattle.expr_reading.specs.Longest.{IsLongestExpr, BeginsNoExpr}
-use Rattle.expr_reading.proofs.LawsExpr.{expr_longest, expr_none}
+use Rattle.expr_laws.proofs.LawsExpr.{expr_longest, expr_none}
 
 pub longest_expr : (ts : List Token) (start end place : ℕ) (e : Expr) → place ≡ min end (length ts)
     → read_expr (length ts + 1) wanted.Sequence (from ts start) ≡ Some (e, from ts end) → IsLongestExpr (from ts start) e (from ts place)

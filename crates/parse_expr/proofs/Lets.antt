@@ -2,11 +2,11 @@
 use Rattle.std.proofs.Common.{◌≡◌, ℕ, suc, List, Bool, true, false, Option, Some, None, refl, sym, ap, ◌∙◌}
 use Rattle.ml_trees.specs.Tok.{Tok}
 use Rattle.ml_trees.specs.Tree.{Expr}
-use Rattle.parse_base.specs.Matching.{lacks_in}
+use Rattle.token_reading.specs.Matching.{lacks_in}
 use Rattle.expr_reading.specs.declared.wanted.Wanted.TheVariants as wanted
 use Rattle.expr_reading.specs.ExprReading as r
 use Rattle.expr_reading.specs.ExprReading.{read_expr}
-use Rattle.expr_reading.proofs.FoundExpr.{expr_reads}
+use Rattle.expr_laws.proofs.FoundExpr.{expr_reads}
 use Rattle.matched_lets.proofs.HaveIn.{lets_have_their_in}
 
 contradiction : {A : Type 0} → true ≡ false → A

@@ -1,4 +1,4 @@
+pub mod Comma
 pub mod Ends
-pub mod Lone
-pub mod Operands
 pub mod Lets
+pub mod Operands

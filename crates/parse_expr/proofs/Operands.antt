@@ -9,11 +9,11 @@ use Rattle.ml_trees.specs.declared.fixed.Fixed.TheVariants as key
 use Rattle.ml_trees.specs.Tok.{Tok, fixed, placed, word}
 use Rattle.ml_trees.specs.WellFormed.{op_level}
 use Rattle.parse_expr.specs.Parts.{operator_of}
-use Rattle.parse_expr.proofs.Lone.{comma_alone}
+use Rattle.parse_expr.proofs.Comma.{comma_alone}
 use Rattle.ml_trees.specs.Tree.{Expr, Links, no_link, more_link}
 use Rattle.ml_trees.specs.View.{view, view_tok, ops, commas}
-use Rattle.parse_base.specs.Steps.{Read, ◌>>=◌, expect}
-use Rattle.parse_base.proofs.Turns.{before, before_last, Left, pushed, turn_off}
+use Rattle.token_reading.specs.Steps.{Read, ◌>>=◌, expect}
+use Rattle.token_reading.proofs.Turns.{before, before_last, Left, pushed, turn_off}
 use Rattle.expr_reading.specs.ExprReading.{cons_operand, operator_part, goes_on, read_expr, unary, tier}
 use Rattle.expr_parts.specs.Rows.{operand_of, comma_of, grown_tier}
 

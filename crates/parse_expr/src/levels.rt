@@ -5,29 +5,31 @@ ghost use Rattle.rotor_base.specs.Limits.{max_file_bytes};
 ghost use Rattle.ml_trees.specs.Tree as pure;
 ghost use Rattle.ml_trees.specs.declared.fixed.Fixed.TheVariants as key;
 ghost use Rattle.ml_trees.specs.View.{view, view_tok, links, commas, ops};
-ghost use Rattle.parse_base.specs.Steps.{many};
-ghost use Rattle.parse_base.specs.Gives.{name_at, Gives};
-ghost use Rattle.parse_base.specs.Tokens.{from};
+ghost use Rattle.token_reading.specs.Steps.{many};
+ghost use Rattle.token_reading.specs.Gives.{name_at, Gives};
+ghost use Rattle.token_reading.specs.Tokens.{from};
 ghost use Rattle.expr_reading.specs.declared.wanted.Wanted.TheVariants as wanted;
 ghost use Rattle.expr_reading.specs.ExprReading as r;
 ghost use Rattle.expr_reading.specs.ExprReading.{read_expr};
-ghost use Rattle.expr_forms.specs.Reads.{Nests};
+ghost use Rattle.expr_parts.specs.Reads.{Nests};
 ghost use Rattle.ml_trees.specs.Tok.{fixed};
 ghost use Rattle.parse_expr.specs.Parts.{operator_of};
 ghost use Rattle.expr_parts.specs.Rows.{link_of, item_of, row_rest, wrapped_by, grown_tier, with_steps};
 
 use crate::readers::Readers;
+use expr_atoms::Atoms;
+use expr_forms::Forms;
 use expr_parts::{
     Edge, goes_on, grown_assign, grown_chain, grown_seq, grown_tuple, level_at, on_edge, row_ends,
     semicolon_if,
 };
 use expr_reading::Wanted;
 use ml_trees::{Expr, Fixed, Word};
-use parse_base::{
-    Kind, ReadError, TokenTable, expect, is_minus, kind_at, lacks_in, text, token_word, word,
-};
 use rotor_base::Class;
 use std::alloc::Global;
+use token_reading::{
+    Kind, ReadError, TokenTable, expect, is_minus, kind_at, lacks_in, text, token_word, word,
+};
 
 impl<
     F: Copy
@@ -73,25 +75,31 @@ impl<
         requires few { length tokens.now ≤ max_file_bytes }
         ensures { Gives (λ x. (view x.0.value, from tokens.now x.1)) result (r.unary (read_expr self.now.grammar.depth) self.now.grammar.depth (from tokens.now at)) }
     {
+        let forms = Forms {
+            grammar: self.grammar,
+        };
         match kind_at(tokens, at) {
             Kind::Fixed(Fixed::Let) => {
                 if lacks_in(tokens, at) {
                     return Err(ReadError::Syntax);
                 }
-                self.grammar.let_expr(tokens, at)
+                forms.let_expr(tokens, at)
             }
-            Kind::Fixed(Fixed::Fun) => self.grammar.fun_expr(tokens, at),
-            Kind::Fixed(Fixed::Function) => self.grammar.function_expr(tokens, at),
-            Kind::Fixed(Fixed::Match) => self.grammar.match_expr(tokens, at),
-            Kind::Fixed(Fixed::Try) => self.grammar.try_expr(tokens, at),
-            Kind::Fixed(Fixed::If) => self.grammar.if_expr(tokens, at),
+            Kind::Fixed(Fixed::Fun) => forms.fun_expr(tokens, at),
+            Kind::Fixed(Fixed::Function) => forms.function_expr(tokens, at),
+            Kind::Fixed(Fixed::Match) => forms.match_expr(tokens, at),
+            Kind::Fixed(Fixed::Try) => forms.try_expr(tokens, at),
+            Kind::Fixed(Fixed::If) => forms.if_expr(tokens, at),
             Kind::Word(Class::Infix) => {
                 if !is_minus(text(tokens, at)) {
                     return Err(ReadError::Syntax);
                 }
                 self.minus(tokens, at)
             }
-            _ => self.application(tokens, at),
+            _ => Atoms {
+                grammar: self.grammar,
+            }
+            .application(tokens, at),
         }
     }
 
@@ -379,7 +387,7 @@ impl<
 }
 
 /// The operator of a level at a place.
-#[tactic(auto, using(parse_base::proofs::Places::from_end))]
+#[tactic(auto, using(token_reading::proofs::Places::from_end))]
 #[inline(never)]
 fn operator_word(
     alloc: Global,

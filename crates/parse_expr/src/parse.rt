@@ -3,8 +3,9 @@
 ghost use Rattle.std.specs.Prelude.{◌≡◌, ◌≤◌, ◌+◌, length, Err, IfOk, IfErr};
 ghost use Rattle.rotor_base.specs.Limits.{max_file_bytes};
 ghost use Rattle.ml_trees.specs.View.{view};
-ghost use Rattle.parse_base.specs.Gives.{Gives, IsPlain};
-ghost use Rattle.parse_base.specs.Tokens.{from};
+ghost use Rattle.parse_base.specs.Plain.{IsPlain};
+ghost use Rattle.token_reading.specs.Gives.{Gives};
+ghost use Rattle.token_reading.specs.Tokens.{from};
 ghost use Rattle.parse_base.specs.declared.error.ParseError.TheVariants as refused;
 ghost use Rattle.expr_reading.specs.declared.wanted.Wanted.TheVariants as wanted;
 ghost use Rattle.expr_reading.specs.ExprReading.{read_expr};
@@ -15,9 +16,10 @@ use crate::reading::read;
 use expr_levels::fits;
 use expr_reading::Wanted;
 use ml_trees::Expr;
-use parse_base::{MAX_NESTED, ParseError, ReadError, TokenTable};
+use parse_base::{MAX_NESTED, ParseError};
 use rotor_base::Token;
 use std::alloc::Global;
+use token_reading::{ReadError, TokenTable};
 
 /// How many levels an expression may have, and how often the readers may nest: 1,000 forms inside one another, with
 /// what is in the last of them. At so many levels, expressions were read and dropped within 6 MiB of stack.

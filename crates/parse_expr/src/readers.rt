@@ -1,18 +1,18 @@
 //! The readers of expressions.
 
 ghost use Rattle.std.specs.Prelude.{◌≡◌, IfOk, IfErr};
-ghost use Rattle.parse_base.specs.declared.error.ReadError.TheVariants as unread;
+ghost use Rattle.token_reading.specs.declared.error.ReadError.TheVariants as unread;
 
-use expr_forms::Grammar;
+use expr_parts::Grammar;
 use expr_reading::Wanted;
 use ml_trees::Expr;
-use parse_base::{ReadError, TokenTable};
 use std::alloc::Global;
+use token_reading::{ReadError, TokenTable};
 
 /// The readers of expressions, over their context.
 #[derive(Clone, Copy)]
-pub struct Readers<F> {
-    pub grammar: Grammar<F>,
+pub(crate) struct Readers<F> {
+    pub(crate) grammar: Grammar<F>,
 }
 
 impl<

@@ -3,19 +3,20 @@
 ghost use Rattle.std.specs.Prelude.{◌≤◌, length};
 ghost use Rattle.rotor_base.specs.Limits.{max_file_bytes};
 ghost use Rattle.ml_trees.specs.View.{view};
-ghost use Rattle.parse_base.specs.Gives.{Gives};
-ghost use Rattle.parse_base.specs.Tokens.{from};
+ghost use Rattle.token_reading.specs.Gives.{Gives};
+ghost use Rattle.token_reading.specs.Tokens.{from};
 ghost use Rattle.expr_reading.specs.ExprReading as r;
 ghost use Rattle.expr_reading.specs.ExprReading.{read_expr};
-ghost use Rattle.expr_forms.specs.Reads.{Nests};
+ghost use Rattle.expr_parts.specs.Reads.{Nests};
 
 use crate::readers::Readers;
-use expr_forms::Grammar;
+use expr_atoms::Atoms;
 use expr_levels::fits;
+use expr_parts::Grammar;
 use expr_reading::Wanted;
 use ml_trees::Expr;
-use parse_base::{ReadError, TokenTable};
 use std::alloc::Global;
+use token_reading::{ReadError, TokenTable};
 
 /// At how many levels the readers ask once whether what they have read has too many. In between, a tree may become some
 /// fourteen nodes higher at each level.
@@ -107,12 +108,15 @@ impl<
         requires few { length tokens.now ≤ max_file_bytes }
         ensures { Gives (λ x. (view x.0.value, from tokens.now x.1)) result (r.one_of (read_expr self.now.grammar.depth) self.now.grammar.depth wanted (from tokens.now at)) }
     {
+        let atoms = Atoms {
+            grammar: self.grammar,
+        };
         match wanted {
             Wanted::Sequence => self.sequence(tokens, at),
             Wanted::Expression => self.expression(tokens, at),
             Wanted::Operand => self.unary(tokens, at),
-            Wanted::Postfix => self.postfix(tokens, at),
-            Wanted::Prefixed => self.prefixed(tokens, at),
+            Wanted::Postfix => atoms.postfix(tokens, at),
+            Wanted::Prefixed => atoms.prefixed(tokens, at),
         }
     }
 }

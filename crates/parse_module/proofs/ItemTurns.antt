@@ -1,29 +1,19 @@
 -- Reading items one after the other, as a loop does, and what a loop found, as a row.
 use Rattle.std.proofs.Common.{◌≡◌, ℕ, suc, ◌-◌, ◌+◌, ◌≤◌, ◌<◌, List, [], ◌∷◌, ◌++◌, Bool, Some, None, map, refl, sym, ap, ◌∙◌, arith}
 use Rattle.ml_trees.specs.declared.module.Item.{Item}
-use Rattle.ml_trees.specs.declared.module.SigItem.{SigItem}
 use Rattle.ml_trees.specs.declared.module.ModArgument.{ModArgument}
-use Rattle.ml_trees.specs.declared.module.FunctorParam.{FunctorParam}
 use Rattle.ml_trees.specs.Tok.{Tok}
 use Rattle.ml_trees.specs.Tree as pure
-use Rattle.ml_trees.specs.View.{view_item, view_sig_item, view_mod_argument, view_functor_param, items, sig_items, mod_arguments, functor_params}
+use Rattle.ml_trees.specs.View.{view_item, view_mod_argument, items, mod_arguments}
 use Rattle.ml_trees.specs.WellFormed.{is_separator}
-use Rattle.parse_base.proofs.Turns.{before, before_last}
-use Rattle.parse_module.specs.ModReading.{read_mod, read_type, items_of, item_of}
+use Rattle.token_reading.proofs.Turns.{before, before_last}
+use Rattle.module_reading.specs.ModReading.{read_mod, read_type, items_of, item_of}
 
 -- ---- what a loop found, as a row
-
-pub params_before : (xs : List FunctorParam) → before pure.more_functor_param (map view_functor_param xs) pure.no_functor_param ≡ functor_params xs
-params_before [] = refl
-params_before (x ∷ xs) = ap (pure.more_functor_param (view_functor_param x)) (params_before xs)
 
 pub arguments_before : (xs : List ModArgument) → before pure.more_mod_argument (map view_mod_argument xs) pure.no_mod_argument ≡ mod_arguments xs
 arguments_before [] = refl
 arguments_before (x ∷ xs) = ap (pure.more_mod_argument (view_mod_argument x)) (arguments_before xs)
-
-pub sig_items_before : (xs : List SigItem) → before pure.more_sig_item (map view_sig_item xs) pure.no_sig_item ≡ sig_items xs
-sig_items_before [] = refl
-sig_items_before (x ∷ xs) = ap (pure.more_sig_item (view_sig_item x)) (sig_items_before xs)
 
 pub items_before : (xs : List Item) → before pure.more_item (map view_item xs) pure.no_item ≡ items xs
 items_before [] = refl

@@ -1,8 +1,3 @@
-pub mod BeforeArrows
-pub mod LongerMod
-pub mod FoundMod
-pub mod ReachMod
-pub mod LawsMod
-mod Rows
-mod ItemTurns
+pub mod ItemTurns
+pub mod Rows
 pub mod Whole

@@ -1,35 +1,20 @@
 -- Readings that depend on whether a list is empty, or on more than one token.
 use Rattle.std.proofs.Common.{◌≡◌, ℕ, ◌<◌, List, [], ◌∷◌, length, map, true, false, Some, None, refl, arith}
 use Rattle.rotor_base.specs.declared.token.Class.TheVariants as class
-use Rattle.ml_trees.specs.declared.word.Word.{Word}
 use Rattle.ml_trees.specs.declared.module.WithClause.{WithClause}
 use Rattle.ml_trees.specs.declared.module.ModArgument.{ModArgument}
 use Rattle.ml_trees.specs.declared.module.FunctorParam.{FunctorParam}
 use Rattle.ml_trees.specs.declared.fixed.Fixed.TheVariants as key
 use Rattle.ml_trees.specs.Tok.{Tok, fixed, placed, word}
 use Rattle.ml_trees.specs.Tree as pure
-use Rattle.ml_trees.specs.View.{view_words, view_with, mod_arguments, functor_params}
-use Rattle.ml_trees.specs.WellFormed.{is_constraint_sign}
-use Rattle.parse_base.specs.Steps.{◌>>=◌, expect}
-use Rattle.parse_base.specs.Gives.{starts}
-use Rattle.parse_base.specs.Rows.{first_is}
-use Rattle.parse_module.specs.ModReading as r
-use Rattle.parse_module.specs.ModReading.{read_mod, read_type}
-use Rattle.parse_module.specs.Parts.{names_module, module_type_item, module_type_sig, alias_sig, type_of}
+use Rattle.ml_trees.specs.View.{view_with, mod_arguments, functor_params}
+use Rattle.token_reading.specs.Steps.{◌>>=◌, expect}
+use Rattle.token_reading.specs.Gives.{starts}
+use Rattle.module_reading.specs.ModReading as r
+use Rattle.module_reading.specs.ModReading.{read_mod, read_type}
+use Rattle.parse_module.specs.Parts.{module_type_item, type_of}
 
 -- ---- rows that have a part, or none
-
-pub external_none : (x : pure.ValueName) (run : List Tok) (at : ℕ) (xs : List Word) (ts : List Tok) → length xs ≡ 0
-    → r.external_end x run at (view_words xs, ts) ≡ None
-external_none x run at [] ts h = refl
-external_none x run at (y ∷ ys) ts h = absurd (omega arith)
-
-pub external_some : (x : pure.ValueName) (run : List Tok) (at : ℕ) (xs : List Word) (ts : List Tok) → 0 < length xs
-    → r.external_end x run at (view_words xs, ts) ≡ Some (record { name = x; run = run; at = at; texts = view_words xs }, ts)
-external_some x run at [] ts h = absurd (omega arith)
-external_some x run at (y ∷ ys) ts h = refl
-
-pub ruleset externals = (external_none, external_some)
 
 pub apply_none : (m : pure.ModExpr) (xs : List ModArgument) → length xs ≡ 0 → r.grown_mod m (mod_arguments xs) ≡ m
 apply_none m [] h = refl
@@ -40,17 +25,6 @@ apply_some m [] h = absurd (omega arith)
 apply_some m (x ∷ xs) h = refl
 
 pub ruleset applications = (apply_none, apply_some)
-
--- ---- the sign of a constraint
-
-pub sign_none : (ts : List Tok) → first_is is_constraint_sign ts ≡ false → r.constraint_sign ts ≡ None
-sign_none [] h = refl
-sign_none (t ∷ ts) h = rw h refl
-
-pub sign_some : (t : Tok) (ts : List Tok) → is_constraint_sign t ≡ true → r.constraint_sign (t ∷ ts) ≡ Some (t, ts)
-sign_some t ts h = rw h refl
-
-pub ruleset signs = (sign_none, sign_some)
 
 module _ (d : ℕ) where
   -- ---- parameters behind `functor`
@@ -105,26 +79,6 @@ module _ (d : ℕ) where
   item_rest at (fixed key.Type ∷ ts) h = absurd cc
   item_rest at _ h = refl
 
-  pub sig_type : (at : ℕ) (ts : List Tok) → r.sig_item (read_mod d) (read_type d) d (placed key.Module at ∷ fixed key.Type ∷ ts) ≡ module_type_sig d
-      at ts
-  unfolding r.sig_item
-  sig_type at (word class.Upper x ∷ placed key.Equals q ∷ ts) = refl
-  sig_type at (word class.Upper x ∷ _) = refl
-  sig_type at _ = refl
-
-  pub sig_alias : (at : ℕ) (ts : List Tok) → names_module ts ≡ true
-      → r.sig_item (read_mod d) (read_type d) d (placed key.Module at ∷ ts) ≡ alias_sig d at ts
-  unfolding r.sig_item
-  sig_alias at (word class.Upper x ∷ placed key.Equals q ∷ ts) h = refl
-  sig_alias at _ h = absurd cc
-
-  pub sig_rest : (at : ℕ) (ts : List Tok) → starts key.Type ts ≡ false → names_module ts ≡ false
-      → r.sig_item (read_mod d) (read_type d) d (placed key.Module at ∷ ts) ≡ r.module_sig_rest (read_mod d) (read_type d) d at ts
-  unfolding r.sig_item
-  sig_rest at (fixed key.Type ∷ ts) h k = absurd cc
-  sig_rest at (word class.Upper x ∷ placed key.Equals q ∷ ts) h k = absurd cc
-  sig_rest at _ h k = refl
-
   pub of_type : (at : ℕ) (ts : List Tok) → r.simple_type (read_mod d) (read_type d) d (placed key.Module at ∷ fixed key.Type ∷ ts) ≡ type_of d at ts
   unfolding r.simple_type
   of_type at (fixed key.Of ∷ ts) = refl
@@ -155,8 +109,6 @@ pub ruleset functor_types = (functor_type_none, functor_type_some)
 pub ruleset withs = (with_none, with_some)
 
 pub ruleset module_items = (item_type, item_rest)
-
-pub ruleset module_sigs = (sig_type, sig_alias, sig_rest)
 
 pub ruleset module_types_of = (of_type, of_none)
 

@@ -11,16 +11,6 @@ use Rattle.parse_base.specs.declared.error.ParseError.TheVariants as refused
 use Rattle.parse_module.specs.declared.files.FileKind.{FileKind}
 use Rattle.parse_module.specs.declared.files.FileKind.TheVariants as kind
 
--- two bodies, or two interfaces, of one number
-abbrev pub AreOfOneKind : FileTree → FileTree → Type 0
-AreOfOneKind (Body a is) (Body b js) = a ≡ b
-AreOfOneKind (Face a is) (Face b js) = a ≡ b
-AreOfOneKind _ _ = ⊥
-
--- two files of one kind that have the same words are one
-abbrev pub OneFileReading : Type 0
-OneFileReading = (a b : FileTree) → AreOfOneKind a b → WfFile a → WfFile b → words a ≡ words b → a ≡ b
-
 -- a body or an interface, with this number
 abbrev pub IsOfFile : FileKind → ℕ → FileTree → Type 0
 IsOfFile kind.Body file (Body a is) = a ≡ file

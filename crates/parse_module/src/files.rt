@@ -5,21 +5,23 @@ ghost use Rattle.rotor_base.specs.Limits.{max_file_bytes};
 ghost use Rattle.ml_trees.specs.View as v;
 ghost use Rattle.ml_trees.specs.View.{view_file};
 ghost use Rattle.parse_base.specs.Forms.{first_form};
-ghost use Rattle.parse_base.specs.Gives.{Gives};
-ghost use Rattle.parse_base.specs.Tokens.{from};
+ghost use Rattle.token_reading.specs.Gives.{Gives};
+ghost use Rattle.token_reading.specs.Tokens.{from};
 ghost use Rattle.parse_base.specs.Nesting.{DeepIs};
 ghost use Rattle.parse_base.specs.declared.error.ParseError.TheVariants as refused;
-ghost use Rattle.parse_module.specs.ModReading.{body_start, face_start, read_body, read_face};
+ghost use Rattle.module_reading.specs.ModReading.{body_start, face_start, read_body, read_face};
 ghost use Rattle.parse_module.specs.Parts.{read_file};
 ghost use Rattle.parse_module.specs.Whole.{IsTreeOf, HasNoTree, told_form, told_deep};
 
-use crate::modules::Modules;
+use crate::readers::Readers;
 use crate::reading::{read_module, read_module_type};
 use ml_trees::{FileTree, Item, SigItem};
-use parse_base::{ParseError, ReadError, TokenTable, deep_token, scan_forms};
+use module_parts::Modules;
+use parse_base::{ParseError, deep_token, scan_forms};
 use parse_expr::MAX_DEEPER;
 use rotor_base::Token;
 use std::alloc::Global;
+use token_reading::{ReadError, TokenTable};
 
 /// What a source is: the body of a unit (`.ml`) or its interface (`.mli`).
 #[derive(Clone, Copy, Debug, PartialEq, Eq)]
@@ -56,12 +58,14 @@ fn read_body_items(alloc: Global, tokens: &TokenTable<'_>) -> Result<(Vec<Item>,
     requires few { length tokens.now ≤ max_file_bytes }
     ensures { Gives (λ x. (v.items x.0.items, from tokens.now x.1)) result (Some (body_start (length tokens.now + 1) (from tokens.now 0))) }
 {
-    let readers = Modules {
-        alloc,
-        depth: tokens.len() + 1,
-        levels: MAX_DEEPER,
-        modules: read_module,
-        types: read_module_type,
+    let readers = Readers {
+        parts: Modules {
+            alloc,
+            depth: tokens.len() + 1,
+            levels: MAX_DEEPER,
+            modules: read_module,
+            types: read_module_type,
+        },
     };
     readers.items(tokens, 0)
 }
@@ -74,14 +78,14 @@ fn read_face_items(
     requires few { length tokens.now ≤ max_file_bytes }
     ensures { Gives (λ x. (v.sig_items x.0.items, from tokens.now x.1)) result (Some (face_start (length tokens.now + 1) (from tokens.now 0))) }
 {
-    let readers = Modules {
+    let parts = Modules {
         alloc,
         depth: tokens.len() + 1,
         levels: MAX_DEEPER,
         modules: read_module,
         types: read_module_type,
     };
-    readers.sig_items(tokens, 0)
+    parts.sig_items(tokens, 0)
 }
 
 /// The tree of a body, with the number of its file.
@@ -109,7 +113,7 @@ fn face(alloc: Global, tokens: &TokenTable<'_>, file: u32) -> Result<FileTree, R
 }
 
 /// The tree of a body or of an interface.
-fn whole(
+fn read_whole(
     alloc: Global,
     tokens: &TokenTable<'_>,
     file: u32,
@@ -167,7 +171,7 @@ fn parse_table(
     if let Some(token) = deep_token(alloc, tokens)? {
         return Err(ParseError::Deep { token });
     }
-    match whole(alloc, tokens, file, kind) {
+    match read_whole(alloc, tokens, file, kind) {
         Ok(tree) => Ok(tree),
         Err(ReadError::Syntax) => Err(ParseError::Syntax),
         Err(ReadError::Memory) => Err(ParseError::Memory),

@@ -6,20 +6,22 @@ ghost use Rattle.ml_trees.specs.declared.fixed.Fixed.TheVariants as key;
 ghost use Rattle.ml_trees.specs.Tok.{placed};
 ghost use Rattle.ml_trees.specs.WellFormed.{is_separator as separates};
 ghost use Rattle.ml_trees.specs.View as v;
-ghost use Rattle.parse_base.specs.Gives.{Gives};
-ghost use Rattle.parse_base.specs.Tokens.{from};
-ghost use Rattle.parse_module.specs.ModReading as r;
-ghost use Rattle.parse_module.specs.ModReading.{read_mod, read_type};
+ghost use Rattle.token_reading.specs.Gives.{Gives};
+ghost use Rattle.token_reading.specs.Tokens.{from};
+ghost use Rattle.module_reading.specs.ModReading as r;
+ghost use Rattle.module_reading.specs.ModReading.{read_mod, read_type};
 ghost use Rattle.parse_module.specs.Parts as p;
-ghost use Rattle.parse_module.specs.Reads.{ReadsModules, ReadsTypes};
+ghost use Rattle.module_parts.specs.Reads.{ReadsModules, ReadsTypes};
 
-use crate::modules::Modules;
-use crate::names::{external, module_name, opened};
+use crate::readers::Readers;
 use crate::values::{sequence, value_item};
 use expr_parts::upper_word;
 use ml_trees::{Fixed, Item, ModExpr, ModType, Open};
-use parse_base::{Kind, ReadError, TokenTable, declaration_run, expect_at, is, kind_at, number};
+use module_parts::{external, module_name, opened};
 use std::alloc::Global;
+use token_reading::{
+    Kind, ReadError, TokenTable, declaration_run, expect_at, has_fixed, kind_at, number,
+};
 
 /// Whether an item is `;;`.
 #[tactic(auto, unfolding(ml_trees::specs::View::view_mod))]
@@ -37,7 +39,7 @@ impl<
         + Fn(Global, &TokenTable<'_>, usize, usize, usize) -> Result<(ModExpr, usize), ReadError>,
     G: Copy
         + Fn(Global, &TokenTable<'_>, usize, usize, usize) -> Result<(ModType, usize), ReadError>,
-> Modules<F, G> {
+> Readers<F, G> {
     /// After the `module` at `start`: a name, parameters, a module type or none, `=` and a module.
     #[tactic(auto, using(ml_trees::proofs::Variants::item_views))]
     #[inline(never)]
@@ -47,17 +49,17 @@ impl<
         start: usize,
         at: usize,
     ) -> Result<(Item, usize), ReadError>
-        requires modules { ReadsModules self.now.depth (F.pre self.now.modules) (F.post self.now.modules) }
-        requires types { ReadsTypes self.now.depth (G.pre self.now.types) (G.post self.now.types) }
+        requires modules { ReadsModules self.now.parts.depth (F.pre self.now.parts.modules) (F.post self.now.parts.modules) }
+        requires types { ReadsTypes self.now.parts.depth (G.pre self.now.parts.types) (G.post self.now.parts.types) }
         requires few { length tokens.now ≤ max_file_bytes }
         requires begun { start < length tokens.now }
-        ensures { Gives (λ x. (v.view_item x.0, from tokens.now x.1)) result (r.module_rest (read_mod self.now.depth) (read_type self.now.depth) self.now.depth (start + 1) (from tokens.now at)) }
+        ensures { Gives (λ x. (v.view_item x.0, from tokens.now x.1)) result (r.module_rest (read_mod self.now.parts.depth) (read_type self.now.parts.depth) self.now.parts.depth (start + 1) (from tokens.now at)) }
     {
-        let (name, at) = module_name(self.alloc, tokens, at)?;
-        let (params, at) = self.functor_params(tokens, at)?;
-        let (signature, at) = self.signature(tokens, at)?;
+        let (name, at) = module_name(self.parts.alloc, tokens, at)?;
+        let (params, at) = self.parts.functor_params(tokens, at)?;
+        let (signature, at) = self.parts.signature(tokens, at)?;
         let (equals, at) = expect_at(tokens, Fixed::Equals, at)?;
-        let (body, at) = self.sub_module(tokens, at)?;
+        let (body, at) = self.parts.sub_module(tokens, at)?;
         let item = Item::Module {
             at: number(start),
             name,
@@ -78,15 +80,15 @@ impl<
         start: usize,
         at: usize,
     ) -> Result<(Item, usize), ReadError>
-        requires modules { ReadsModules self.now.depth (F.pre self.now.modules) (F.post self.now.modules) }
-        requires types { ReadsTypes self.now.depth (G.pre self.now.types) (G.post self.now.types) }
+        requires modules { ReadsModules self.now.parts.depth (F.pre self.now.parts.modules) (F.post self.now.parts.modules) }
+        requires types { ReadsTypes self.now.parts.depth (G.pre self.now.parts.types) (G.post self.now.parts.types) }
         requires few { length tokens.now ≤ max_file_bytes }
         requires begun { start < length tokens.now }
-        ensures { Gives (λ x. (v.view_item x.0, from tokens.now x.1)) result (p.module_type_item self.now.depth (start + 1) (from tokens.now at)) }
+        ensures { Gives (λ x. (v.view_item x.0, from tokens.now x.1)) result (p.module_type_item self.now.parts.depth (start + 1) (from tokens.now at)) }
     {
-        let (name, at) = upper_word(self.alloc, tokens, at)?;
+        let (name, at) = upper_word(self.parts.alloc, tokens, at)?;
         let (equals, at) = expect_at(tokens, Fixed::Equals, at)?;
-        let (signature, at) = self.sub_type(tokens, at)?;
+        let (signature, at) = self.parts.sub_type(tokens, at)?;
         let item = Item::ModuleType {
             at: number(start),
             name,
@@ -100,51 +102,67 @@ impl<
     #[tactic(auto, using(crate::proofs::Rows::module_items))]
     #[inline(never)]
     fn module_item(&self, tokens: &TokenTable<'_>, at: usize) -> Result<(Item, usize), ReadError>
-        requires modules { ReadsModules self.now.depth (F.pre self.now.modules) (F.post self.now.modules) }
-        requires types { ReadsTypes self.now.depth (G.pre self.now.types) (G.post self.now.types) }
+        requires modules { ReadsModules self.now.parts.depth (F.pre self.now.parts.modules) (F.post self.now.parts.modules) }
+        requires types { ReadsTypes self.now.parts.depth (G.pre self.now.parts.types) (G.post self.now.parts.types) }
         requires few { length tokens.now ≤ max_file_bytes }
         requires within { at < length tokens.now }
-        ensures { Gives (λ x. (v.view_item x.0, from tokens.now x.1)) result (r.plain_item (read_mod self.now.depth) (read_type self.now.depth) self.now.depth (placed key.Module (at + 1) ∷ from tokens.now (at + 1))) }
+        ensures { Gives (λ x. (v.view_item x.0, from tokens.now x.1)) result (r.plain_item (read_mod self.now.parts.depth) (read_type self.now.parts.depth) self.now.parts.depth (placed key.Module (at + 1) ∷ from tokens.now (at + 1))) }
     {
-        if is(tokens, Fixed::Type, at + 1) {
+        if has_fixed(tokens, Fixed::Type, at + 1) {
             return self.module_type_item(tokens, at, at + 2);
         }
         self.module_rest(tokens, at, at + 1)
     }
 
     /// An item that is no expression.
-    #[tactic(auto, unfolding(crate::specs::ModReading::plain_item), using(ml_trees::proofs::Variants::item_views))]
+    #[tactic(auto, unfolding(module_reading::specs::ModReading::plain_item), using(ml_trees::proofs::Variants::item_views))]
     #[inline(never)]
     fn plain_item(&self, tokens: &TokenTable<'_>, at: usize) -> Result<(Item, usize), ReadError>
-        requires modules { ReadsModules self.now.depth (F.pre self.now.modules) (F.post self.now.modules) }
-        requires types { ReadsTypes self.now.depth (G.pre self.now.types) (G.post self.now.types) }
+        requires modules { ReadsModules self.now.parts.depth (F.pre self.now.parts.modules) (F.post self.now.parts.modules) }
+        requires types { ReadsTypes self.now.parts.depth (G.pre self.now.parts.types) (G.post self.now.parts.types) }
         requires few { length tokens.now ≤ max_file_bytes }
-        ensures { Gives (λ x. (v.view_item x.0, from tokens.now x.1)) result (r.plain_item (read_mod self.now.depth) (read_type self.now.depth) self.now.depth (from tokens.now at)) }
+        ensures { Gives (λ x. (v.view_item x.0, from tokens.now x.1)) result (r.plain_item (read_mod self.now.parts.depth) (read_type self.now.parts.depth) self.now.parts.depth (from tokens.now at)) }
     {
         match kind_at(tokens, at) {
-            Kind::Fixed(Fixed::Let) => value_item(self.alloc, tokens, self.depth, self.levels, at),
+            Kind::Fixed(Fixed::Let) => value_item(
+                self.parts.alloc,
+                tokens,
+                self.parts.depth,
+                self.parts.levels,
+                at,
+            ),
             Kind::Fixed(Fixed::DoubleSemicolon) => Ok((Item::Separator, at + 1)),
             Kind::Fixed(Fixed::External) => {
-                let (external, after) = external(self.alloc, tokens, self.depth, at + 1)?;
+                let (external, after) = external(
+                    self.parts.alloc,
+                    tokens,
+                    self.parts.depth,
+                    at + 1,
+                )?;
                 Ok((Item::External(external), after))
             }
             Kind::Fixed(Fixed::Type) => {
-                let (run, after) = declaration_run(self.alloc, tokens, at + 1)?;
+                let (run, after) = declaration_run(self.parts.alloc, tokens, at + 1)?;
                 Ok((Item::Type(run), after))
             }
             Kind::Fixed(Fixed::Exception) => {
-                let (run, after) = declaration_run(self.alloc, tokens, at + 1)?;
+                let (run, after) = declaration_run(self.parts.alloc, tokens, at + 1)?;
                 let at = number(at);
                 Ok((Item::Exception { at, run }, after))
             }
             Kind::Fixed(Fixed::Module) => self.module_item(tokens, at),
             Kind::Fixed(Fixed::Open) => {
-                let ((bang, path), after) = opened(self.alloc, tokens, self.depth, at + 1)?;
+                let ((bang, path), after) = opened(
+                    self.parts.alloc,
+                    tokens,
+                    self.parts.depth,
+                    at + 1,
+                )?;
                 let at = number(at);
                 Ok((Item::Open(Open { at, bang, path }), after))
             }
             Kind::Fixed(Fixed::Include) => {
-                let (module, after) = self.sub_module(tokens, at + 1)?;
+                let (module, after) = self.parts.sub_module(tokens, at + 1)?;
                 let at = number(at);
                 Ok((Item::Include { at, module }, after))
             }
@@ -153,7 +171,7 @@ impl<
     }
 
     /// An item. If it is `fresh`, it may be an expression, which is tried first.
-    #[tactic(auto, unfolding(crate::specs::ModReading::item_of), using(ml_trees::proofs::Variants::item_views))]
+    #[tactic(auto, unfolding(module_reading::specs::ModReading::item_of), using(ml_trees::proofs::Variants::item_views))]
     #[inline(never)]
     fn item(
         &self,
@@ -161,15 +179,21 @@ impl<
         fresh: bool,
         at: usize,
     ) -> Result<(Item, usize), ReadError>
-        requires modules { ReadsModules self.now.depth (F.pre self.now.modules) (F.post self.now.modules) }
-        requires types { ReadsTypes self.now.depth (G.pre self.now.types) (G.post self.now.types) }
+        requires modules { ReadsModules self.now.parts.depth (F.pre self.now.parts.modules) (F.post self.now.parts.modules) }
+        requires types { ReadsTypes self.now.parts.depth (G.pre self.now.parts.types) (G.post self.now.parts.types) }
         requires few { length tokens.now ≤ max_file_bytes }
-        ensures { Gives (λ x. (v.view_item x.0, from tokens.now x.1)) result (r.item_of (read_mod self.now.depth) (read_type self.now.depth) self.now.depth fresh (from tokens.now at)) }
+        ensures { Gives (λ x. (v.view_item x.0, from tokens.now x.1)) result (r.item_of (read_mod self.now.parts.depth) (read_type self.now.parts.depth) self.now.parts.depth fresh (from tokens.now at)) }
     {
         if !fresh {
             return self.plain_item(tokens, at);
         }
-        match sequence(self.alloc, tokens, self.depth, self.levels, at) {
+        match sequence(
+            self.parts.alloc,
+            tokens,
+            self.parts.depth,
+            self.parts.levels,
+            at,
+        ) {
             Ok((tree, after)) => Ok((Item::Expression(tree), after)),
             Err(ReadError::Syntax) => self.plain_item(tokens, at),
             Err(ReadError::Memory) => Err(ReadError::Memory),
@@ -183,15 +207,15 @@ impl<
         tokens: &TokenTable<'_>,
         at: usize,
     ) -> Result<(Vec<Item>, usize), ReadError>
-        requires modules { ReadsModules self.now.depth (F.pre self.now.modules) (F.post self.now.modules) }
-        requires types { ReadsTypes self.now.depth (G.pre self.now.types) (G.post self.now.types) }
+        requires modules { ReadsModules self.now.parts.depth (F.pre self.now.parts.modules) (F.post self.now.parts.modules) }
+        requires types { ReadsTypes self.now.parts.depth (G.pre self.now.parts.types) (G.post self.now.parts.types) }
         requires few { length tokens.now ≤ max_file_bytes }
-        ensures { Gives (λ x. (v.items x.0.items, from tokens.now x.1)) result (Some (r.items_of (read_mod self.now.depth) (read_type self.now.depth) self.now.depth self.now.depth true (from tokens.now at))) }
+        ensures { Gives (λ x. (v.items x.0.items, from tokens.now x.1)) result (Some (r.items_of (read_mod self.now.parts.depth) (read_type self.now.parts.depth) self.now.parts.depth self.now.parts.depth true (from tokens.now at))) }
     {
-        let mut found = Vec::new(self.alloc);
+        let mut found = Vec::new(self.parts.alloc);
         let mut at = at;
         let mut fresh = true;
-        for _turn in 0..self.depth {
+        for _turn in 0..self.parts.depth {
             match self.item(tokens, fresh, at) {
                 Ok((next, after)) => {
                     fresh = is_separator(&next);

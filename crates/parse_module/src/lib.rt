@@ -6,19 +6,13 @@
 //! reader gives want of memory.
 #![tactic(auto)]
 
-mod arrows;
-mod constraints;
 mod files;
 mod items;
-mod laws;
 mod module_exprs;
 mod module_types;
-mod modules;
-mod names;
-mod parameters;
+mod readers;
 mod reading;
-mod sig_items;
 mod values;
 
 pub use files::{FileKind, body_items, face_items, parse_file};
-pub use laws::one_file_reading;
+pub use module_laws::one_file_reading;

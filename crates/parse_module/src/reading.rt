@@ -3,19 +3,19 @@
 ghost use Rattle.std.specs.Prelude.{◌≤◌, length};
 ghost use Rattle.rotor_base.specs.Limits.{max_file_bytes};
 ghost use Rattle.ml_trees.specs.View as v;
-ghost use Rattle.parse_base.specs.Gives.{Gives};
-ghost use Rattle.parse_base.specs.Tokens.{from};
-ghost use Rattle.parse_module.specs.ModReading.{read_mod, read_type};
+ghost use Rattle.token_reading.specs.Gives.{Gives};
+ghost use Rattle.token_reading.specs.Tokens.{from};
+ghost use Rattle.module_reading.specs.ModReading.{read_mod, read_type};
 
-use crate::arrows::{Step, with_arrows};
-use crate::modules::Modules;
+use crate::readers::Readers;
 use ml_trees::{ModExpr, ModType};
-use parse_base::{ReadError, TokenTable};
+use module_parts::{Modules, Step, with_arrows};
 use std::alloc::Global;
+use token_reading::{ReadError, TokenTable};
 
 /// A module expression, nested at most so deep and over at most so many levels, and the place after it.
 #[cycle(modules)]
-#[tactic(auto, unfolding(crate::specs::ModReading::read_mod))]
+#[tactic(auto, unfolding(module_reading::specs::ModReading::read_mod))]
 pub(crate) fn read_module(
     alloc: Global,
     tokens: &TokenTable<'_>,
@@ -32,19 +32,21 @@ pub(crate) fn read_module(
     if levels == 0 {
         return Err(ReadError::Memory);
     }
-    let readers = Modules {
-        alloc,
-        depth: depth - 1,
-        levels: levels - 1,
-        modules: read_module,
-        types: read_module_type,
+    let readers = Readers {
+        parts: Modules {
+            alloc,
+            depth: depth - 1,
+            levels: levels - 1,
+            modules: read_module,
+            types: read_module_type,
+        },
     };
     readers.module(tokens, at)
 }
 
 /// A module type, the same. A loop reads the part before each arrow; each arrow is a level.
 #[cycle(modules)]
-#[tactic(auto, unfolding(crate::specs::ModReading::read_type))]
+#[tactic(auto, unfolding(module_reading::specs::ModReading::read_type))]
 pub(crate) fn read_module_type(
     alloc: Global,
     tokens: &TokenTable<'_>,
@@ -61,12 +63,14 @@ pub(crate) fn read_module_type(
         if turn >= levels {
             return Err(ReadError::Memory);
         }
-        let readers = Modules {
-            alloc,
-            depth: depth - turn - 1,
-            levels: levels - turn - 1,
-            modules: read_module,
-            types: read_module_type,
+        let readers = Readers {
+            parts: Modules {
+                alloc,
+                depth: depth - turn - 1,
+                levels: levels - turn - 1,
+                modules: read_module,
+                types: read_module_type,
+            },
         };
         let (step, after) = match readers.step(tokens, at) {
             Ok(found) => found,

@@ -3,18 +3,19 @@
 ghost use Rattle.std.specs.Prelude.{◌≤◌, ◌<◌, ◌+◌, length};
 ghost use Rattle.rotor_base.specs.Limits.{max_file_bytes};
 ghost use Rattle.ml_trees.specs.View.{view, view_item};
-ghost use Rattle.parse_base.specs.Gives.{Gives};
-ghost use Rattle.parse_base.specs.Tokens.{from};
+ghost use Rattle.token_reading.specs.Gives.{Gives};
+ghost use Rattle.token_reading.specs.Tokens.{from};
 ghost use Rattle.expr_reading.specs.declared.wanted.Wanted.TheVariants as wanted;
 ghost use Rattle.expr_reading.specs.ExprReading.{read_expr};
-ghost use Rattle.parse_module.specs.ModReading as r;
+ghost use Rattle.module_reading.specs.ModReading as r;
 
-use expr_forms::Grammar;
+use expr_forms::Forms;
+use expr_parts::Grammar;
 use expr_reading::Wanted;
 use ml_trees::{Expr, Fixed, Item};
-use parse_base::{Kind, ReadError, TokenTable, kind_at, number};
 use parse_expr::read;
 use std::alloc::Global;
+use token_reading::{Kind, ReadError, TokenTable, kind_at, number};
 
 /// What is wanted at a place, as the function that the readers of bindings call.
 fn nested(
@@ -61,13 +62,15 @@ fn some_bindings(
     requires begun { start < length tokens.now }
     ensures { Gives (λ x. (view_item x.0, from tokens.now x.1)) result (r.some_bindings depth recursive (start + 1) (from tokens.now at)) }
 {
-    let grammar = Grammar {
-        alloc,
-        depth,
-        levels,
-        sub: nested,
+    let forms = Forms {
+        grammar: Grammar {
+            alloc,
+            depth,
+            levels,
+            sub: nested,
+        },
     };
-    let ((first, rest), at) = grammar.all_bindings(tokens, at)?;
+    let ((first, rest), at) = forms.all_bindings(tokens, at)?;
     let first = Box::into_inner(first);
     let item = Item::Value {
         at: number(start),
@@ -79,7 +82,7 @@ fn some_bindings(
 }
 
 /// After the `let` at a place: an item.
-#[tactic(auto, unfolding(crate::specs::ModReading::value_rest))]
+#[tactic(auto, unfolding(module_reading::specs::ModReading::value_rest))]
 pub(crate) fn value_item(
     alloc: Global,
     tokens: &TokenTable<'_>,

@@ -8,7 +8,7 @@ use Rattle.ml_lexer.specs.Lexed.{Lexed, view_tokens}
 use Rattle.ml_trees.specs.declared.module.FileTree.{FileTree as Source}
 use Rattle.ml_trees.specs.View.{view_file}
 use Rattle.parse_base.specs.Forms.{first_form}
-use Rattle.parse_base.specs.Tokens.{from}
+use Rattle.token_reading.specs.Tokens.{from}
 use Rattle.parse_base.specs.Nesting.{DeepIs}
 use Rattle.parse_base.specs.declared.error.ParseError.{ParseError}
 use Rattle.parse_base.specs.declared.error.ParseError.TheVariants as refused

@@ -12,7 +12,8 @@ use Rattle.ml_syntax.proofs.RespelledNames.{respelled_names_are_read}
 use Rattle.respelled_tokens.proofs.TokensKept as tokens
 use Rattle.parse_module.specs.declared.files.FileKind.{FileKind}
 use Rattle.parse_module.specs.declared.files.FileKind.TheVariants as kind
-use Rattle.parse_module.specs.Whole.{AreOfOneKind, IsOfFile, OneFileReading}
+use Rattle.module_reading.specs.OneReading.{AreOfOneKind, OneFileReading}
+use Rattle.parse_module.specs.Whole.{IsOfFile}
 use Rattle.unit_order.specs.Order.{order_of, takes_all}
 use Rattle.ml_syntax.specs.RespelledSource.{Spellings, IsRespelled, AreRespelled}
 use Rattle.project_reading.specs.Respelled.{spell_tree, spell_unit, ChangesNamesIn, RespellingKeepsTheReading}

@@ -1,5 +1,5 @@
 -- Respelled files are read as the respelled project: the law, since files have one reading.
-use Rattle.parse_module.proofs.LawsMod.{one_file_reading}
+use Rattle.module_laws.proofs.LawsMod.{one_file_reading}
 use Rattle.project_reading.specs.Respelled.{RespellingKeepsTheReading}
 use Rattle.project_reading.proofs.ReadingKept.{reading_kept}
 

@@ -8,7 +8,7 @@ use Rattle.ml_trees.specs.Tok.{Name, Tok, fixed, placed, word, toks_from}
 use Rattle.ml_syntax.specs.Respelled.{Spelling, spelled, spell_tok}
 use Rattle.ml_syntax.specs.RespelledFile.{lexeme_toks}
 use Rattle.parse_base.specs.Forms.{first_form}
-use Rattle.parse_base.specs.Tokens.{lexeme, from}
+use Rattle.token_reading.specs.Tokens.{lexeme, from}
 use Rattle.respelled_tokens.specs.Kept.{touches, AreAlike}
 use Rattle.parse_base.specs.Nesting.{DeepIs}
 use Rattle.respelled_tokens.proofs.FormsKept.{forms_are_kept}

@@ -5,9 +5,9 @@ use crate::names_table::names;
 use crate::rule::Rule;
 use crate::step::{Step, Trait, Want};
 use crate::wants::is_wanted;
-use parse_base::TokenTable;
 use rotor_base::Memory;
 use std::alloc::Global;
+use token_reading::TokenTable;
 
 /// Where a reading is: the place of its next token, and how what it has read ends.
 #[derive(Clone, Copy)]

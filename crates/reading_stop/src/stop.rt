@@ -3,10 +3,10 @@ ghost use Rattle.std.specs.Prelude.{◌≤◌, IfOk, length};
 
 use crate::reading::Reading;
 use crate::rule::Rule;
-use parse_base::TokenTable;
 use parse_module::FileKind;
 use rotor_base::{Class, Memory, Token};
 use std::alloc::Global;
+use token_reading::TokenTable;
 
 /// The most steps of a reading. The rules take far fewer: they read from left to right, and none reads itself first.
 const MOST_STEPS: u64 = 1 << 40;

@@ -3,13 +3,13 @@
 use crate::step::Want;
 use expr_parts::level_at;
 use ml_trees::Fixed;
-use parse_base::{Kind, TokenTable, is, is_minus, is_operator, kind_at};
 use rotor_base::Class;
+use token_reading::{Kind, TokenTable, has_fixed, is_minus, is_operator, kind_at};
 
 /// Whether the token at a place is as it is wanted. Behind the last one there is none.
 pub(crate) fn is_wanted(tokens: &TokenTable<'_>, want: Want, at: usize) -> bool {
     match want {
-        Want::Fixed(fixed) => is(tokens, fixed, at),
+        Want::Fixed(fixed) => has_fixed(tokens, fixed, at),
         Want::Class(class) => is_of(kind_at(tokens, at), class),
         Want::Level(level) => level_at(tokens, at) == level,
         Want::Operator => is_operator(tokens, at),

@@ -2,8 +2,8 @@
 use Rattle.std.proofs.Common.{ℕ, ◌+◌, length, true}
 use Rattle.ml_syntax.specs.RespelledFile.{lexeme_toks}
 use Rattle.parse_module.specs.declared.files.FileKind.TheVariants as kind
-use Rattle.parse_module.specs.ModReading.{body_start, face_start, read_mod, read_type}
-use Rattle.parse_module.proofs.FoundMod.{items_found, mod_reads, sig_items_found, type_reads}
+use Rattle.module_reading.specs.ModReading.{body_start, face_start, read_mod, read_type}
+use Rattle.module_laws.proofs.FoundMod.{items_found, mod_reads, sig_items_found, type_reads}
 use Rattle.refusal_places.specs.Laws.{FrontsEndItems}
 
 pub fronts_end_items : FrontsEndItems

@@ -6,11 +6,11 @@ use Rattle.rotor_base.specs.declared.token.Token.{Token}
 use Rattle.ml_lexer.specs.Lexed.{Lexeme, view_tokens}
 use Rattle.ml_syntax.specs.RespelledFile.{lexeme_toks}
 use Rattle.ml_trees.specs.Tok.{Tok, toks_from}
-use Rattle.parse_base.specs.Tokens.{from, lexeme}
-use Rattle.parse_base.proofs.Stepping.{some_is}
+use Rattle.token_reading.specs.Tokens.{from, lexeme}
+use Rattle.token_reading.proofs.Stepping.{some_is}
 use Rattle.parse_module.specs.declared.files.FileKind.{FileKind}
 use Rattle.parse_module.specs.declared.files.FileKind.TheVariants as kind
-use Rattle.parse_module.specs.ModReading.{body_start, face_start}
+use Rattle.module_reading.specs.ModReading.{body_start, face_start}
 use Rattle.ml_trees.specs.Tree.{Items, SigItems}
 use Rattle.refusal_places.specs.Front.{behind_items, items_end}
 

@@ -5,10 +5,10 @@ use Rattle.ml_lexer.specs.Lexed.{view_tokens}
 use Rattle.ml_syntax.specs.RespelledFile.{lexeme_toks}
 use Rattle.ml_trees.specs.Tok.{Tok}
 use Rattle.ml_trees.specs.Tree.{Items, SigItems}
-use Rattle.parse_base.specs.Tokens.{from}
-use Rattle.parse_base.proofs.Stepping.{some_is}
+use Rattle.token_reading.specs.Tokens.{from}
+use Rattle.token_reading.proofs.Stepping.{some_is}
 use Rattle.parse_module.specs.declared.files.FileKind.TheVariants as kind
-use Rattle.parse_module.specs.ModReading.{body_start, face_start}
+use Rattle.module_reading.specs.ModReading.{body_start, face_start}
 use Rattle.unit_order.specs.Heads.{items_heads, sig_items_heads}
 use Rattle.refusal_places.specs.Heads.{heads_of}
 use Rattle.refusal_places.proofs.Fronts.{toks_same, viewed}

@@ -8,9 +8,9 @@ use Rattle.ml_trees.specs.Tok.{Tok}
 use Rattle.ml_trees.specs.Tree.{Body, Face, FileTree, Items, SigItems}
 use Rattle.parse_module.specs.declared.files.FileKind.{FileKind}
 use Rattle.parse_module.specs.declared.files.FileKind.TheVariants as kind
-use Rattle.parse_module.specs.ModReading.{body_start, face_start, read_body, read_face, whole_body, whole_face}
+use Rattle.module_reading.specs.ModReading.{body_start, face_start, read_body, read_face, whole_body, whole_face}
 use Rattle.parse_module.specs.Parts.{read_file}
-use Rattle.parse_module.proofs.LongerMod.{items_more, sig_items_more}
+use Rattle.module_laws.proofs.LongerMod.{items_more, sig_items_more}
 use Rattle.parse_module.proofs.Whole.{no_tree, tree_of}
 use Rattle.refusal_places.specs.Front.{behind_items, front_of, is_in, items_end, last_let}
 use Rattle.refusal_places.specs.Laws.{AreRead, FrontsTellReading}

@@ -6,7 +6,7 @@ use Rattle.ml_syntax.specs.RespelledFile.{lexeme_toks}
 use Rattle.ml_trees.specs.Tok.{Tok}
 use Rattle.parse_module.specs.declared.files.FileKind.{FileKind}
 use Rattle.parse_module.specs.declared.files.FileKind.TheVariants as kind
-use Rattle.parse_module.specs.ModReading.{body_start, face_start}
+use Rattle.module_reading.specs.ModReading.{body_start, face_start}
 
 -- the tokens behind the items with which lexemes begin, read one after another, each as long as it can be read
 abbrev pub behind_items : FileKind → List Lexeme → List Tok

@@ -2,7 +2,7 @@
 ghost use Rattle.std.specs.Prelude.{◌≡◌, ◌+◌, ◌≤◌, ◌<◌, ◌-◌, ◌==◌, ◌&&◌, IfOk, bytes_eq, codes, length, slice_get, take};
 ghost use Rattle.rotor_base.specs.Limits.{max_file_bytes};
 ghost use Rattle.ml_lexer.specs.Lexed.{view_tokens};
-ghost use Rattle.parse_base.specs.Tokens.{from};
+ghost use Rattle.token_reading.specs.Tokens.{from};
 ghost use Rattle.refusal_places.specs.Front.{behind_items, front_at as front_at_of, front_of as front_for, ins_before as ins_before_of, is_in as is_in_of, items_end as items_end_of, last_let as last_let_of};
 
 use parse_module::{FileKind, body_items, face_items};

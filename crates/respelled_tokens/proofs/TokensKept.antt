@@ -14,7 +14,7 @@ use Rattle.ml_trees.specs.Tok.{Name, toks_from}
 use Rattle.ml_syntax.specs.Respelled.{Spelling, spelled, spell_tok}
 use Rattle.ml_syntax.specs.RespelledFile.{lexeme_toks, new_words}
 use Rattle.ml_syntax.proofs.RespelledFile.{respelled_tokens}
-use Rattle.parse_base.specs.Tokens.{lexeme, from}
+use Rattle.token_reading.specs.Tokens.{lexeme, from}
 use Rattle.respelled_tokens.specs.Kept.{touches, IsAlike, AreAlike, RespelledTokensAreKept, RespellingKeepsTheReading}
 use Rattle.respelled_tokens.proofs.Kept.{nesting_is_kept}
 use Rattle.respelled_tokens.proofs.FormsKept.{forms_are_kept}

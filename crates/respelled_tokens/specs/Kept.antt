@@ -10,7 +10,7 @@ use Rattle.ml_trees.specs.Words.{words}
 use Rattle.ml_trees.specs.WellFormed.{WfFile}
 use Rattle.ml_syntax.specs.Places.{sites}
 use Rattle.ml_syntax.specs.RespelledFile.{new_words, ChangesNames}
-use Rattle.parse_base.specs.Tokens.{from}
+use Rattle.token_reading.specs.Tokens.{from}
 use Rattle.parse_base.specs.Nesting.{DeepIs}
 use Rattle.parse_base.specs.Forms.{first_form}
 

@@ -3,7 +3,7 @@ use Rattle.std.proofs.Common.{◌≡◌, ◌<◌, ◌≤◌, ◌+◌, ℕ, zero,
 use Rattle.rotor_base.specs.Limits.{max_nesting}
 use Rattle.ml_lexer.specs.Lexed.{Lexeme}
 use Rattle.ml_trees.specs.Tok.{toks_from}
-use Rattle.parse_base.specs.Tokens.{from, lexeme}
+use Rattle.token_reading.specs.Tokens.{from, lexeme}
 use Rattle.parse_base.specs.Nesting.{after, first_role, marks, nesting, role_at, role_before}
 use Rattle.project_reading.specs.Source.{tokens_of, IsDeepAt}
 use Rattle.token_laws.specs.Tokens.{texts_of}

@@ -13,10 +13,9 @@ use crate::patterns::production;
 use crate::refusals::{deep_text, fault_text, form_text, refusal_text, unread_text};
 use ml_lexer::{LexError, lex};
 use ml_trees::{Pat, Run};
-use parse_base::{
-    MAX_NESTED, ReadError, TokenTable, declaration_run, parse_pat, scan_depth, scan_forms,
-    simple_pattern,
-};
+use parse_base::{MAX_NESTED, parse_pat, scan_depth, scan_forms};
+use pattern_reading::simple_pattern;
+use token_reading::{ReadError, TokenTable, declaration_run};
 use parse_expr::parse_seq;
 use parse_module::{FileKind, parse_file};
 use rotor_base::{MAX_FILE_BYTES, Token};

@@ -1,7 +1,8 @@
 //! Faults, refused forms and refusals as text.
 
 use ml_lexer::LexError;
-use parse_base::{ParseError, ReadError};
+use parse_base::ParseError;
+use token_reading::ReadError;
 use rotor_base::FormKind;
 use std::alloc::{AllocError, Global};
 

@@ -2,7 +2,7 @@ use Rattle.std.proofs.Common.{◌≤◌, List, length, sym, subst}
 use Rattle.rotor_base.specs.declared.token.Token.{Token}
 use Rattle.ml_lexer.specs.Lexed.{Lexed, view_tokens}
 use Rattle.ml_trees.specs.View.{view}
-use Rattle.parse_base.specs.Tokens.{from}
+use Rattle.token_reading.specs.Tokens.{from}
 use Rattle.calls.proofs.Numbered.{within}
 use Rattle.calls.proofs.expressions.add_opened_expression.Goals as goal
 

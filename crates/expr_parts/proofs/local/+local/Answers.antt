@@ -1,11 +1,11 @@
 use Rattle.std.proofs.Common.{◌≡◌, Some, None, map, refl, ap, ◌∙◌}
 use Rattle.ml_trees.specs.Tree as pure
-use Rattle.parse_base.specs.Steps.{always}
-use Rattle.parse_base.specs.Tokens.{from}
+use Rattle.token_reading.specs.Steps.{always}
+use Rattle.token_reading.specs.Tokens.{from}
 use Rattle.expr_reading.specs.ExprReading as r
 use Rattle.expr_reading.specs.ExprReading.{read_local}
 use Rattle.expr_parts.specs.Rows.{local_of}
-use Rattle.parse_base.proofs.Turns.{turn_none, turn_end, pushed}
+use Rattle.token_reading.proofs.Turns.{turn_none, turn_end, pushed}
 use Rattle.expr_parts.proofs.Rows.{locals_before}
 use Rattle.expr_parts.proofs.local.+local.Goals as goal
 

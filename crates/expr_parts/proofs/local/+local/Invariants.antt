@@ -1,11 +1,11 @@
 use Rattle.std.proofs.Common.{◌-◌, ◌+◌, ◌*◌, map}
 use Rattle.ml_trees.specs.Tree as pure
-use Rattle.parse_base.specs.Steps.{many, always}
-use Rattle.parse_base.specs.Tokens.{from}
+use Rattle.token_reading.specs.Steps.{many, always}
+use Rattle.token_reading.specs.Tokens.{from}
 use Rattle.expr_reading.specs.ExprReading as r
 use Rattle.expr_reading.specs.ExprReading.{read_local}
 use Rattle.expr_parts.specs.Rows.{local_of}
-use Rattle.parse_base.proofs.Turns.{Left}
+use Rattle.token_reading.proofs.Turns.{Left}
 use Rattle.expr_parts.proofs.local.+local.Given as goal
 
 abbrev pub invariant-local_arguments-loop-turn : goal.invariant-local_arguments-loop-turn

@@ -1,6 +1,6 @@
 use Rattle.std.proofs.Common.{Some, ap, sym, ◌∙◌}
 use Rattle.ml_trees.specs.declared.expression.Expr.{Expr}
-use Rattle.parse_base.specs.Tokens.{from}
+use Rattle.token_reading.specs.Tokens.{from}
 use Rattle.ml_trees.specs.View.{view}
 use Rattle.parse_expr.proofs.Ends.{longest_expr, no_expr}
 use Rattle.parse_expr.proofs.parse.parse_seq.Goals as goal

@@ -1,6 +1,6 @@
 use Rattle.std.proofs.Common.{arith}
-use Rattle.parse_base.specs.Tokens.{from}
-use Rattle.parse_base.proofs.Turns.{deeper}
+use Rattle.token_reading.specs.Tokens.{from}
+use Rattle.token_reading.proofs.Turns.{deeper}
 use Rattle.expr_reading.specs.ExprReading.{read_expr}
 use Rattle.parse_expr.proofs.reading.+nested.Goals as goal
 

@@ -1,10 +1,10 @@
 use Rattle.std.proofs.Common.{◌≡◌, ◌-◌, Some, None, arith}
 use Rattle.ml_trees.specs.View.{view_mod_type}
-use Rattle.parse_base.specs.Tokens.{from}
-use Rattle.parse_base.proofs.Turns.{deeper}
-use Rattle.parse_module.specs.ModReading.{read_mod, read_type}
-use Rattle.parse_module.specs.Arrows.{before_arrow}
-use Rattle.parse_module.proofs.BeforeArrows.{turn_type, turned, turned_on}
+use Rattle.token_reading.specs.Tokens.{from}
+use Rattle.token_reading.proofs.Turns.{deeper}
+use Rattle.module_reading.specs.ModReading.{read_mod, read_type}
+use Rattle.module_parts.specs.Arrows.{before_arrow}
+use Rattle.module_parts.proofs.BeforeArrows.{turn_type, turned, turned_on}
 use Rattle.parse_module.proofs.reading.+modules.Goals as goal
 
 pub read_module-returns : goal.read_module-returns

@@ -1,7 +1,7 @@
 use Rattle.std.proofs.Common.{◌≡◌, ◌-◌}
-use Rattle.parse_base.specs.Tokens.{from}
-use Rattle.parse_module.specs.ModReading.{read_type}
-use Rattle.parse_module.specs.Arrows.{before_arrows}
+use Rattle.token_reading.specs.Tokens.{from}
+use Rattle.module_reading.specs.ModReading.{read_type}
+use Rattle.module_parts.specs.Arrows.{before_arrows}
 use Rattle.parse_module.proofs.reading.+modules.Given as goal
 
 abbrev pub decreases-read_module : goal.decreases-read_module

@@ -2,12 +2,12 @@ use Rattle.std.proofs.Common.{◌≡◌, ◌-◌, Some, None, map, ◌+◌, refl
 use Rattle.ml_trees.specs.Tree as pure
 use Rattle.ml_trees.specs.declared.fixed.Fixed.TheVariants as key
 use Rattle.ml_trees.specs.View.{view}
-use Rattle.parse_base.specs.Steps.{expect}
-use Rattle.parse_base.specs.Tokens.{from}
+use Rattle.token_reading.specs.Steps.{expect}
+use Rattle.token_reading.specs.Tokens.{from}
 use Rattle.expr_reading.specs.ExprReading as r
 use Rattle.expr_reading.specs.ExprReading.{read_expr}
 use Rattle.expr_parts.specs.Rows.{operand_of, comma_of}
-use Rattle.parse_base.proofs.Turns.{turn_none, turn_end}
+use Rattle.token_reading.proofs.Turns.{turn_none, turn_end}
 use Rattle.parse_expr.proofs.Operands.{ops_before, commas_before, operand_on, operand_off, comma_none, tier_first, tier_more}
 use Rattle.parse_expr.proofs.readers.Readers.+tier.Goals as goal
 

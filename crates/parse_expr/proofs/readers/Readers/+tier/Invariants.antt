@@ -1,12 +1,12 @@
 use Rattle.std.proofs.Common.{◌≡◌, ◌-◌, Some, map, ◌+◌, ◌*◌}
 use Rattle.ml_trees.specs.Tree as pure
 use Rattle.ml_trees.specs.View.{view}
-use Rattle.parse_base.specs.Steps.{many}
-use Rattle.parse_base.specs.Tokens.{from}
+use Rattle.token_reading.specs.Steps.{many}
+use Rattle.token_reading.specs.Tokens.{from}
 use Rattle.expr_reading.specs.ExprReading as r
 use Rattle.expr_reading.specs.ExprReading.{read_expr}
 use Rattle.expr_parts.specs.Rows.{operand_of, comma_of}
-use Rattle.parse_base.proofs.Turns.{Left}
+use Rattle.token_reading.proofs.Turns.{Left}
 use Rattle.parse_expr.proofs.readers.Readers.+tier.Given as goal
 
 abbrev pub invariant-more_operands-loop-turn : goal.invariant-more_operands-loop-turn

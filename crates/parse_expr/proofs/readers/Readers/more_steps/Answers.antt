@@ -1,11 +1,11 @@
 use Rattle.std.proofs.Common.{◌≡◌, false, not, Some, None, map, sym, ap, ◌∙◌}
 use Rattle.ml_trees.specs.Tree as pure
-use Rattle.parse_base.specs.Tokens.{from}
+use Rattle.token_reading.specs.Tokens.{from}
 use Rattle.expr_reading.specs.ExprReading as r
 use Rattle.expr_reading.specs.ExprReading.{read_expr}
 use Rattle.expr_parts.specs.Rows.{link_of}
 use Rattle.expr_parts.specs.Rows.{item_of}
-use Rattle.parse_base.proofs.Turns.{turn_none, turn_end, pushed, pushed_last}
+use Rattle.token_reading.proofs.Turns.{turn_none, turn_end, pushed, pushed_last}
 use Rattle.expr_parts.proofs.Rows.{links_before}
 use Rattle.parse_expr.proofs.readers.Readers.more_steps.Goals as goal
 

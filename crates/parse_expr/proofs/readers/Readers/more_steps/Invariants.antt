@@ -1,12 +1,12 @@
 use Rattle.std.proofs.Common.{◌-◌, false, map}
 use Rattle.ml_trees.specs.Tree as pure
-use Rattle.parse_base.specs.Steps.{many}
-use Rattle.parse_base.specs.Tokens.{from}
+use Rattle.token_reading.specs.Steps.{many}
+use Rattle.token_reading.specs.Tokens.{from}
 use Rattle.expr_reading.specs.ExprReading as r
 use Rattle.expr_reading.specs.ExprReading.{read_expr}
 use Rattle.expr_parts.specs.Rows.{link_of}
 use Rattle.expr_parts.specs.Rows.{item_of}
-use Rattle.parse_base.proofs.Turns.{Left}
+use Rattle.token_reading.proofs.Turns.{Left}
 use Rattle.parse_expr.proofs.readers.Readers.more_steps.Given as goal
 
 abbrev pub invariant-loop-turn : goal.invariant-loop-turn

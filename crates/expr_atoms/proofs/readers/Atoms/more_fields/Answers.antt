@@ -1,0 +1,45 @@
+use Rattle.std.proofs.Common.{◌≡◌, Some, None, map, sym, ap, ◌∙◌}
+use Rattle.ml_trees.specs.Tree as pure
+use Rattle.ml_trees.specs.View.{view_field}
+use Rattle.token_reading.specs.Tokens.{from}
+use Rattle.expr_reading.specs.ExprReading as r
+use Rattle.expr_reading.specs.ExprReading.{read_expr}
+use Rattle.token_reading.proofs.Turns.{turn_none, turn_end, pushed, pushed_last}
+use Rattle.expr_parts.proofs.Rows.{fields_before}
+use Rattle.expr_atoms.proofs.readers.Atoms.more_fields.Goals as goal
+
+pub returns-in-Err-Syntax : goal.returns-in-Err-Syntax
+returns-in-Err-Syntax g c =
+    let part = r.next_field (read_expr c.args.self.now.grammar.depth) c.args.self.now.grammar.depth in
+    let here = from c.args.tokens.now c.loop-turn.at in
+    let failed : part here ≡ None = rw c.in-Err-Syntax.field-0-is at c.in-Err-Syntax.ensures in
+    ap Some (turn_none pure.no_field pure.more_field r.ends_field part (map view_field c.loop-turn.found.items) c.args.self.now.grammar.depth
+    c.loop-turn._turn here _ c.loop-turn-test.true failed c.loop-turn.invariant
+    ∙ ap (λ (l : pure.Fields). (l, here)) (fields_before c.loop-turn.found.items))
+
+pub loop-turn-preserved : goal.loop-turn-preserved
+loop-turn-preserved g c =
+    let part = r.next_field (read_expr c.args.self.now.grammar.depth) c.args.self.now.grammar.depth in
+    pushed pure.no_field pure.more_field r.ends_field part view_field c.loop-turn.found.items c.push_boxed.new.row.items c.in-Ok.next.value
+    c.args.self.now.grammar.depth c.loop-turn._turn (from c.args.tokens.now c.loop-turn.at)
+    (from c.args.tokens.now c.in-Ok.after) _ c.in_ok-push_boxed-in-Ok.ensures.items c.loop-turn-test.true c.in-Ok.ensures
+    (sym (ap (λ k. r.ends_field (view_field k)) c.deref.ensures) ∙ sym c.ends_field-goes_on.ensures ∙ c.if-not-goes_on.false)
+    c.loop-turn.invariant
+
+pub returns : goal.returns
+returns g c =
+    let part = r.next_field (read_expr c.args.self.now.grammar.depth) c.args.self.now.grammar.depth in
+    let here = from c.args.tokens.now c.loop-turn.at in
+    ap Some (turn_end pure.no_field pure.more_field r.ends_field part (map view_field c.loop-turn.found.items) c.args.self.now.grammar.depth
+    c.loop-turn._turn here _ c.loop-turn-test.false c.loop-turn.invariant
+    ∙ ap (λ (l : pure.Fields). (l, here)) (fields_before c.loop-turn.found.items))
+
+pub returns-then-not-goes_on : goal.returns-then-not-goes_on
+returns-then-not-goes_on g c =
+    let part = r.next_field (read_expr c.args.self.now.grammar.depth) c.args.self.now.grammar.depth in
+    let after = from c.args.tokens.now c.in-Ok.after in
+    ap Some (pushed_last pure.no_field pure.more_field r.ends_field part view_field c.loop-turn.found.items c.push_boxed.new.row.items
+    c.in-Ok.next.value c.args.self.now.grammar.depth c.loop-turn._turn (from c.args.tokens.now c.loop-turn.at) after
+    _ c.in_ok-push_boxed-in-Ok.ensures.items c.loop-turn-test.true c.in-Ok.ensures
+    (sym (ap (λ k. r.ends_field (view_field k)) c.deref.ensures) ∙ sym c.ends_field-goes_on.ensures ∙ c.if-not-goes_on.true) c.loop-turn.invariant
+    ∙ ap (λ (l : pure.Fields). (l, after)) (fields_before c.push_boxed.new.row.items))

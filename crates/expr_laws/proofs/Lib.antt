@@ -1,0 +1,11 @@
+pub mod AppendExpr
+pub mod FirstWord
+pub mod FoundExpr
+pub mod GoesExpr
+pub mod LawsExpr
+pub mod LongerExpr
+pub mod ReachAtoms
+pub mod ReachExpr
+pub mod ReachForms
+pub mod ReachParams
+pub mod ReachRecords

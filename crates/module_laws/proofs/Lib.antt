@@ -1,0 +1,4 @@
+pub mod FoundMod
+pub mod LawsMod
+pub mod LongerMod
+pub mod ReachMod

@@ -1,0 +1,3 @@
+pub mod BeforeArrows
+pub mod FoundRows
+pub mod Rows

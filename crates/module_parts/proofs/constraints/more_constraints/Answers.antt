@@ -1,0 +1,30 @@
+use Rattle.std.proofs.Common.{◌≡◌, ◌∷◌, [], List, Some, None, map, refl, ap, ◌∙◌}
+use Rattle.ml_trees.specs.Tree.{Constraint}
+use Rattle.ml_trees.specs.View.{view_constraint}
+use Rattle.module_reading.specs.ModReading.{next_constraint}
+use Rattle.token_reading.specs.Steps.{always}
+use Rattle.token_reading.specs.Tokens.{from}
+use Rattle.token_reading.proofs.Turns.{list_before, turn_none, turn_end, pushed}
+use Rattle.module_parts.proofs.constraints.more_constraints.Goals as goal
+
+pub returns-in-Err-Syntax : goal.returns-in-Err-Syntax
+returns-in-Err-Syntax c =
+    let part = next_constraint in
+    let here = from c.args.tokens.now c.loop-turn.at in
+    let failed : part here ≡ None = rw c.in-Err-Syntax.field-0-is at c.in-Err-Syntax.ensures in
+    ap Some (turn_none [] ◌∷◌ always part (map view_constraint c.loop-turn.found.items) c.args.depth c.loop-turn._turn here _ c.loop-turn-test.true
+    failed c.loop-turn.invariant ∙ ap (λ (l : List Constraint). (l, here)) (list_before view_constraint c.loop-turn.found.items))
+
+pub loop-turn-preserved : goal.loop-turn-preserved
+loop-turn-preserved c =
+    let part = next_constraint in
+    pushed [] ◌∷◌ always part view_constraint c.loop-turn.found.items c.push.new.self.items c.in-Ok.next c.args.depth c.loop-turn._turn
+    (from c.args.tokens.now c.loop-turn.at) (from c.args.tokens.now c.in-Ok.after) _ c.in_ok-push-in-Ok.ensures.items c.loop-turn-test.true
+    c.in-Ok.ensures refl c.loop-turn.invariant
+
+pub returns : goal.returns
+returns c =
+    let part = next_constraint in
+    let here = from c.args.tokens.now c.loop-turn.at in
+    ap Some (turn_end [] ◌∷◌ always part (map view_constraint c.loop-turn.found.items) c.args.depth c.loop-turn._turn here _ c.loop-turn-test.false
+    c.loop-turn.invariant ∙ ap (λ (l : List Constraint). (l, here)) (list_before view_constraint c.loop-turn.found.items))

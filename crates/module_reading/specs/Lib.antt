@@ -1,0 +1,2 @@
+pub mod ModReading
+pub mod OneReading

@@ -1,4 +1,0 @@
-use Rattle.parse_base.proofs.patterns.+pattern.Given as goal
-
-abbrev pub decreases-pattern : goal.decreases-pattern
-decreases-pattern l = l.depth

@@ -1,7 +1,0 @@
-use Rattle.std.proofs.Common.{◌≡◌, ◌-◌, map, take}
-use Rattle.ml_trees.specs.View.{view_tok}
-use Rattle.parse_base.specs.Tokens.{from}
-use Rattle.parse_base.proofs.runs.words.Given as goal
-
-abbrev pub invariant-loop-next : goal.invariant-loop-next
-invariant-loop-next l = map view_tok l.words.items ≡ take (l.next - l.at) (from l.tokens l.at)

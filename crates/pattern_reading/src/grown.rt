@@ -1,0 +1,58 @@
+//! A pattern and the row behind it, as one pattern.
+
+ghost use Rattle.std.specs.Prelude.{Some};
+ghost use Rattle.ml_trees.specs.View.{view_names, view_pat, pats};
+ghost use Rattle.token_reading.specs.PatReading as r;
+ghost use Rattle.token_reading.specs.Gives.{Gives};
+
+use ml_trees::{Pat, ValueName};
+use std::alloc::Global;
+use token_reading::ReadError;
+
+#[tactic(auto, using(crate::proofs::Lone::grown, ml_trees::proofs::Variants::pat_views))]
+#[inline(never)]
+pub fn grown_as(alloc: Global, first: Pat, names: Vec<ValueName>) -> Result<Pat, ReadError>
+    ensures { Gives view_pat result (Some (r.grown_as (view_pat first) (view_names names.items))) }
+{
+    if names.len() == 0 {
+        return Ok(first);
+    }
+    let pat = Box::new(alloc, first)?;
+    Ok(Pat::As { pat, names })
+}
+
+#[tactic(auto, using(crate::proofs::Lone::grown, ml_trees::proofs::Variants::pat_views))]
+#[inline(never)]
+pub fn grown_or(alloc: Global, first: Pat, rest: Vec<Pat>) -> Result<Pat, ReadError>
+    ensures { Gives view_pat result (Some (r.grown_or (view_pat first) (pats rest.items))) }
+{
+    if rest.len() == 0 {
+        return Ok(first);
+    }
+    let first = Box::new(alloc, first)?;
+    Ok(Pat::Or { first, rest })
+}
+
+#[tactic(auto, using(crate::proofs::Lone::grown, ml_trees::proofs::Variants::pat_views))]
+#[inline(never)]
+pub fn grown_tuple(alloc: Global, first: Pat, rest: Vec<Pat>) -> Result<Pat, ReadError>
+    ensures { Gives view_pat result (Some (r.grown_tuple (view_pat first) (pats rest.items))) }
+{
+    if rest.len() == 0 {
+        return Ok(first);
+    }
+    let first = Box::new(alloc, first)?;
+    Ok(Pat::Tuple { first, rest })
+}
+
+#[tactic(auto, using(crate::proofs::Lone::grown, ml_trees::proofs::Variants::pat_views))]
+#[inline(never)]
+pub fn grown_cons(alloc: Global, first: Pat, rest: Vec<Pat>) -> Result<Pat, ReadError>
+    ensures { Gives view_pat result (Some (r.grown_cons (view_pat first) (pats rest.items))) }
+{
+    if rest.len() == 0 {
+        return Ok(first);
+    }
+    let first = Box::new(alloc, first)?;
+    Ok(Pat::Cons { first, rest })
+}

@@ -1,0 +1,10 @@
+pub mod Ends
+pub mod Entries
+pub mod FoundPieces
+pub mod Operators
+pub mod Places
+pub mod Reach
+pub mod ReachPieces
+pub mod RunTurns
+pub mod Stepping
+pub mod Turns

@@ -1,0 +1,10 @@
+pub mod Gives
+pub mod Longest
+pub mod Matching
+pub mod PatReading
+pub mod Pieces
+pub mod Rows
+pub mod RunRows
+pub mod Steps
+pub mod Table
+pub mod Tokens
