@@ -1,8 +1,8 @@
 #!/usr/bin/env python3
 """Prints the proofs that go over the trees form by form, from the clauses of crates/ml_trees/specs/Events.antt.
 
-It writes crates/tree_walk/specs/Told.antt, crates/tree_walk/proofs/Tells.antt, crates/ml_syntax/proofs/Placed.antt,
-crates/ml_syntax/proofs/SpelledEvents.antt, crates/rename_laws/proofs/FineEvents.antt and crates/group_walk/proofs/Grouped.antt.
+It writes crates/tree_events/specs/Told.antt, crates/tree_events/proofs/Tells.antt, crates/value_sites/proofs/Placed.antt,
+crates/value_sites/proofs/SpelledEvents.antt, crates/rename_laws/proofs/FineEvents.antt and crates/group_walk/proofs/Grouped.antt.
 Run it after a change of Events.antt, Respelled.antt or WellFormed.antt, and then `rt fmt` in these crates.
 """
 import os
@@ -61,7 +61,7 @@ def steps(body):
 
 
 # The event that binds a module is printed as a phrase of its own, by the cases of the module's name: without a name it
-# leaves a state as it is (crates/tree_walk/specs/Behind.antt).
+# leaves a state as it is (crates/tree_events/specs/Behind.antt).
 BRINGS = [("brings_out", "(UpperName x)", [("ev", "brings (UpperName x)")]), ("brings_out", "(AnyName at)", [])]
 
 
@@ -259,8 +259,8 @@ def print_told():
         body += f"{told(f)} step s {xs} = {out_of(f, xs)} (λ t. t) s\n\n"
     outs = [f for b in BLOCKS for f in b if f in words_of(body)]
     uses = [std_names(body, "Rattle.std.specs.Prelude"), *uses_of(body), *use("Rattle.ml_trees.specs.Events", outs)]
-    uses.append("use Rattle.tree_walk.specs.Behind.{behind}")
-    write("crates/tree_walk/specs/Told.antt", "What the events of each kind of tree make of a state (own).", uses, body)
+    uses.append("use Rattle.tree_events.specs.Behind.{behind}")
+    write("crates/tree_events/specs/Told.antt", "What the events of each kind of tree make of a state (own).", uses, body)
 
 
 def equations(parts):
@@ -313,12 +313,12 @@ def print_tells():
     words = words_of(body)
     outs = [f for b in BLOCKS for f in b if f in words]
     uses = [std_names(body, "Rattle.std.proofs.Common"), *uses_of(body), *use("Rattle.ml_trees.specs.Events", outs)]
-    uses += use("Rattle.tree_walk.specs.Told", map(told, KINDS))
+    uses += use("Rattle.tree_events.specs.Told", map(told, KINDS))
     uses.append("use Rattle.rotor_base.specs.declared.token.Class.{Class}")
-    uses.append("use Rattle.tree_walk.specs.Behind.{behind}")
-    uses += use("Rattle.tree_walk.proofs.Silent", [f"{x}_silent" for x in SILENT if f"{x}_silent" in words])
+    uses.append("use Rattle.tree_events.specs.Behind.{behind}")
+    uses += use("Rattle.tree_events.proofs.Silent", [f"{x}_silent" for x in SILENT if f"{x}_silent" in words])
     head = "What each form makes of a state: what its parts make of it, one behind another. Printed by scripts/print_walk.py."
-    write("crates/tree_walk/proofs/Tells.antt", head, uses, body)
+    write("crates/tree_events/proofs/Tells.antt", head, uses, body)
 
 
 RESPELLED = f"{TOP}/crates/ml_syntax/specs/Respelled.antt"
@@ -399,9 +399,9 @@ def print_spelled():
     outs = [f for b in BLOCKS for f in b if f in words]
     signs = [x for x in "truth opening closing wrap direction".split() if x in words]
     uses = [std_names(body, "Rattle.std.proofs.Common", ["map"]), *uses_of(body), *use("Rattle.ml_trees.specs.Events", signs + outs)]
-    uses += use("Rattle.ml_syntax.specs.Respelled", [x for x in ["Spelling", "spell", *SPELLINGS.values()] if x in words])
+    uses += use("Rattle.value_sites.specs.Respelled", [x for x in ["Spelling", "spell", *SPELLINGS.values()] if x in words])
     head = "What holds of the events of a respelled tree and of the tree, if each event keeps it. Printed by scripts/print_walk.py."
-    write("crates/ml_syntax/proofs/SpelledEvents.antt", head, uses, body)
+    write("crates/value_sites/proofs/SpelledEvents.antt", head, uses, body)
 
 
 WELL_FORMED = f"{TOP}/crates/ml_trees/specs/WellFormed.antt"
@@ -845,15 +845,15 @@ def print_groups():
     words = words_of(body)
     uses = [std_names(body, "Rattle.std.proofs.Common", ["length", "map", "append_assoc"]), *uses_of(body)]
     uses.append("use Rattle.rotor_base.specs.declared.place.Place.{Place}")
-    uses += use("Rattle.ml_syntax.specs.Places", [x for x in ["Site", "punned", "name_sites", "label_site"] if x in words])
+    uses += use("Rattle.value_sites.specs.Places", [x for x in ["Site", "punned", "name_sites", "label_site"] if x in words])
     uses.append("use Rattle.shape_core.specs.Shape.{Entries}")
     uses.append("use Rattle.binding_model.specs.Facts.{decls}")
     uses.append("use Rattle.binding_model.specs.Scopes.{bound, let_bound}")
     uses.append("use Rattle.binding_model.specs.Steps.{groups_of}")
     uses += use("Rattle.binding_model.specs.Variables", sorted(set(DECLARES.values())))
     uses.append("use Rattle.binding_model.specs.Walk.{ties, pat_steps, pats_steps, field_pat_steps, fields_pat_steps, file_number}")
-    uses += use("Rattle.tree_walk.specs.Told", [told(f) for f in KINDS if told(f) in words])
-    uses += use("Rattle.tree_walk.proofs.Tells", sorted(rules))
+    uses += use("Rattle.tree_events.specs.Told", [told(f) for f in KINDS if told(f) in words])
+    uses += use("Rattle.tree_events.proofs.Tells", sorted(rules))
     named = {groups_in(f, ["x"])[1:].split()[0] for f in functions if groups_in(f, ["x"]) and kind(f) not in PATTERN_STEPS} | {"file_groups"}
     uses += use("Rattle.group_walk.specs.Groups", sorted(named))
     uses.append("use Rattle.group_walk.specs.declared.groups.Begun.{Begun}")
@@ -932,13 +932,13 @@ def print_places():
     body += FILES_PLACED
     words = words_of(body)
     uses = [std_names(body, "Rattle.std.proofs.Common"), *uses_of(body)]
-    uses += use("Rattle.tree_walk.specs.Told", [told(f) for f in KINDS if told(f) in words])
-    uses += use("Rattle.tree_walk.proofs.Tells", sorted(rules))
-    uses += use("Rattle.ml_syntax.specs.Places", ["Site", "adds_site", "sites", "variable_sites"])
+    uses += use("Rattle.tree_events.specs.Told", [told(f) for f in KINDS if told(f) in words])
+    uses += use("Rattle.tree_events.proofs.Tells", sorted(rules))
+    uses += use("Rattle.value_sites.specs.Places", ["Site", "adds_site", "sites", "variable_sites"])
     by_form = {places(f) for f in functions if places(f) in words} - {"variable_sites"}
-    uses += use("Rattle.ml_syntax.proofs.SitesByForm", ["sites_by_form", *sorted(by_form)])
+    uses += use("Rattle.value_sites.proofs.SitesByForm", ["sites_by_form", *sorted(by_form)])
     head = "The places of trees are those that their events add. Printed by scripts/print_walk.py."
-    write("crates/ml_syntax/proofs/Placed.antt", head, uses, body)
+    write("crates/value_sites/proofs/Placed.antt", head, uses, body)
 
 
 if __name__ == "__main__":

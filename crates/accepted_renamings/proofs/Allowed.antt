@@ -18,7 +18,7 @@ use Rattle.rotor_base.specs.Place.{same_place}
 use Rattle.rotor_base.specs.Stem.{is_source_name}
 use Rattle.rotor_base.specs.Files.{FileSet, IsProject, are_over, names_of}
 use Rattle.ml_syntax.specs.RespelledSource.{AreRespelled}
-use Rattle.ml_syntax.specs.Sound.{IsSound}
+use Rattle.value_sites.specs.Sound.{IsSound}
 use Rattle.ml_trees.specs.Tree.{UnitTree}
 use Rattle.shape_core.specs.Shape.{Name, some_if}
 use Rattle.dependency_kernel.specs.Foot.{IsFoot, IsFixedBy, IsLeastFixed}

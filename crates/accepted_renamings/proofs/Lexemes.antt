@@ -10,7 +10,7 @@ use Rattle.ml_lexer.specs.Lexed.{Lexeme, Lexed}
 use Rattle.ml_lexer.specs.Respelled.{respelled, respelled_from, respelled_lexemes, respelled_lexemes_from}
 use Rattle.ml_lexer.proofs.OneCutting.{one_lexed}
 use Rattle.ml_lexer.proofs.Order.{lexemes_are_in_order}
-use Rattle.ml_syntax.specs.Respelled.{Spelling, spelled}
+use Rattle.value_sites.specs.Respelled.{Spelling, spelled}
 use Rattle.ml_syntax.specs.RespelledFile.{new_words}
 use Rattle.ml_syntax.specs.RespelledSource.{IsRespelled}
 

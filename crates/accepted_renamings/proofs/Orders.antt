@@ -15,7 +15,7 @@ use Rattle.rotor_base.specs.declared.token.Class.{Class}
 use Rattle.rotor_base.specs.declared.token.Class.TheVariants as class
 use Rattle.ml_lexer.specs.Lexed.{Lexeme}
 use Rattle.ml_lexer.specs.Respelled.{respelled}
-use Rattle.ml_syntax.specs.Respelled.{Spelling, spelled}
+use Rattle.value_sites.specs.Respelled.{Spelling, spelled}
 use Rattle.ml_syntax.specs.RespelledFile.{new_words}
 use Rattle.ml_syntax.specs.RespelledSource.{Spellings, AreRespelled}
 use Rattle.shape_core.specs.Shape.{Name, or_else, or_value, some_if}

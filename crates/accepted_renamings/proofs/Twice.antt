@@ -16,7 +16,7 @@ use Rattle.rotor_base.specs.declared.refusal.Refusal.TheVariants as refusal
 use Rattle.rotor_base.specs.declared.report.Renamed.{Renamed}
 use Rattle.rotor_base.specs.declared.source.SourceFile.{SourceFile}
 use Rattle.ml_syntax.specs.RespelledSource.{AreRespelled}
-use Rattle.ml_syntax.specs.Sound.{IsSound}
+use Rattle.value_sites.specs.Sound.{IsSound}
 use Rattle.ml_trees.specs.Tree.{UnitTree}
 use Rattle.shape_core.specs.Respell.{Words}
 use Rattle.shape_core.specs.Shape.{Name, or_value, some_if}

@@ -7,7 +7,7 @@ use Rattle.rotor_base.specs.declared.target.Target.TheVariants.{At, Spot, Dotted
 use Rattle.rotor_base.specs.Files.{FileSet}
 use Rattle.ml_lexer.specs.Lexed.{Lexeme, Lexed}
 use Rattle.ml_lexer.proofs.OneCutting.{one_lexed}
-use Rattle.ml_syntax.specs.Places.{Site}
+use Rattle.value_sites.specs.Places.{Site}
 use Rattle.ml_trees.specs.Tree.{UnitTree}
 use Rattle.shape_core.specs.Shape.{Name, none}
 use Rattle.binding_model.specs.Renaming.{IsBinder}

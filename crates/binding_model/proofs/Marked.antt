@@ -1,7 +1,7 @@
 -- Lists of marks that are joined.
 use Rattle.std.proofs.Common.{◌≡◌, List, [], ◌∷◌, ◌++◌, map, refl, sym, ap, ◌∙◌, append_assoc, append-nil}
-use Rattle.ml_syntax.specs.declared.place.Mark.{Mark}
-use Rattle.ml_syntax.specs.Places.{Site, mark}
+use Rattle.value_sites.specs.declared.mark.Mark.{Mark}
+use Rattle.value_sites.specs.Places.{Site, mark}
 
 pub marks_appended : (xs ys : List Site) → map mark (xs ++ ys) ≡ map mark xs ++ map mark ys
 marks_appended [] ys = refl

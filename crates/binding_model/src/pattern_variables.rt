@@ -5,13 +5,13 @@
 
 ghost use Rattle.std.specs.Prelude.{◌≡◌, ◌++◌, ◌∷◌, [], true, false, IfOk, OnOk, map};
 ghost use Rattle.ml_trees.specs.View.{view_name, view_names, view_pat, view_pat_field, pats, pat_fields};
-ghost use Rattle.ml_syntax.specs.Places.{mark, name_sites};
+ghost use Rattle.value_sites.specs.Places.{mark, name_sites};
 ghost use Rattle.binding_model.specs.Variables.{names as names_bound, variables as vars, pats_variables, field_variables, fields_variables};
 
-use ml_syntax::{Mark, operator_of};
 use ml_trees::{Pat, PatField, ValueName, Word};
 use rotor_base::{Memory, Name};
 use std::alloc::Global;
+use value_sites::{Mark, operator_of};
 
 /// The variables of a pattern, in order of tokens; an or-pattern has those of its first part alone (the manual's
 /// chapter on patterns). `Memory` is the only error.

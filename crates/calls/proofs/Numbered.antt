@@ -6,7 +6,7 @@ use Rattle.ml_lexer.specs.Lexed.{Lexed, view_tokens}
 use Rattle.ml_trees.specs.Tok.{Tok}
 use Rattle.ml_trees.specs.Tree.{Expr}
 use Rattle.ml_trees.specs.Words.{expr_words}
-use Rattle.ml_syntax.specs.Sound.{AreNumbered, IsWithinFile}
+use Rattle.value_sites.specs.Sound.{AreNumbered, IsWithinFile}
 use Rattle.ml_syntax.proofs.RespelledNames.{lexemes_are_numbered}
 use Rattle.ml_syntax.proofs.SoundFiles.{parts_are_numbered}
 use Rattle.token_reading.specs.Tokens.{from}

@@ -4,12 +4,13 @@ ghost use Rattle.ml_lexer.specs.Lexed.{Lexed, view_tokens};
 
 use binding_model::variables;
 use ml_lexer::lex;
-use ml_syntax::{Mark, binders, puns, value_refs};
+use ml_syntax::{binders, puns, value_refs};
 use parse_base::parse_pat;
 use parse_module::{FileKind, parse_file};
 use rotor_base::{Memory, Token};
 use std::alloc::{AllocError, Global};
 use std::fmt::Write;
+use value_sites::Mark;
 
 /// Adds the binders, the uses and the puns of a body.
 pub fn add_places(alloc: Global, text: &mut String, source: &str) -> Result<(), Memory> {

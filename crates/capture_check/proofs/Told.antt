@@ -4,7 +4,7 @@ use Rattle.rotor_base.specs.declared.place.Place.{Place}
 use Rattle.rotor_base.specs.declared.place.Goal.TheVariants.{Decl}
 use Rattle.rotor_base.specs.declared.place.Facts.{Facts}
 use Rattle.rotor_base.specs.declared.looks.Watch.{Watch}
-use Rattle.ml_syntax.specs.Sound.{IsSound}
+use Rattle.value_sites.specs.Sound.{IsSound}
 use Rattle.ml_trees.specs.Tree.{UnitTree}
 use Rattle.shape_core.specs.Shape.{Name, or_value, some_if}
 use Rattle.shape_core.specs.Looks.{is_member}

@@ -3,7 +3,7 @@
 use Rattle.std.specs.Prelude.{◌≡◌, List, Option, None, if◌then◌else◌}
 use Rattle.rotor_base.specs.declared.place.Goal.TheVariants.{Decl}
 use Rattle.rotor_base.specs.declared.looks.Watch.{Watch}
-use Rattle.ml_syntax.specs.Sound.{IsSound}
+use Rattle.value_sites.specs.Sound.{IsSound}
 use Rattle.ml_trees.specs.Tree.{UnitTree}
 use Rattle.shape_core.specs.Looks.{is_member}
 use Rattle.binding_model.specs.Facts.{facts}

@@ -2,7 +2,7 @@
 
 ghost use Rattle.std.specs.Prelude.{◌≡◌, IfOk, map};
 ghost use Rattle.ml_trees.specs.View.{view_project};
-ghost use Rattle.ml_syntax.specs.Sound.{IsSound};
+ghost use Rattle.value_sites.specs.Sound.{IsSound};
 ghost use Rattle.binding_model.specs.Facts.{facts};
 ghost use Rattle.binding_model.specs.Renaming.{name_of};
 ghost use Rattle.capture_check.specs.Fault.{IsFirstFault};

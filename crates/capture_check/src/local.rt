@@ -3,7 +3,7 @@
 ghost use Rattle.std.specs.Prelude.{◌≡◌, List, IfOk};
 ghost use Rattle.ml_trees.specs.Tree.{UnitTree};
 ghost use Rattle.ml_trees.specs.View.{view_project};
-ghost use Rattle.ml_syntax.specs.Sound.{IsSound};
+ghost use Rattle.value_sites.specs.Sound.{IsSound};
 ghost use Rattle.binding_model.specs.Facts.{facts as project_facts};
 ghost use Rattle.binding_model.specs.Looks.{looks as project_looks};
 ghost use Rattle.binding_model.specs.Local.{IsWatched};

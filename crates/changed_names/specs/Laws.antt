@@ -5,7 +5,7 @@ use Rattle.rotor_base.specs.Name.{is_value_name}
 use Rattle.rotor_base.specs.declared.place.Goal.TheVariants.{Decl}
 use Rattle.rotor_base.specs.declared.place.Place.{Place}
 use Rattle.rotor_base.specs.declared.place.Ref.{Ref}
-use Rattle.ml_syntax.specs.Places.{Site}
+use Rattle.value_sites.specs.Places.{Site}
 use Rattle.ml_trees.specs.Tree.{UnitTree}
 use Rattle.shape_core.specs.Shape.{Name}
 use Rattle.binding_model.specs.Facts.{facts}

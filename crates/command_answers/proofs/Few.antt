@@ -13,8 +13,8 @@ use Rattle.rotor_base.specs.declared.place.Place.{Place}
 use Rattle.rotor_base.specs.Files.{FileSet, IsProject}
 use Rattle.rotor_base.proofs.Kept.{few_files}
 use Rattle.ml_lexer.specs.Lexed.{Lexeme}
-use Rattle.ml_syntax.specs.Places.{Site, sites}
-use Rattle.ml_syntax.specs.Sound.{AreDistinct, IsBodyPart, IsFacePart, IsSoundFile, IsSoundUnit, part_files, unit_files}
+use Rattle.value_sites.specs.Places.{Site, sites}
+use Rattle.value_sites.specs.Sound.{AreDistinct, IsBodyPart, IsFacePart, IsSoundFile, IsSoundUnit, part_files, unit_files}
 use Rattle.ml_syntax.specs.Standing.{StandFrom, StandsAt}
 use Rattle.ml_trees.specs.Tok.{Tok}
 use Rattle.ml_trees.specs.Tree.{Body, Face, FileTree, UnitTree}

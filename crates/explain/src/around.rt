@@ -2,7 +2,7 @@
 ghost use Rattle.std.specs.Prelude.{◌≡◌, ◌≢◌, [], IfOk, None, OnOk, map};
 ghost use Rattle.rotor_base.specs.declared.refusal.Refusal.TheVariants as refusals;
 ghost use Rattle.ml_lexer.specs.Lexed.{view_tokens};
-ghost use Rattle.ml_syntax.specs.Sound.{IsSound};
+ghost use Rattle.value_sites.specs.Sound.{IsSound};
 ghost use Rattle.ml_trees.specs.View.{view_project};
 ghost use Rattle.shape_core.specs.Node.{entries_of};
 ghost use Rattle.shape_core.specs.Shape.{none};

@@ -1,7 +1,7 @@
 //! What is said of a folder that is checked.
 ghost use Rattle.std.specs.Prelude.{◌≡◌, Err, IfOk, Ok, map};
 ghost use Rattle.ml_lexer.specs.Lexed.{view_tokens};
-ghost use Rattle.ml_syntax.specs.Sound.{IsSound};
+ghost use Rattle.value_sites.specs.Sound.{IsSound};
 ghost use Rattle.ml_trees.specs.View.{view_project};
 ghost use Rattle.binding_model.specs.Facts.{facts as facts_of};
 ghost use Rattle.project_reading.specs.Reads.{Reads};

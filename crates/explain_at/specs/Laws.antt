@@ -4,7 +4,7 @@ use Rattle.report.specs.Pieces.{Word}
 use Rattle.rotor_base.specs.Files.{FileSet, IsProject}
 use Rattle.rotor_base.specs.declared.place.Place.{Place}
 use Rattle.cli_words.specs.Target.{target_of}
-use Rattle.ml_syntax.specs.Places.{Site}
+use Rattle.value_sites.specs.Places.{Site}
 use Rattle.ml_trees.specs.Tree.{UnitTree}
 use Rattle.binding_model.specs.Renaming.{at_place, places}
 use Rattle.project_reading.specs.Reads.{Reads}

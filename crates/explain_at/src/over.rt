@@ -1,7 +1,7 @@
 //! What is said of a word over the files of a project.
 ghost use Rattle.std.specs.Prelude.{◌≡◌, ◌≤◌, Err, IfOk, All, length, map};
 ghost use Rattle.rotor_base.specs.Limits.{max_file_bytes, max_sources};
-ghost use Rattle.ml_syntax.specs.Sound.{IsSound};
+ghost use Rattle.value_sites.specs.Sound.{IsSound};
 ghost use Rattle.ml_trees.specs.View.{view_project};
 ghost use Rattle.binding_model.specs.Facts.{facts as facts_of};
 ghost use Rattle.rename_files.specs.Answer.{Accepts, Checks};

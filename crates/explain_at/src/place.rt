@@ -1,6 +1,6 @@
 //! What is said of a token of a source.
 ghost use Rattle.std.specs.Prelude.{◌≡◌, ◌∷◌, [], IfOk, map};
-ghost use Rattle.ml_syntax.specs.Sound.{IsSound};
+ghost use Rattle.value_sites.specs.Sound.{IsSound};
 ghost use Rattle.ml_trees.specs.View.{view_project};
 ghost use Rattle.binding_model.specs.Facts.{facts as facts_of};
 ghost use Rattle.refusal_words.specs.Cut.{view_cut};

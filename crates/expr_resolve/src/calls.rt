@@ -3,7 +3,7 @@
 ghost use Rattle.std.specs.Prelude.{◌≡◌, ◌≤◌, IfOk, IsOk, Err, Some, None};
 ghost use Rattle.rotor_base.specs.Limits.{max_work};
 ghost use Rattle.rotor_base.specs.declared.place.Place.{Place};
-ghost use Rattle.ml_syntax.specs.Sound.{IsWithinFile};
+ghost use Rattle.value_sites.specs.Sound.{IsWithinFile};
 ghost use Rattle.ml_trees.specs.View.{view};
 ghost use Rattle.shape_core.specs.declared.error.FactError.TheVariants.{Heavy};
 ghost use Rattle.shape_core.specs.Node.{entries_of};

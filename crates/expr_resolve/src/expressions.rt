@@ -6,7 +6,7 @@
 ghost use Rattle.std.specs.Prelude.{◌≡◌, ◌≤◌, [], ◌∷◌, false, IfOk, length, take};
 ghost use Rattle.rotor_base.specs.declared.place.Goal.TheVariants.{Decl};
 ghost use Rattle.ml_trees.specs.View.{view, view_word, view_words, view_tok, view_pat, view_local, view_variable, view_binding, view_case, view_argument, view_param, view_part, view_field, links, ops, maybe, tail, bindings, cases, arguments, params, parts, fields};
-ghost use Rattle.ml_syntax.specs.Places.{operator_sites};
+ghost use Rattle.value_sites.specs.Places.{operator_sites};
 ghost use Rattle.shape_core.specs.Shape.{◌⊕◌, a_val, none, brought};
 ghost use Rattle.shape_core.specs.Node.{entries_of};
 ghost use Rattle.binding_model.specs.Scopes.{here, bound, path_shape, params_bound, parts_scope};
@@ -17,7 +17,6 @@ ghost use Rattle.binding_model.specs.Walk.{uses, pat_steps, expr_steps, links_st
 ghost use Rattle.expr_resolve.specs.Branches.{branches_steps};
 
 use binding_model::Found;
-use ml_syntax::label_of;
 use ml_trees::{
     Argument, Binding, Branch, Case, Expr, Field, LocalModule, Param, Part, Pat, Variable, Word,
 };
@@ -32,6 +31,7 @@ use resolve_parts::{
 use rotor_base::Place;
 use shape_core::{FactError, Scope, SharedEntry};
 use std::alloc::Global;
+use value_sites::label_of;
 
 /// An expression in its scope: its references, links, groups and sites, in order. The scope is as it was, also after
 /// an `Err`: `Heavy` at the first site that is too heavy, or `Memory`. It takes stack at each level of the expression.

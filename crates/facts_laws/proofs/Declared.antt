@@ -3,8 +3,8 @@ use Rattle.std.proofs.Common.{List, [], ◌∷◌, Bool}
 use Rattle.rotor_base.specs.declared.place.Place.{Place}
 use Rattle.rotor_base.specs.declared.place.Goal.{Goal}
 use Rattle.rotor_base.specs.declared.place.Goal.TheVariants.{Decl, Outside, Missing, Hidden, Blur}
-use Rattle.ml_syntax.specs.Each.{Each}
-use Rattle.ml_syntax.specs.Places.{Site}
+use Rattle.value_sites.specs.Each.{Each}
+use Rattle.value_sites.specs.Places.{Site}
 use Rattle.shape_core.specs.Shape.{Name, Shape, Struct, Functor, Unitary, Opaque, Entries, none, a_val, a_mod, a_mty, a_dark}
 use Rattle.binding_model.specs.Renaming.{places}
 use Rattle.binding_model.specs.Steps.{Steps, quiet, ◌⨾◌, UseAlone, UseUnder, MatchOf, PinOf, TieOf, GroupOf, WeighedSite, OpenedSite, UnitStart}

@@ -8,7 +8,7 @@ use Rattle.rotor_base.specs.declared.place.Goal.{Goal}
 use Rattle.rotor_base.specs.declared.place.Goal.TheVariants.{Decl, Outside, Missing, Hidden, Blur}
 use Rattle.rotor_base.specs.declared.place.Link.{Link}
 use Rattle.dependency_kernel.specs.Foot.{IsFixedBy, IsFixed, IsLeastFixed, IsFoot}
-use Rattle.ml_syntax.specs.Each.{Each}
+use Rattle.value_sites.specs.Each.{Each}
 use Rattle.binding_model.specs.Facts.{facts}
 use Rattle.facts_laws.specs.Laws.{FootprintsExist}
 use Rattle.facts_laws.proofs.Members.{In, in_contains, contains_in, same_or_not}

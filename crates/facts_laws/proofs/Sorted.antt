@@ -6,7 +6,7 @@ use Rattle.std.specs.declared.cmp.Ordering.TheVariants.{Less, Equal, Greater}
 use Rattle.rotor_base.specs.Place.{IsBefore, place_cmp}
 use Rattle.rotor_base.specs.declared.place.Place.{Place}
 use Rattle.rotor_base.proofs.Places.{place_ranked}
-use Rattle.ml_syntax.specs.Each.{Each}
+use Rattle.value_sites.specs.Each.{Each}
 use Rattle.facts_laws.proofs.Members.{In}
 
 pub before_all : (p q r : Place) → IsBefore p q → IsBefore q r → IsBefore p r

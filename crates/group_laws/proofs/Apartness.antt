@@ -7,10 +7,10 @@ use Rattle.rotor_base.specs.declared.place.Goal.{Goal}
 use Rattle.rotor_base.specs.declared.place.Goal.TheVariants.{Decl, Missing}
 use Rattle.rotor_base.specs.declared.place.Link.{Link}
 use Rattle.rotor_base.specs.Place.{same_place, IsBefore}
-use Rattle.ml_syntax.specs.Places.{Site, sites}
+use Rattle.value_sites.specs.Places.{Site, sites}
 use Rattle.ml_trees.specs.Tree.{FileTree, Body, Face, UnitTree}
 use Rattle.shape_core.specs.Shape.{Name, Entries, none, vals, last_of, or_else, some_if}
-use Rattle.ml_syntax.specs.Each.{Each}
+use Rattle.value_sites.specs.Each.{Each}
 use Rattle.binding_model.specs.Scopes.{here, bound, after_unit}
 use Rattle.binding_model.specs.Steps.{groups_of}
 use Rattle.binding_model.specs.Walk.{file_steps, maybe_file_steps, unit_links, units_steps, steps}
@@ -24,7 +24,7 @@ use Rattle.capture_check.proofs.Before.{tested, untested}
 use Rattle.capture_check.proofs.Equal.{items_decl}
 use Rattle.group_laws.specs.Laws.{NoRepeatIsApart, UnrefusedIsGood}
 use Rattle.group_laws.proofs.Firsts.{no_least_is_none}
-use Rattle.ml_syntax.proofs.Placed.{body_placed, face_placed}
+use Rattle.value_sites.proofs.Placed.{body_placed, face_placed}
 
 -- ---- parts of lists
 

@@ -1,10 +1,10 @@
 -- The laws of groups that repeat no name (own).
 use Rattle.std.specs.Prelude.{◌≡◌, List, None}
 use Rattle.rotor_base.specs.declared.place.Place.{Place}
-use Rattle.ml_syntax.specs.Sound.{IsSound}
+use Rattle.value_sites.specs.Sound.{IsSound}
 use Rattle.ml_trees.specs.Tree.{UnitTree}
 use Rattle.shape_core.specs.Shape.{vals}
-use Rattle.ml_syntax.specs.Each.{Each}
+use Rattle.value_sites.specs.Each.{Each}
 use Rattle.binding_model.specs.Steps.{groups_of}
 use Rattle.binding_model.specs.Walk.{steps}
 use Rattle.binding_model.specs.Facts.{facts, unmatched, AreNamedApart, IsGood}

@@ -1,7 +1,7 @@
 -- The groups of trees are those of their steps, in any scope.
 use Rattle.std.proofs.Common.{◌≡◌, ℕ, ◌-◌, List, [], ◌∷◌, ◌++◌, true, false, refl, ap, ◌∙◌, append-nil, Option, Some, None}
 use Rattle.ml_trees.specs.Tok.{Name as Word}
-use Rattle.ml_syntax.specs.Places.{Site, punned, operated, operator_sites, name_sites, label_site}
+use Rattle.value_sites.specs.Places.{Site, punned, operated, operator_sites, name_sites, label_site}
 use Rattle.ml_trees.specs.Tree.{ValueName, LocalModule, LocalPath, LocalArguments, no_local, more_local, no_module, Expr, Seq, Let, LetOpen}
 use Rattle.ml_trees.specs.Tree.{LetModule, Fun, Function, Match, Try, If, Chain, Minus, Apply, ConstrApply, TagApply, Assert, Lazy, Postfix}
 use Rattle.ml_trees.specs.Tree.{Prefixed, Literal, BoolExpr, Value, Constr, Tag, UnitExpr, Paren, Typed, Coerced, EmptyBegin, Begin, EmptyList}

@@ -2,9 +2,9 @@
 use Rattle.std.proofs.Common.{◌≡◌, ◌∙◌, ◌∷◌, ◌++◌, ℕ, List, [], ap, sym, refl, length, map, set, append-nil, append_assoc}
 use Rattle.std.proofs.Math.Seq.{set-append_seam}
 use Rattle.rotor_base.specs.declared.place.Place.{Place}
-use Rattle.ml_syntax.specs.Places.{Site}
+use Rattle.value_sites.specs.Places.{Site}
 use Rattle.ml_trees.specs.Tree.{Binding, Bindings}
-use Rattle.ml_syntax.proofs.KeptSites.{map-both}
+use Rattle.value_sites.proofs.KeptSites.{map-both}
 use Rattle.shape_core.specs.Shape.{Entries}
 use Rattle.binding_model.specs.Facts.{decls}
 use Rattle.binding_model.specs.Scopes.{bound, let_bound}

@@ -3,7 +3,7 @@ use Rattle.std.specs.Prelude.{ℕ, List, [], ◌∷◌, ◌++◌, Bool, Option, 
 use Rattle.rotor_base.specs.declared.place.Place.{Place}
 use Rattle.ml_trees.specs.declared.fixed.Fixed.{Fixed}
 use Rattle.ml_trees.specs.declared.fixed.Fixed.TheVariants as key
-use Rattle.ml_syntax.specs.Places.{Site, punned, name_sites, label_site}
+use Rattle.value_sites.specs.Places.{Site, punned, name_sites, label_site}
 use Rattle.binding_model.specs.Facts.{decls}
 use Rattle.binding_model.specs.Scopes.{bound}
 use Rattle.group_walk.specs.declared.groups.Begun.{Begun}

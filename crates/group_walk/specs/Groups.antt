@@ -1,6 +1,6 @@
 -- The groups of expressions, modules and units: they depend on no scope (own).
 use Rattle.std.specs.Prelude.{ℕ, List, [], Option, Some, None, true, ◌∷◌, ◌++◌}
-use Rattle.ml_syntax.specs.Places.{punned, label_site}
+use Rattle.value_sites.specs.Places.{punned, label_site}
 use Rattle.ml_trees.specs.Tree.{Expr, Seq, Let, LetOpen, LetModule, Fun, Function, Match, Try, If, Chain, Minus, Apply, ConstrApply, TagApply}
 use Rattle.ml_trees.specs.Tree.{Assert, Lazy, Postfix, Prefixed, Literal, BoolExpr, Value, Constr, Tag, UnitExpr, Paren, Typed, Coerced, EmptyBegin}
 use Rattle.ml_trees.specs.Tree.{Begin, EmptyList, ListExpr, Record, Opened, While, For, Links, no_link, more_link, MaybeExpr, no_expr, some_expr}

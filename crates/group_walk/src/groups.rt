@@ -1,7 +1,7 @@
 //! The groups of trees, by their events.
 
 ghost use Rattle.std.specs.Prelude.{◌≡◌, ◌++◌, ◌∷◌, [], IfOk, OnOk, true, map, reverse, if◌then◌else◌};
-ghost use Rattle.ml_syntax.specs.Places.{operator_sites};
+ghost use Rattle.value_sites.specs.Places.{operator_sites};
 ghost use Rattle.ml_trees.specs.View.{view_file, view_part_of, view_tok, view_unit};
 ghost use Rattle.binding_model.specs.Facts.{decls};
 ghost use Rattle.binding_model.specs.Scopes.{here};
@@ -10,11 +10,11 @@ ghost use Rattle.group_walk.specs.Groups.{file_groups, maybe_groups, units_group
 ghost use Rattle.ml_trees.specs.Events.{bindings_begin, part_begins, part_ends};
 ghost use Rattle.group_walk.specs.Grouping.{begun, grouping, joined, listed, behind_group, behind_part, behind_parts, declares, grouping_of, hears, is_bar};
 
-use ml_syntax::operator_of;
 use ml_trees::{FileTree, Fixed, UnitTree, Word};
 use rotor_base::{Memory, Place, Row};
 use std::alloc::Global;
 use tree_walk::{Event, Visitor, walk};
+use value_sites::operator_of;
 
 /// A group that has begun: the places of its values so far, the groups of the parts of an or-pattern in it, and its
 /// position if it is listed already.

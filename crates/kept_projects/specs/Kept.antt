@@ -1,7 +1,7 @@
 -- Files that are accepted as a project, with what it is resolved to (own).
 use Rattle.std.specs.Prelude.{◌≡◌, List, None}
 use Rattle.rotor_base.specs.Files.{FileSet}
-use Rattle.ml_syntax.specs.Sound.{IsSound}
+use Rattle.value_sites.specs.Sound.{IsSound}
 use Rattle.ml_trees.specs.Tree.{UnitTree}
 use Rattle.shape_core.specs.Node.{entries_of}
 use Rattle.shape_core.specs.Shape.{none}

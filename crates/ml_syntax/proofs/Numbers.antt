@@ -6,8 +6,8 @@ use Rattle.rotor_base.specs.declared.token.Class.TheVariants as class
 use Rattle.ml_trees.specs.declared.fixed.Fixed.{Fixed}
 use Rattle.ml_trees.specs.Tok.{Tok, fixed, placed, word, is_placed, fixed_of, tok_or, tok, toks_from}
 use Rattle.ml_trees.specs.Words.{words}
-use Rattle.ml_syntax.specs.Sound.{AreNumbered}
-use Rattle.ml_syntax.specs.Places.{Site, sites}
+use Rattle.value_sites.specs.Sound.{AreNumbered}
+use Rattle.value_sites.specs.Places.{Site, sites}
 use Rattle.ml_syntax.specs.Standing.{IsWordOf, a_name, a_label, an_equals, a_sign, a_minus, StandsAt, StandFrom, AreNumberedBy, SitesAreNumbered}
 use Rattle.ml_syntax.specs.Standing.{RiseFrom, SitesAreOrdered}
 use Rattle.ml_syntax.proofs.Standing.{sites_stand}

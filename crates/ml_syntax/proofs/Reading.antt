@@ -37,16 +37,16 @@ use Rattle.ml_trees.specs.WellFormed.{level, op_level, Wf, WfSeq, WfChain, WfBas
 use Rattle.ml_trees.specs.WellFormed.{WfArgument, WfArguments, WfParam, WfParams, WfPart, WfParts, WfField, WfFields, is_separator, WfMod}
 use Rattle.ml_trees.specs.WellFormed.{WfModArgument, WfModArguments, WfFunctorParam, WfFunctorParams, WfModType, WfSignature, WfItem, WfItems}
 use Rattle.ml_trees.specs.WellFormed.{WfSigItem, WfSigItems, WfFile}
-use Rattle.ml_syntax.specs.Places.{Site, plain, punned, operator_sites, name_sites}
-use Rattle.ml_syntax.proofs.SitesByForm.{names_sites, pat_sites, pats_sites, pat_field_sites}
-use Rattle.ml_syntax.specs.Places.{variable_sites}
-use Rattle.ml_syntax.proofs.SitesByForm.{pat_fields_sites, expr_sites, links_sites, maybe_sites, tail_sites, binding_sites, bindings_sites}
-use Rattle.ml_syntax.proofs.SitesByForm.{case_sites, cases_sites, argument_sites, arguments_sites, param_sites, params_sites, part_sites, parts_sites}
-use Rattle.ml_syntax.proofs.SitesByForm.{field_sites, fields_sites, mod_sites, mod_argument_sites, mod_arguments_sites, functor_param_sites}
-use Rattle.ml_syntax.proofs.SitesByForm.{functor_params_sites, mod_type_sites, signature_sites, item_sites, items_sites, sig_item_sites, sig_items_sites}
-use Rattle.ml_syntax.specs.Places.{sites}
+use Rattle.value_sites.specs.Places.{Site, plain, punned, operator_sites, name_sites}
+use Rattle.value_sites.proofs.SitesByForm.{names_sites, pat_sites, pats_sites, pat_field_sites}
+use Rattle.value_sites.specs.Places.{variable_sites}
+use Rattle.value_sites.proofs.SitesByForm.{pat_fields_sites, expr_sites, links_sites, maybe_sites, tail_sites, binding_sites, bindings_sites}
+use Rattle.value_sites.proofs.SitesByForm.{case_sites, cases_sites, argument_sites, arguments_sites, param_sites, params_sites, part_sites, parts_sites}
+use Rattle.value_sites.proofs.SitesByForm.{field_sites, fields_sites, mod_sites, mod_argument_sites, mod_arguments_sites, functor_param_sites}
+use Rattle.value_sites.proofs.SitesByForm.{functor_params_sites, mod_type_sites, signature_sites, item_sites, items_sites, sig_item_sites, sig_items_sites}
+use Rattle.value_sites.specs.Places.{sites}
 use Rattle.ml_syntax.specs.Standing.{is_brace, begins_bar, is_safe}
-use Rattle.ml_syntax.proofs.Placed.{body_placed, face_placed}
+use Rattle.value_sites.proofs.Placed.{body_placed, face_placed}
 
 pub type_safe : (run : Option (List Tok)) (k : List Tok) → is_safe k ≡ true → is_safe (type_then run k) ≡ true
 type_safe None k u = u

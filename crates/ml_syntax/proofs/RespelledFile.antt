@@ -8,9 +8,9 @@ use Rattle.ml_lexer.specs.Respelled.{respelled_lexemes_from}
 use Rattle.ml_lexer.proofs.Respelling.{respelled_keep_lexemes}
 use Rattle.ml_trees.specs.declared.fixed.Fixed.{Fixed}
 use Rattle.ml_trees.specs.Tok.{Tok, fixed, placed, word, is_placed, fixed_of, tok_or, tok}
-use Rattle.ml_syntax.specs.Respelled.{Spelling, spelled, spell_tok}
+use Rattle.value_sites.specs.Respelled.{Spelling, spelled, spell_tok}
 use Rattle.ml_syntax.specs.RespelledFile.{lexeme_toks, new_words, RespelledTokens, RespelledFilesAreRead}
-use Rattle.ml_syntax.proofs.Spelling.{respelling_keeps_the_tree}
+use Rattle.value_sites.proofs.Spelling.{respelling_keeps_the_tree}
 
 module _ (w : Spelling) where
   choice_kept : (p : Bool) (x : Fixed) (at : ℕ) → (if p then placed x at else fixed x) ≡ spell_tok w (if p then placed x at else fixed x)

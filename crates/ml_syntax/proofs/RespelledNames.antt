@@ -20,14 +20,14 @@ use Rattle.ml_trees.specs.declared.fixed.Fixed.{Fixed}
 use Rattle.ml_trees.specs.declared.fixed.Fixed.TheVariants as key
 use Rattle.ml_trees.specs.Tok.{Tok, placed, word, fixed_of, fixed_among, fixed_at, tok_or, tok, spellings}
 use Rattle.ml_trees.specs.Words.{words}
-use Rattle.ml_syntax.specs.Places.{Site, sites}
-use Rattle.ml_syntax.specs.Sound.{IsLexeme, AreNumbered}
+use Rattle.value_sites.specs.Places.{Site, sites}
+use Rattle.value_sites.specs.Sound.{IsLexeme, AreNumbered}
 use Rattle.ml_syntax.specs.Standing.{begins_bar, is_safe, EndsInBrace, StandsAt, AreNumberedBy}
-use Rattle.ml_syntax.specs.Respelled.{Spelling, spelled, spell_tok}
+use Rattle.value_sites.specs.Respelled.{Spelling, spelled, spell_tok}
 use Rattle.ml_syntax.specs.RespelledFile.{lexeme_toks, new_words, LexemesAreNumbered, ChangesNames, SitesMayBecome, RespelledNamesAreRead}
 use Rattle.ml_syntax.proofs.Numbers.{sites_are_numbered}
 use Rattle.ml_syntax.proofs.RespelledFile.{respelled_tokens}
-use Rattle.ml_syntax.proofs.Spelling.{respelling_keeps_the_tree}
+use Rattle.value_sites.proofs.Spelling.{respelling_keeps_the_tree}
 
 abbrev class_and_text : Lexeme → Class × List ℕ
 class_and_text x = (x.class, x.bytes)

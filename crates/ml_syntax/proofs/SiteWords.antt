@@ -5,7 +5,7 @@ use Rattle.rotor_base.specs.declared.token.Class.TheVariants as class
 use Rattle.ml_trees.specs.declared.fixed.Fixed.TheVariants as key
 use Rattle.ml_trees.specs.Tok.{Name, Tok, placed, word}
 use Rattle.ml_trees.specs.Words.{words}
-use Rattle.ml_syntax.specs.Places.{Site, sites}
+use Rattle.value_sites.specs.Places.{Site, sites}
 use Rattle.ml_syntax.specs.Standing.{begins_bar, is_safe, IsWordOf, a_name, a_label, an_equals, a_sign, a_minus, StandsAt, SitesAreWords}
 use Rattle.ml_syntax.specs.Standing.{NoSiteOpensAQuoted}
 use Rattle.ml_syntax.proofs.Numbers.{sites_are_numbered}

@@ -4,7 +4,7 @@ use Rattle.rotor_base.specs.declared.token.Class.{Class}
 use Rattle.ml_lexer.specs.Lexed.{Lexeme}
 use Rattle.ml_lexer.proofs.Order.{lexemes_are_few}
 use Rattle.ml_trees.specs.Tok.{Tok, tok, toks_from}
-use Rattle.ml_syntax.specs.Sound.{IsLexeme, AreNumbered}
+use Rattle.value_sites.specs.Sound.{IsLexeme, AreNumbered}
 use Rattle.ml_syntax.specs.RespelledFile.{lexeme_toks, ReadFilesAreSound, PartsAreNumbered}
 use Rattle.ml_syntax.proofs.RespelledNames.{lexemes_are_numbered}
 

@@ -2,7 +2,7 @@
 use Rattle.std.proofs.Common.{ℕ, suc, List, [], ◌∷◌, length}
 use Rattle.ml_trees.specs.Tok.{Tok}
 use Rattle.ml_trees.specs.Words.{words}
-use Rattle.ml_syntax.specs.Places.{Site, sites}
+use Rattle.value_sites.specs.Places.{Site, sites}
 use Rattle.ml_syntax.specs.Standing.{StandFrom, SitesStand}
 use Rattle.ml_syntax.proofs.Steps.{Between, begin}
 use Rattle.ml_syntax.proofs.Reading.{file_read}

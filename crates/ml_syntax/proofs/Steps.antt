@@ -5,7 +5,7 @@ use Rattle.rotor_base.specs.declared.token.Class.{Class}
 use Rattle.rotor_base.specs.declared.token.Class.TheVariants as class
 use Rattle.ml_trees.specs.declared.fixed.Fixed.TheVariants as key
 use Rattle.ml_trees.specs.Tok.{Name, Tok, placed, word}
-use Rattle.ml_syntax.specs.Places.{Site, label_site, operated}
+use Rattle.value_sites.specs.Places.{Site, label_site, operated}
 use Rattle.ml_syntax.specs.Standing.{is_brace, is_safe, EndsInBrace, IsNamed, IsWordOf, a_name, a_label, an_equals, a_sign, a_minus, StandsAt}
 
 -- these places are among the words, in order: the first behind at least `low` words, the last among the first `high`

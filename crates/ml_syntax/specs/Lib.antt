@@ -1,9 +1,4 @@
-pub mod Places
-pub mod Sites
-pub mod Respelled
-pub mod Sound
-pub mod Standing
-pub mod Each
-pub mod SpelledSites
 pub mod RespelledFile
 pub mod RespelledSource
+pub mod Sites
+pub mod Standing

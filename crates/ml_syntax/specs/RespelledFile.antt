@@ -8,9 +8,9 @@ use Rattle.ml_trees.specs.Tok.{Tok, toks_from}
 use Rattle.ml_trees.specs.Tree.{FileTree}
 use Rattle.ml_trees.specs.Words.{words}
 use Rattle.ml_trees.specs.WellFormed.{WfFile}
-use Rattle.ml_syntax.specs.Sound.{AreNumbered, IsSoundFile}
-use Rattle.ml_syntax.specs.Places.{Site, sites}
-use Rattle.ml_syntax.specs.Respelled.{Spelling, spelled, spell_tok, spell_file}
+use Rattle.value_sites.specs.Sound.{AreNumbered, IsSoundFile}
+use Rattle.value_sites.specs.Places.{Site, sites}
+use Rattle.value_sites.specs.Respelled.{Spelling, spelled, spell_tok, spell_file}
 
 -- the tokens of lexemes, numbered from this one
 abbrev pub lexeme_toks : ℕ → List Lexeme → List Tok

@@ -3,7 +3,7 @@ use Rattle.std.specs.Prelude.{◌≡◌, ℕ, suc, List, [], ◌∷◌}
 use Rattle.rotor_base.specs.declared.source.SourceFile.{SourceFile}
 use Rattle.ml_lexer.specs.Lexed.{Lexeme, Lexed}
 use Rattle.ml_lexer.specs.Respelled.{respelled}
-use Rattle.ml_syntax.specs.Respelled.{Spelling}
+use Rattle.value_sites.specs.Respelled.{Spelling}
 use Rattle.ml_syntax.specs.RespelledFile.{new_words}
 
 -- for each file, the new word of a token and its word

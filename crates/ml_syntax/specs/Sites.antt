@@ -1,7 +1,7 @@
 -- The places that the program has found (own).
 use Rattle.std.specs.Prelude.{List, map}
 use Rattle.ml_syntax.specs.declared.sites.Site.{Site}
-use Rattle.ml_syntax.specs.Places as pure
+use Rattle.value_sites.specs.Places as pure
 
 abbrev pub view_site : Site → pure.Site
 view_site x = record { binds = x.binds; at = x.token; name = x.name; pun = x.pun; operator = x.operator }

@@ -8,8 +8,8 @@ use Rattle.ml_trees.specs.Tok.{Name, Tok, fixed, placed, word}
 use Rattle.ml_trees.specs.Tree.{FileTree}
 use Rattle.ml_trees.specs.Words.{words}
 use Rattle.ml_trees.specs.WellFormed.{WfFile}
-use Rattle.ml_syntax.specs.Sound.{AreNumbered}
-use Rattle.ml_syntax.specs.Places.{Site, label_name, sites}
+use Rattle.value_sites.specs.Sound.{AreNumbered}
+use Rattle.value_sites.specs.Places.{Site, label_name, sites}
 
 abbrev pub is_brace : Tok → Bool
 is_brace (placed key.LeftBrace at) = true

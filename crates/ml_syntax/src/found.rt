@@ -2,7 +2,7 @@
 
 ghost use Rattle.std.specs.Prelude.{◌≡◌, IfOk};
 ghost use Rattle.ml_trees.specs.View.{view_file};
-ghost use Rattle.ml_syntax.specs.Places.{sites};
+ghost use Rattle.value_sites.specs.Places.{sites};
 ghost use Rattle.ml_syntax.specs.Sites.{view_sites};
 
 use crate::sites::{
@@ -22,7 +22,7 @@ struct Found {
 
 impl Visitor for Found {
     ghost use Rattle.std.specs.Prelude.{List};
-    ghost use Rattle.ml_syntax.specs.Places.{Site as PureSite, adds_site};
+    ghost use Rattle.value_sites.specs.Places.{Site as PureSite, adds_site};
     ghost use Rattle.ml_syntax.specs.Sites.{view_sites};
 
     ghost State = { List PureSite };
@@ -72,7 +72,7 @@ impl Visitor for Found {
 }
 
 /// The places of a file, in order of tokens: those that declare a value, and those that use one. `Memory` is the only error.
-#[tactic(auto, using(crate::proofs::Placed::file_told_placed))]
+#[tactic(auto, using(value_sites::proofs::Placed::file_told_placed))]
 pub fn list_sites(alloc: Global, tree: &FileTree) -> Result<Vec<Site>, Memory>
     ensures { IfOk result (λ found. view_sites found.items ≡ sites (view_file tree.now)) }
 {

@@ -1,13 +1,13 @@
 //! The laws of the trees, each as the contract of a function.
 
-ghost use Rattle.ml_syntax.specs.Respelled.{RespellingKeepsTheTree};
+ghost use Rattle.value_sites.specs.Respelled.{RespellingKeepsTheTree};
 ghost use Rattle.ml_syntax.specs.RespelledFile.{LexemesAreNumbered, PartsAreNumbered, ReadFilesAreSound, RespelledTokens, RespelledFilesAreRead, SitesMayBecome, RespelledNamesAreRead};
-ghost use Rattle.ml_syntax.specs.SpelledSites.{SitesAreRespelled};
+ghost use Rattle.value_sites.specs.SpelledSites.{SitesAreRespelled};
 ghost use Rattle.ml_syntax.specs.Standing.{NoSiteOpensAQuoted, SitesAreWords, SitesStand, SitesAreNumbered, SitesAreOrdered};
 
 /// A respelled tree is well formed, and its words are the old ones, each lower-case one respelled: as many, of the
 /// same classes, with the same tokens.
-#[tactic(auto, using(crate::proofs::Spelling::respelling_keeps_the_tree))]
+#[tactic(auto, using(value_sites::proofs::Spelling::respelling_keeps_the_tree))]
 pub fn respelling_keeps_the_tree()
     ensures { RespellingKeepsTheTree }
 {}
@@ -34,7 +34,7 @@ pub fn sites_are_ordered()
 
 /// The places of a respelled file are its places with the new words, if operators and words that are labels or fields
 /// too are kept.
-#[tactic(auto, using(crate::proofs::SpelledSites::sites_are_respelled))]
+#[tactic(auto, using(value_sites::proofs::SpelledSites::sites_are_respelled))]
 pub fn sites_are_respelled()
     ensures { SitesAreRespelled }
 {}

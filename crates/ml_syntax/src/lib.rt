@@ -5,7 +5,6 @@ mod found;
 mod laws;
 mod place;
 mod sites;
-mod value_words;
 
 pub use found::list_sites;
 pub use laws::{
@@ -13,6 +12,6 @@ pub use laws::{
     respelling_keeps_the_tree, sites_are_numbered, sites_are_ordered, sites_are_respelled,
     sites_are_words, sites_stand,
 };
-pub use place::{Mark, binders, puns, value_refs};
+pub use place::{binders, puns, value_refs};
 pub use sites::Site;
-pub use value_words::{label_of, operator_of};
+pub use value_sites::{Mark, label_of, operator_of};

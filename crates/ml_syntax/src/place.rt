@@ -2,24 +2,15 @@
 
 ghost use Rattle.std.specs.Prelude.{◌≡◌, IfOk, map};
 ghost use Rattle.ml_trees.specs.View.{view_file};
-ghost use Rattle.ml_syntax.specs.Places.{binder_sites, use_sites, pun_sites, mark};
+ghost use Rattle.value_sites.specs.Places.{binder_sites, use_sites, pun_sites, mark};
 ghost use Rattle.ml_syntax.specs.Sites.{view_site};
 
 use crate::found::list_sites;
 use crate::sites::Site;
 use ml_trees::FileTree;
-use rotor_base::{Memory, Name};
+use rotor_base::Memory;
 use std::alloc::Global;
-
-/// A place of a value: its token, from 1, its name, whether its word is a label or a field too, and whether it is an
-/// operator.
-#[derive(Debug, Drop)]
-pub struct Mark {
-    pub token: u32,
-    pub name: Name,
-    pub pun: bool,
-    pub operator: bool,
-}
+use value_sites::Mark;
 
 /// The mark of a place.
 fn mark_of(site: Site) -> Mark

@@ -2,13 +2,13 @@
 
 ghost use Rattle.std.specs.Prelude.{◌≡◌, ◌++◌, ◌∷◌, [], OnOk, false};
 ghost use Rattle.ml_trees.specs.View.{view_word, view_tok};
-ghost use Rattle.ml_syntax.specs.Places.{plain, punned, operated, operator_sites, label_site};
+ghost use Rattle.value_sites.specs.Places.{plain, punned, operated, operator_sites, label_site};
 ghost use Rattle.ml_syntax.specs.Sites.{view_sites};
 
-use crate::value_words::{label_of, operator_of};
 use ml_trees::Word;
 use rotor_base::{Memory, Name};
 use std::alloc::Global;
+use value_sites::{label_of, operator_of};
 
 /// A place of a value: its token, from 1, whether the place is a binder, whether its word is a label or a field too,
 /// whether it is an operator, and its name.

@@ -10,17 +10,15 @@ ghost use Rattle.shape_core.specs.Node.{entries_of};
 ghost use Rattle.binding_model.specs.Scopes.{mod_shape, type_shape, applied as applied_shape, applied_all, params_in, adds, opens, entries, sig_adds, sig_opens, sig_entries};
 ghost use Rattle.binding_model.specs.Taken.{HasTaken, HasStopped};
 ghost use Rattle.binding_model.specs.Walk.{mod_steps, mod_argument_steps, mod_arguments_steps, functor_param_steps, functor_steps, type_steps, item_steps, items_steps, sig_item_steps, sig_items_steps};
-ghost use Rattle.mod_resolve.specs.Given.{given_shape, given_shapes, optional_shape, optional_type_steps};
+ghost use Rattle.module_entries.specs.Given.{given_shape, given_shapes, optional_shape, optional_type_steps};
 
-use crate::entries::{
-    Added, append, declared, named_module, nothing, opened, shown, token_of, type_entry,
-};
-use crate::functors::{
-    functor_from, functor_of, module_site, no_param, param_entries, type_at, type_start,
-};
 use binding_model::Found;
 use expr_resolve::{expression, let_part, let_parts};
 use ml_trees::{FunctorParam, Item, ModArgument, ModExpr, ModType, SigItem};
+use module_entries::{
+    Added, append, declared, functor_from, functor_of, module_site, named_module, no_param,
+    nothing, opened, param_entries, shown, token_of, type_at, type_entry, type_start,
+};
 use resolve_base::{go_on_with, group, matched, opening, weighed_site};
 use resolve_parts::{applied, apply, apply_to_nothing, let_values, module_entry, shape_at};
 use rotor_base::Place;
@@ -30,7 +28,7 @@ use std::alloc::Global;
 /// The shape of a module expression in its scope. After an `Ok` the scope is as it was. The errors are `Heavy`, at the
 /// first site that is too heavy, and `Memory`. It takes stack at each level of the module.
 #[cycle(modules)]
-#[tactic(auto, using(ml_trees::proofs::Variants::mod_expr_views, crate::proofs::Parameters::given_so, expr_resolve::proofs::Fronts::front_of_front, binding_model::proofs::Takings::heavy_stays))]
+#[tactic(auto, using(ml_trees::proofs::Variants::mod_expr_views, module_entries::proofs::Parameters::given_so, expr_resolve::proofs::Fronts::front_of_front, binding_model::proofs::Takings::heavy_stays))]
 pub fn module(
     alloc: Global,
     found: &mut Found,
@@ -138,7 +136,7 @@ fn application(
 /// Parameters of a functor, each in the scope of those before it, with the shapes of those that have one. The scope
 /// goes on with them.
 #[cycle(modules)]
-#[tactic(auto, using(resolve_base::proofs::Lemmas::scopes_joined, expr_resolve::proofs::Fronts::front_of_front, crate::proofs::Parameters::given_so, binding_model::proofs::Takings::heavy_stays))]
+#[tactic(auto, using(resolve_base::proofs::Lemmas::scopes_joined, expr_resolve::proofs::Fronts::front_of_front, module_entries::proofs::Parameters::given_so, binding_model::proofs::Takings::heavy_stays))]
 fn functor_params(
     alloc: Global,
     found: &mut Found,
@@ -201,7 +199,7 @@ fn functor_param(
 
 /// The shape of a module type in its scope, as for [`module`].
 #[cycle(modules)]
-#[tactic(auto, using(ml_trees::proofs::Variants::mod_type_views, crate::proofs::Parameters::given_so, expr_resolve::proofs::Fronts::front_of_front, binding_model::proofs::Takings::heavy_stays))]
+#[tactic(auto, using(ml_trees::proofs::Variants::mod_type_views, module_entries::proofs::Parameters::given_so, expr_resolve::proofs::Fronts::front_of_front, binding_model::proofs::Takings::heavy_stays))]
 pub fn module_type(
     alloc: Global,
     found: &mut Found,
@@ -369,7 +367,7 @@ fn all_sig_items(
 
 /// An item of a structure: what it adds to the structure and to the scope, and what it opens in the scope alone.
 #[cycle(modules)]
-#[tactic(auto, using(ml_trees::proofs::Variants::item_views, crate::proofs::Parameters::given_so, crate::proofs::Parameters::sealing_so, expr_resolve::proofs::Fronts::front_of_front, binding_model::proofs::Takings::heavy_stays))]
+#[tactic(auto, using(ml_trees::proofs::Variants::item_views, module_entries::proofs::Parameters::given_so, module_entries::proofs::Parameters::sealing_so, expr_resolve::proofs::Fronts::front_of_front, binding_model::proofs::Takings::heavy_stays))]
 fn item(
     alloc: Global,
     found: &mut Found,
@@ -450,7 +448,7 @@ fn item(
 
 /// An item of a signature, as for [`item`].
 #[cycle(modules)]
-#[tactic(auto, using(ml_trees::proofs::Variants::sig_item_views, crate::proofs::Parameters::given_so, expr_resolve::proofs::Fronts::front_of_front, binding_model::proofs::Takings::heavy_stays))]
+#[tactic(auto, using(ml_trees::proofs::Variants::sig_item_views, module_entries::proofs::Parameters::given_so, expr_resolve::proofs::Fronts::front_of_front, binding_model::proofs::Takings::heavy_stays))]
 fn sig_item(
     alloc: Global,
     found: &mut Found,

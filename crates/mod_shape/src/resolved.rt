@@ -2,7 +2,7 @@
 
 ghost use Rattle.std.specs.Prelude.{◌≡◌, IfOk, IsOk, Err, Some, None};
 ghost use Rattle.rotor_base.specs.declared.place.Place.{Place};
-ghost use Rattle.ml_syntax.specs.Sound.{IsSound};
+ghost use Rattle.value_sites.specs.Sound.{IsSound};
 ghost use Rattle.ml_trees.specs.View.{view_project};
 ghost use Rattle.shape_core.specs.declared.error.FactError.TheVariants.{Heavy};
 ghost use Rattle.shape_core.specs.Shape.{none};

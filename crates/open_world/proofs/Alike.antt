@@ -3,7 +3,7 @@
 use Rattle.std.proofs.Common.{ℕ, ◌-◌, suc, List, [], ◌∷◌, Bool, true, false, Option, Some, None}
 use Rattle.rotor_base.specs.declared.place.Place.{Place}
 use Rattle.ml_trees.specs.Tok.{Name as Word}
-use Rattle.ml_syntax.specs.Places.{Site, punned, operated, operator_sites, name_sites, label_site}
+use Rattle.value_sites.specs.Places.{Site, punned, operated, operator_sites, name_sites, label_site}
 use Rattle.ml_trees.specs.Tree.{ValueName, Pat, AsPat, OrPat, TuplePat, ConsPat, ConstrApplyPat, TagApplyPat, LazyPat, ExceptionPat, AnyPat}
 use Rattle.ml_trees.specs.Tree.{ValuePat, LiteralPat, NegativePat, RangePat, ConstrPat, TagPat, BoolPat, UnitPat, ParenPat, TypedPat, EmptyPat}
 use Rattle.ml_trees.specs.Tree.{ListPat, RecordPat, OpenedPat, Pats, no_pat, more_pat, PatField, PunnedField, MatchedField, PatFields, no_pat_field}

@@ -7,9 +7,9 @@ use Rattle.rotor_base.specs.declared.place.Place.{Place}
 use Rattle.rotor_base.specs.declared.place.Link.{Link}
 use Rattle.rotor_base.specs.declared.place.Goal.{Goal}
 use Rattle.rotor_base.specs.declared.place.Goal.TheVariants.{Decl, Outside, Missing, Hidden, Blur}
-use Rattle.ml_syntax.specs.Each.{Each}
-use Rattle.ml_syntax.specs.Places.{Site}
-use Rattle.ml_syntax.specs.Sound.{IsSound}
+use Rattle.value_sites.specs.Each.{Each}
+use Rattle.value_sites.specs.Places.{Site}
+use Rattle.value_sites.specs.Sound.{IsSound}
 use Rattle.ml_trees.specs.Tree.{UnitTree}
 use Rattle.shape_core.specs.Shape.{Name, none, or_value}
 use Rattle.shape_core.specs.Links.{link}

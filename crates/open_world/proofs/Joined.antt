@@ -9,9 +9,9 @@ use Rattle.rotor_base.specs.declared.place.Ref.{Ref}
 use Rattle.rotor_base.specs.declared.place.Link.{Link}
 use Rattle.rotor_base.specs.declared.place.Goal.{Goal}
 use Rattle.rotor_base.specs.declared.place.Goal.TheVariants.{Decl, Outside, Missing, Hidden, Blur}
-use Rattle.ml_syntax.specs.Each.{Each}
-use Rattle.ml_syntax.specs.Places.{Site}
-use Rattle.ml_syntax.specs.Sound.{IsSound}
+use Rattle.value_sites.specs.Each.{Each}
+use Rattle.value_sites.specs.Places.{Site}
+use Rattle.value_sites.specs.Sound.{IsSound}
 use Rattle.ml_trees.specs.Tree.{FileTree, Body, Face, UnitTree}
 use Rattle.shape_core.specs.Respell.{over}
 use Rattle.shape_core.specs.Shape.{Name, Shape, Struct, Functor, Unitary, Opaque, Entries, none, a_val, a_mod, a_mty, a_dark, ◌⊕◌, vals, or_else}

@@ -4,7 +4,7 @@ use Rattle.std.specs.Prelude.{bytes_eq}
 use Rattle.rotor_base.specs.declared.place.Place.{Place}
 use Rattle.rotor_base.specs.declared.place.Goal.{Goal}
 use Rattle.rotor_base.specs.declared.place.Goal.TheVariants.{Decl, Missing}
-use Rattle.ml_syntax.specs.Each.{Each}
+use Rattle.value_sites.specs.Each.{Each}
 use Rattle.shape_core.specs.Shape.{Name, Shape, Entries, ◌⊕◌, vals, or_else}
 use Rattle.shape_core.specs.Shape.{or_value, some_if, unless_some, last_of, passed, last_place, behind_of, seen, find_val, find_mod, find_mty}
 use Rattle.shape_core.specs.Links.{Trace, ◌&◌, nothing, a_step, one, or_empty, pin, pin_vals, match_entries, match_step, match_to}

@@ -4,7 +4,7 @@ use Rattle.std.specs.Prelude.{bytes_eq}
 use Rattle.rotor_base.specs.declared.place.Place.{Place}
 use Rattle.rotor_base.specs.declared.place.Goal.TheVariants.{Decl}
 use Rattle.ml_trees.specs.Tok.{Name as Word}
-use Rattle.ml_syntax.specs.Places.{Site}
+use Rattle.value_sites.specs.Places.{Site}
 use Rattle.shape_core.specs.Shape.{Name, Shape, Struct, Functor, Unitary, Opaque, Entries, none, a_val, a_mod, a_mty, a_dark, ◌⊕◌, mods, mtys}
 use Rattle.shape_core.specs.Shape.{or_else, or_value, some_if, last_of, find_mod, find_mty, step, step_from, inside}
 use Rattle.shape_core.specs.Shape.{walk, type_in, brought}

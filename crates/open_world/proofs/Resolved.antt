@@ -7,7 +7,7 @@ use Rattle.rotor_base.specs.declared.place.Ref.{Ref}
 use Rattle.rotor_base.specs.declared.place.Goal.{Goal}
 use Rattle.rotor_base.specs.declared.place.Goal.TheVariants.{Decl, Outside, Missing, Hidden, Blur}
 use Rattle.rotor_base.proofs.Rising.{some_is}
-use Rattle.ml_syntax.specs.Each.{Each}
+use Rattle.value_sites.specs.Each.{Each}
 use Rattle.shape_core.specs.Shape.{Name, Shape, Struct, Entries, a_mod, ◌⊕◌, vals}
 use Rattle.shape_core.specs.Shape.{or_value, last_of, passed, last_place, behind_of, seen, find_val, value_at, value_in, depth, depths}
 use Rattle.shape_core.specs.Links.{◌&◌, pin, match_to, matched}

@@ -1,10 +1,10 @@
 -- The heads of a respelled file are the file's: only names of values are respelled, and no path has them as its head.
 use Rattle.std.proofs.Common.{◌≡◌, ℕ, List, [], Some, refl, ap}
-use Rattle.ml_syntax.specs.Respelled.{Spelling, spell_file}
-use Rattle.ml_syntax.proofs.SpelledEvents.{spell_event, file_spelled}
+use Rattle.value_sites.specs.Respelled.{Spelling, spell_file}
+use Rattle.value_sites.proofs.SpelledEvents.{spell_event, file_spelled}
 use Rattle.ml_trees.specs.Tree.{FileTree, UpperName, AnyName}
 use Rattle.ml_trees.specs.Events.{Event, said, run_of, module_path, last_path, qualifier, scope_begins, scope_ends, brings}
-use Rattle.tree_walk.specs.Behind.{behind}
+use Rattle.tree_events.specs.Behind.{behind}
 use Rattle.unit_order.specs.Heads.{Needed, needed, hears, file_heads}
 
 -- more says the same of each state

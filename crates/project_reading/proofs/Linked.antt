@@ -17,7 +17,7 @@ use Rattle.rotor_base.proofs.BadLines.{is_named}
 use Rattle.rotor_base.proofs.Kept.{neither}
 use Rattle.rotor_base.specs.Unit.{unit_of}
 use Rattle.ml_trees.specs.declared.module.UnitTree as trees
-use Rattle.ml_syntax.specs.Sound.{AreDistinct}
+use Rattle.value_sites.specs.Sound.{AreDistinct}
 use Rattle.ml_trees.specs.Tree.{FileTree, UnitTree}
 use Rattle.ml_trees.specs.View.{view_unit}
 use Rattle.unit_order.specs.Heads.{is_among}

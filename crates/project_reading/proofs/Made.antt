@@ -1,7 +1,7 @@
 -- What the steps of the program make of files is what they are read as, or why they are not.
 use Rattle.std.proofs.Common.{◌≡◌, ℕ, ◌<◌, List, All, Option, None, map, length, ap, sym, subst, ◌∙◌, true}
 use Rattle.rotor_base.specs.Files.{FileSet, IsProject}
-use Rattle.ml_syntax.specs.Sound.{AreDistinct, IsSound}
+use Rattle.value_sites.specs.Sound.{AreDistinct, IsSound}
 use Rattle.ml_trees.specs.Tree.{FileTree, UnitTree}
 use Rattle.unit_order.specs.Order.{order_of, takes_all}
 use Rattle.unit_order.specs.Positions.{unit_at, names_at}

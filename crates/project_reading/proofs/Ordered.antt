@@ -12,7 +12,7 @@ use Rattle.rotor_base.specs.Files.{bad_line, bad_manifest}
 use Rattle.rotor_base.specs.declared.unit.SourceUnit.{SourceUnit}
 use Rattle.rotor_base.specs.declared.refusal.LoadError.TheVariants.{BadManifest}
 use Rattle.rotor_base.proofs.BadLines.{is_named, and_false, left_named, both_true, names_alone}
-use Rattle.ml_syntax.specs.Sound.{AreDistinct}
+use Rattle.value_sites.specs.Sound.{AreDistinct}
 use Rattle.ml_trees.specs.Tree.{UnitTree}
 use Rattle.unit_order.specs.Heads.{is_among}
 use Rattle.unit_order.specs.Order.{is_ready, first_ready, go_on, taking, derived_order, takes_all, is_filled, manifest_order, order_of, IsListed}

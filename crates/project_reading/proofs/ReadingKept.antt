@@ -4,8 +4,8 @@ use Rattle.rotor_base.specs.declared.source.SourceFile.{SourceFile}
 use Rattle.ml_lexer.specs.Lexed.{Lexed, view_tokens}
 use Rattle.ml_lexer.specs.Respelled.{respelled, respelled_lexemes}
 use Rattle.ml_lexer.proofs.OneCutting.{one_lexed}
-use Rattle.ml_syntax.specs.Places.{sites}
-use Rattle.ml_syntax.specs.Respelled.{Spelling, spell_file}
+use Rattle.value_sites.specs.Places.{sites}
+use Rattle.value_sites.specs.Respelled.{Spelling, spell_file}
 use Rattle.ml_syntax.specs.RespelledFile.{lexeme_toks, new_words, ChangesNames}
 use Rattle.ml_trees.specs.Tree.{FileTree, Body, Face}
 use Rattle.ml_syntax.proofs.RespelledNames.{respelled_names_are_read}

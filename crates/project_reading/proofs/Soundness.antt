@@ -12,7 +12,7 @@ use Rattle.rotor_base.specs.Stem.{is_body_name}
 use Rattle.rotor_base.specs.Unit.{unit_of}
 use Rattle.rotor_base.specs.declared.source.SourceFile.{SourceFile}
 use Rattle.ml_syntax.proofs.SoundFiles.{read_files_are_sound}
-use Rattle.ml_syntax.specs.Sound.{AreDistinct, IsSound, IsSoundFile, IsSoundUnit, IsBodyPart, IsFacePart, HasPart, part_files, unit_files}
+use Rattle.value_sites.specs.Sound.{AreDistinct, IsSound, IsSoundFile, IsSoundUnit, IsBodyPart, IsFacePart, HasPart, part_files, unit_files}
 use Rattle.ml_trees.specs.Tree.{FileTree, Body, Face, UnitTree}
 use Rattle.parse_module.specs.declared.files.FileKind.{FileKind}
 use Rattle.parse_module.specs.declared.files.FileKind.TheVariants as kind

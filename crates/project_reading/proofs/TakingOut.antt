@@ -5,7 +5,7 @@ use Rattle.std.proofs.lemmas.List.{map-append, get_or-map, get_or-set_other, get
 use Rattle.std.proofs.lemmas.List.Elements.{All-head, All-tail}
 use Rattle.ml_trees.specs.declared.module.UnitTree as trees
 use Rattle.ml_trees.specs.View.{view_unit}
-use Rattle.ml_syntax.specs.Sound.{AreDistinct}
+use Rattle.value_sites.specs.Sound.{AreDistinct}
 use Rattle.unit_order.specs.Positions.{blank, unit_at, views}
 
 abbrev pub IsHere : List trees.UnitTree → List (Option trees.UnitTree) → ℕ → Type 0

@@ -5,7 +5,7 @@ use Rattle.rotor_base.specs.declared.token.Class.TheVariants as class
 use Rattle.rotor_base.specs.declared.token.Token.{Token}
 use Rattle.ml_lexer.specs.Lexed.{Lexeme, view_token, view_tokens}
 use Rattle.ml_trees.specs.Tok.{Name, Tok, fixed, placed, word, toks_from}
-use Rattle.ml_syntax.specs.Respelled.{Spelling, spelled, spell_tok}
+use Rattle.value_sites.specs.Respelled.{Spelling, spelled, spell_tok}
 use Rattle.ml_syntax.specs.RespelledFile.{lexeme_toks}
 use Rattle.parse_base.specs.Forms.{first_form}
 use Rattle.token_reading.specs.Tokens.{lexeme, from}

@@ -3,8 +3,8 @@ use Rattle.std.specs.Prelude.{◌≡◌, ℕ, suc, List, [], ◌∷◌, Option, 
 use Rattle.rotor_base.specs.Files.{FileSet, IsProject}
 use Rattle.ml_lexer.specs.Lexed.{Lexeme}
 use Rattle.ml_lexer.specs.Respelled.{respelled_lexemes}
-use Rattle.ml_syntax.specs.Places.{sites}
-use Rattle.ml_syntax.specs.Respelled.{spell_file}
+use Rattle.value_sites.specs.Places.{sites}
+use Rattle.value_sites.specs.Respelled.{spell_file}
 use Rattle.ml_syntax.specs.RespelledFile.{new_words, ChangesNames}
 use Rattle.ml_syntax.specs.RespelledSource.{Spellings, AreRespelled}
 use Rattle.ml_trees.specs.Tree.{FileTree, Body, Face, UnitTree}

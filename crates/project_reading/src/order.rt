@@ -5,7 +5,7 @@ ghost use Rattle.std.specs.Option.{option_copied};
 ghost use Rattle.std.specs.List.Sorted.{IsStrictlySortedBy};
 ghost use Rattle.std.specs.Ordering.{nat_cmp};
 ghost use Rattle.std.specs.Cmp.Lexicographic.{slice_cmp};
-ghost use Rattle.ml_syntax.specs.Sound.{AreDistinct};
+ghost use Rattle.value_sites.specs.Sound.{AreDistinct};
 ghost use Rattle.unit_order.specs.Order.{IsListed, order_of, takes_all};
 ghost use Rattle.unit_order.specs.Positions.{names_at, unit_at, views};
 ghost use Rattle.project_reading.specs.Reads.{IsOrderRefused};

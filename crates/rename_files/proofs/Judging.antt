@@ -12,7 +12,7 @@ use Rattle.rotor_base.specs.declared.source.SourceFile.{SourceFile}
 use Rattle.rotor_base.specs.Files.{are_over, first_with, too_large, names_of}
 use Rattle.dependency_kernel.specs.Foot.{IsFoot}
 use Rattle.ml_syntax.specs.RespelledSource.{AreRespelled, Spellings}
-use Rattle.ml_syntax.specs.Sound.{IsSound}
+use Rattle.value_sites.specs.Sound.{IsSound}
 use Rattle.ml_trees.specs.Tree.{UnitTree}
 use Rattle.shape_core.specs.Shape.{Name}
 use Rattle.binding_model.specs.Facts.{facts}

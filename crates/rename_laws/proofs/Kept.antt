@@ -12,7 +12,7 @@ use Rattle.rotor_base.specs.declared.refusal.Refusal.TheVariants as refusal
 use Rattle.rotor_base.specs.Stem.{is_source_name}
 use Rattle.rotor_base.specs.Files.{FileSet, IsProject, are_over, load_refusal, names_of}
 use Rattle.ml_syntax.specs.RespelledSource.{AreRespelled}
-use Rattle.ml_syntax.specs.Sound.{IsSound}
+use Rattle.value_sites.specs.Sound.{IsSound}
 use Rattle.ml_trees.specs.Tree.{UnitTree}
 use Rattle.shape_core.specs.Shape.{Name}
 use Rattle.dependency_kernel.specs.Foot.{IsFoot}

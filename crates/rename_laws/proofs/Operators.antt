@@ -29,9 +29,9 @@ use Rattle.ml_trees.specs.Tree.{FileTree, Body, Face, UnitTree}
 use Rattle.ml_trees.specs.Words.{words}
 use Rattle.ml_trees.specs.WellFormed.{keyword_level}
 use Rattle.ml_trees.specs.Runs.{has_colon}
-use Rattle.ml_syntax.specs.Places.{Site, sites, without_colon, label_name}
-use Rattle.ml_syntax.specs.Sound.{IsLexeme, AreNumbered, IsSound, IsSoundFile, IsSoundUnit, IsBodyPart, IsFacePart}
-use Rattle.ml_syntax.specs.Each.{Each}
+use Rattle.value_sites.specs.Places.{Site, sites, without_colon, label_name}
+use Rattle.value_sites.specs.Sound.{IsLexeme, AreNumbered, IsSound, IsSoundFile, IsSoundUnit, IsBodyPart, IsFacePart}
+use Rattle.value_sites.specs.Each.{Each}
 use Rattle.dependency_kernel.specs.Foot.{here}
 use Rattle.dependency_kernel.proofs.Laws.{has_one_name}
 use Rattle.binding_model.specs.Facts.{facts}

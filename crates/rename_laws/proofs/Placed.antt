@@ -14,18 +14,18 @@ use Rattle.rotor_base.specs.declared.token.Class.TheVariants as class
 use Rattle.rotor_base.specs.Files.{names_of}
 use Rattle.rotor_base.proofs.Rising.{some_is, not_named}
 use Rattle.ml_lexer.specs.Lexed.{Lexeme}
-use Rattle.ml_syntax.specs.Places.{Site, sites}
+use Rattle.value_sites.specs.Places.{Site, sites}
 use Rattle.ml_syntax.specs.RespelledFile.{lexeme_toks}
 use Rattle.ml_trees.specs.Tok.{Name, Tok, word, fixed_of, tok}
 use Rattle.ml_trees.specs.Tree.{FileTree, Body, Face, UnitTree}
-use Rattle.ml_syntax.specs.Each.{Each}
+use Rattle.value_sites.specs.Each.{Each}
 use Rattle.binding_model.specs.Renaming.{placed_sites, file_places, places}
 use Rattle.binding_model.specs.Scopes.{here}
 use Rattle.binding_model.proofs.Sounds.{each_joined}
 use Rattle.value_places.specs.Placed as table
 use Rattle.renamed_sources.proofs.ValueNames.{no_keyword, no_mark, same_word}
 use Rattle.ml_trees.specs.Words.{words}
-use Rattle.ml_syntax.specs.Sound.{AreNumbered, IsSoundUnit, IsBodyPart, IsFacePart}
+use Rattle.value_sites.specs.Sound.{AreNumbered, IsSoundUnit, IsBodyPart, IsFacePart}
 use Rattle.ml_syntax.proofs.RespelledNames.{lexemes_are_numbered}
 use Rattle.ml_syntax.proofs.SiteWords.{sites_are_words}
 use Rattle.binding_model.specs.Renaming.{at_place}

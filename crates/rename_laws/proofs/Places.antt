@@ -10,9 +10,9 @@ use Rattle.ml_trees.specs.Runs.{has_colon}
 use Rattle.ml_trees.specs.Events.{Event, said, run_of, value, field, label, operator, minus, module_path, last_path, qualifier, brings}
 use Rattle.ml_trees.specs.Words.{add_words, dotted_then, path_then, qualified_then, words}
 use Rattle.ml_trees.specs.WellFormed.{is_operator, WfFile}
-use Rattle.tree_walk.specs.Behind.{behind}
-use Rattle.ml_syntax.specs.Places.{Site, plain, punned, operated, label_site, operator_sites, adds_site, sites}
-use Rattle.ml_syntax.specs.Each.{Each}
+use Rattle.tree_events.specs.Behind.{behind}
+use Rattle.value_sites.specs.Places.{Site, plain, punned, operated, label_site, operator_sites, adds_site, sites}
+use Rattle.value_sites.specs.Each.{Each}
 use Rattle.binding_model.proofs.Sounds.{each_joined}
 pub use Rattle.rename_laws.proofs.FineEvents.{is_sign}
 use Rattle.rename_laws.proofs.FineEvents.{Fine, file_fine}

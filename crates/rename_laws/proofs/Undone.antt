@@ -17,7 +17,7 @@ use Rattle.rotor_base.specs.declared.report.Renamed.{Renamed}
 use Rattle.rotor_base.specs.declared.source.SourceFile.{SourceFile}
 use Rattle.rotor_base.specs.declared.target.Target.TheVariants.{At}
 use Rattle.rotor_base.specs.Files.{names_of, FileSet, are_over}
-use Rattle.ml_syntax.specs.Places.{Site}
+use Rattle.value_sites.specs.Places.{Site}
 use Rattle.ml_syntax.specs.RespelledSource.{AreRespelled}
 use Rattle.ml_trees.specs.Tree.{UnitTree}
 use Rattle.shape_core.specs.Shape.{Name}

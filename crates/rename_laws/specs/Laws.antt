@@ -15,7 +15,7 @@ use Rattle.rotor_base.specs.Name.{is_value_name}
 use Rattle.rotor_base.specs.Stem.{is_source_name}
 use Rattle.rotor_base.specs.Files.{FileSet, IsProject, load_refusal, names_of}
 use Rattle.ml_lexer.specs.Bytes.{is_word_start}
-use Rattle.ml_syntax.specs.Sound.{IsSound}
+use Rattle.value_sites.specs.Sound.{IsSound}
 use Rattle.ml_trees.specs.Tree.{UnitTree}
 use Rattle.ml_trees.specs.WellFormed.{keyword_level}
 use Rattle.shape_core.specs.Shape.{Name}

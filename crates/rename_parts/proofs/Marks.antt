@@ -4,13 +4,13 @@ use Rattle.std.proofs.Common.{option_map, map, length, get_or, refl, ap, sym, â—
 use Rattle.std.specs.List.{filter}
 use Rattle.rotor_base.specs.declared.place.Place.{Place}
 use Rattle.rotor_base.specs.Place.{same_place}
-use Rattle.ml_syntax.specs.declared.place.Mark.{Mark}
-use Rattle.ml_syntax.specs.Places.{Site, mark, sites, binder_sites}
-use Rattle.ml_syntax.specs.Sound.{IsSound}
+use Rattle.value_sites.specs.declared.mark.Mark.{Mark}
+use Rattle.value_sites.specs.Places.{Site, mark, sites, binder_sites}
+use Rattle.value_sites.specs.Sound.{IsSound}
 use Rattle.ml_trees.specs.Tree.{FileTree, Body, Face, UnitTree}
 use Rattle.shape_core.specs.Shape.{or_else, some_if}
 use Rattle.shape_core.specs.Respell.{over}
-use Rattle.ml_syntax.specs.Each.{Each}
+use Rattle.value_sites.specs.Each.{Each}
 use Rattle.binding_model.specs.Scopes.{here}
 use Rattle.binding_model.specs.Renaming.{places, placed_sites, file_places, at_place}
 use Rattle.binding_model.proofs.Leasts.{place_in}

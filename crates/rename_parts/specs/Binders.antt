@@ -1,8 +1,8 @@
 -- The binders of a project, as a search finds them (own).
 use Rattle.std.specs.Prelude.{◌≡◌, IsTrue, List, Option, Some, None, true}
 use Rattle.rotor_base.specs.declared.place.Place.{Place}
-use Rattle.ml_syntax.specs.declared.place.Mark.{Mark}
-use Rattle.ml_syntax.specs.Places.{Site, mark}
+use Rattle.value_sites.specs.declared.mark.Mark.{Mark}
+use Rattle.value_sites.specs.Places.{Site, mark}
 use Rattle.ml_trees.specs.Tree.{UnitTree}
 use Rattle.shape_core.specs.Respell.{over}
 use Rattle.binding_model.specs.Renaming.{places, at_place}

@@ -2,18 +2,19 @@
 
 ghost use Rattle.std.specs.Prelude.{◌≡◌, ◌<◌, ◌==◌, IfOk, IfSome, Some, length};
 ghost use Rattle.ml_trees.specs.View.{view_project, view_part_of, view_file};
-ghost use Rattle.ml_syntax.specs.Sound.{IsSound};
-ghost use Rattle.ml_syntax.specs.Places.{mark};
+ghost use Rattle.value_sites.specs.Sound.{IsSound};
+ghost use Rattle.value_sites.specs.Places.{mark};
 ghost use Rattle.ml_syntax.specs.Sites.{view_site};
 ghost use Rattle.binding_model.specs.Renaming.{file_places};
 ghost use Rattle.rename_model.specs.Target.{first_at};
 ghost use Rattle.rename_parts.specs.Binders.{mark_at, IsMarkAt, IsMarkIn};
 
-use ml_syntax::{Mark, Site, binders};
+use ml_syntax::{Site, binders};
 use ml_trees::{FileTree, Project};
 use rotor_base::{Memory, Name, Place};
 use std::alloc::Global;
 use value_places::{PlacedProject, number_of_file};
+use value_sites::Mark;
 
 /// The binder at a place, or none, of a project whose places are listed. `Memory` is the only error.
 pub fn placed_binder(

@@ -1,7 +1,7 @@
 -- The binder that a target names.
 use Rattle.std.proofs.Common.{◌≡◌, Some, ap, sym, ◌∙◌, List}
 use Rattle.rotor_base.specs.declared.place.Place.{Place}
-use Rattle.ml_syntax.specs.declared.place.Mark.{Mark}
+use Rattle.value_sites.specs.declared.mark.Mark.{Mark}
 use Rattle.ml_trees.specs.Tree.{UnitTree}
 use Rattle.binding_model.specs.Renaming.{site_name, name_of}
 use Rattle.rename_parts.specs.Binders.{IsMarkAt}

@@ -15,13 +15,13 @@ ghost use Rattle.rename_model.specs.Target.{IsSpot, Names, Aims, number_of};
 ghost use Rattle.rename_parts.specs.Binders.{IsMarkAt};
 ghost use Rattle.rename_project.specs.Steps.{IsRefusedFor};
 
-use ml_syntax::Mark;
 use project_reading::Read;
 use rename_parts::{dotted, number_of, placed_binder, token_at};
 use rotor_base::{Files, Name, Place, Refusal, Target};
 use shape_core::Scope;
 use std::alloc::Global;
 use value_places::PlacedProject;
+use value_sites::Mark;
 
 /// A binder: its place, and its name.
 #[derive(Drop)]

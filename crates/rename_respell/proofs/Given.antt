@@ -12,8 +12,8 @@ use Rattle.rotor_base.specs.declared.token.Class.TheVariants as class
 use Rattle.rotor_base.specs.Place.{place_cmp}
 use Rattle.ml_lexer.specs.Lexed.{Lexeme}
 use Rattle.ml_lexer.specs.Respelled.{respelled}
-use Rattle.ml_syntax.specs.Places.{label_name}
-use Rattle.ml_syntax.specs.Respelled.{Spelling}
+use Rattle.value_sites.specs.Places.{label_name}
+use Rattle.value_sites.specs.Respelled.{Spelling}
 use Rattle.shape_core.specs.Respell.{Words}
 use Rattle.shape_core.specs.Shape.{Name, or_value}
 use Rattle.binding_model.specs.Renaming.{Renaming, at_place, goal_at, in_file, new_word, words_of}

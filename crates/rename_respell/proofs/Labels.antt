@@ -4,7 +4,7 @@ use Rattle.std.proofs.Common.{◌∙◌, arith}
 use Rattle.std.proofs.lemmas.List.{take-append-drop, length-take-le, drop_all, append-nil}
 use Rattle.rotor_base.specs.declared.token.Class.{Class}
 use Rattle.rotor_base.specs.declared.token.Class.TheVariants as class
-use Rattle.ml_syntax.specs.Places.{without_colon, label_name}
+use Rattle.value_sites.specs.Places.{without_colon, label_name}
 use Rattle.shape_core.specs.Shape.{Name, or_value}
 use Rattle.rename_respell.specs.Respelled.{label_with, new_text}
 use Rattle.rename_respell.specs.Tables.{text_of}

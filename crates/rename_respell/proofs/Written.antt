@@ -11,7 +11,7 @@ use Rattle.rotor_base.specs.declared.token.Token.{Token}
 use Rattle.ml_lexer.specs.Laws.{AreInOrder}
 use Rattle.ml_lexer.specs.Lexed.{Lexeme, view_token, view_tokens}
 use Rattle.ml_lexer.specs.Respelled.{respelled, respelled_from}
-use Rattle.ml_syntax.specs.Respelled.{Spelling}
+use Rattle.value_sites.specs.Respelled.{Spelling}
 use Rattle.shape_core.specs.Shape.{Name}
 use Rattle.binding_model.specs.Renaming.{in_file}
 use Rattle.rename_respell.specs.Respelled.{new_text, new_texts}

@@ -9,8 +9,8 @@ use Rattle.rotor_base.specs.declared.token.Class.TheVariants as class
 use Rattle.rotor_base.specs.Files.{FileSet}
 use Rattle.ml_lexer.specs.Lexed.{Lexeme, Lexed}
 use Rattle.ml_lexer.specs.Respelled.{respelled}
-use Rattle.ml_syntax.specs.Places.{label_name}
-use Rattle.ml_syntax.specs.Respelled.{Spelling}
+use Rattle.value_sites.specs.Places.{label_name}
+use Rattle.value_sites.specs.Respelled.{Spelling}
 use Rattle.ml_trees.specs.Tree.{UnitTree}
 use Rattle.shape_core.specs.Shape.{Name}
 use Rattle.shape_core.specs.Respell.{Words}

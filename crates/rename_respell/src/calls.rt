@@ -1,8 +1,8 @@
 //! The call that respells the sources of a project.
 
 ghost use Rattle.std.specs.Prelude.{◌≡◌, Err, IfErr, IfOk, Ok, List, map as map_list};
-ghost use Rattle.ml_syntax.specs.Each.{Each};
-ghost use Rattle.ml_syntax.specs.Sound.{IsSound};
+ghost use Rattle.value_sites.specs.Each.{Each};
+ghost use Rattle.value_sites.specs.Sound.{IsSound};
 ghost use Rattle.ml_trees.specs.Tree.{UnitTree};
 ghost use Rattle.ml_trees.specs.View.{view_project};
 ghost use Rattle.ml_lexer.specs.Lexed.{view_tokens};

@@ -9,9 +9,9 @@ ghost use Rattle.rename_respell.specs.Respelled.{label_with, new_texts};
 ghost use Rattle.rename_respell.specs.Tables.{text_of, words_in};
 
 use crate::words::NewWords;
-use ml_syntax::label_of;
 use rotor_base::{Class, Memory, Place, Token};
 use std::alloc::Global;
+use value_sites::label_of;
 
 /// The bytes of a source whose tokens take new words. In a label the word alone changes. `Memory` is the only error.
 pub fn respell_source(

@@ -17,14 +17,14 @@ use Rattle.rotor_base.specs.declared.source.SourceFile.{SourceFile}
 use Rattle.dependency_kernel.specs.Foot.{IsFoot, IsFixed, IsFixedBy}
 use Rattle.ml_lexer.specs.Lexed.{Lexeme}
 use Rattle.ml_lexer.specs.Respelled.{respelled}
-use Rattle.ml_syntax.specs.Places.{Site}
-use Rattle.ml_syntax.specs.Respelled.{Spelling, spelled}
+use Rattle.value_sites.specs.Places.{Site}
+use Rattle.value_sites.specs.Respelled.{Spelling, spelled}
 use Rattle.ml_syntax.specs.RespelledFile.{new_words}
 use Rattle.ml_syntax.specs.RespelledSource.{IsRespelled, AreRespelled}
-use Rattle.ml_syntax.specs.Sound.{IsSound}
+use Rattle.value_sites.specs.Sound.{IsSound}
 use Rattle.ml_trees.specs.Tree.{UnitTree}
 use Rattle.shape_core.specs.Shape.{Name, or_else, some_if, or_value}
-use Rattle.ml_syntax.specs.Each.{Each}
+use Rattle.value_sites.specs.Each.{Each}
 use Rattle.binding_model.specs.Facts.{facts, put, in_order, is_before}
 use Rattle.binding_model.specs.Renaming.{IsBinder}
 use Rattle.binding_model.specs.Local.{IsWatched}

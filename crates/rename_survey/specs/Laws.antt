@@ -1,7 +1,7 @@
 -- The law of surveys (own).
 use Rattle.std.specs.Prelude.{List}
 use Rattle.rotor_base.specs.Files.{FileSet}
-use Rattle.ml_syntax.specs.Each.{Each}
+use Rattle.value_sites.specs.Each.{Each}
 use Rattle.ml_trees.specs.Tree.{UnitTree}
 use Rattle.binding_model.specs.Renaming.{IsBinder}
 use Rattle.project_reading.specs.Reads.{Reads}

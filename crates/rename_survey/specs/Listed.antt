@@ -1,7 +1,7 @@
 -- The binders of a project, by its places (own).
 use Rattle.std.specs.Prelude.{List, [], ◌∷◌, Option, Some, None, flat_map}
 use Rattle.rotor_base.specs.declared.place.Place.{Place}
-use Rattle.ml_syntax.specs.Places.{Site}
+use Rattle.value_sites.specs.Places.{Site}
 use Rattle.binding_model.specs.Facts.{in_order}
 use Rattle.binding_model.specs.Renaming.{at_place}
 use Rattle.value_places.specs.Binders.{binder_places}

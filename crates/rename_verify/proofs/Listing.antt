@@ -6,8 +6,8 @@ use Rattle.std.proofs.lemmas.Slice.Eq.{bytes_eq-Decides}
 use Rattle.rotor_base.specs.Place.{same_place}
 use Rattle.rotor_base.specs.declared.place.Place.{Place}
 use Rattle.ml_lexer.specs.Lexed.{Lexeme}
-use Rattle.ml_syntax.specs.Places.{Site}
-use Rattle.ml_syntax.specs.Sound.{IsSound}
+use Rattle.value_sites.specs.Places.{Site}
+use Rattle.value_sites.specs.Sound.{IsSound}
 use Rattle.ml_trees.specs.Tree.{UnitTree}
 use Rattle.shape_core.specs.Shape.{Name, or_else, some_if}
 use Rattle.binding_model.specs.Renaming.{Renaming, places, at_place, name_of, site_name, Changes, IsFixedSite, IsFree}

@@ -10,11 +10,11 @@ use Rattle.rotor_base.proofs.Rising.{some_is}
 use Rattle.ml_lexer.specs.Lexed.{Lexeme, Lexed}
 use Rattle.ml_lexer.specs.Respelled.{respelled_lexemes_from, respelled_lexemes}
 use Rattle.ml_lexer.proofs.OneCutting.{one_lexed}
-use Rattle.ml_syntax.specs.Places.{Site}
-use Rattle.ml_syntax.specs.Respelled.{Spelling, spelled}
+use Rattle.value_sites.specs.Places.{Site}
+use Rattle.value_sites.specs.Respelled.{Spelling, spelled}
 use Rattle.ml_syntax.specs.RespelledFile.{lexeme_toks, new_words}
 use Rattle.ml_syntax.specs.RespelledSource.{Spellings}
-use Rattle.ml_syntax.specs.Sound.{AreNumbered}
+use Rattle.value_sites.specs.Sound.{AreNumbered}
 use Rattle.ml_trees.specs.Tok.{Name, Tok, word, fixed_of, tok}
 use Rattle.ml_trees.specs.Tree.{FileTree, UnitTree}
 use Rattle.ml_trees.specs.Words.{words}

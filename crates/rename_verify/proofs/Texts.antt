@@ -6,11 +6,11 @@ use Rattle.rotor_base.specs.declared.token.Class.{Class}
 use Rattle.rotor_base.specs.declared.token.Class.TheVariants as class
 use Rattle.ml_lexer.specs.Lexed.{Lexeme, Lexed}
 use Rattle.ml_trees.specs.declared.fixed.Fixed.{Fixed}
-use Rattle.ml_syntax.specs.Each.{Each}
-use Rattle.ml_syntax.specs.Places.{Site, label_name, sites}
-use Rattle.ml_syntax.specs.Respelled.{Spelling, spelled}
+use Rattle.value_sites.specs.Each.{Each}
+use Rattle.value_sites.specs.Places.{Site, label_name, sites}
+use Rattle.value_sites.specs.Respelled.{Spelling, spelled}
 use Rattle.ml_syntax.specs.RespelledFile.{lexeme_toks, new_words, ChangesNames}
-use Rattle.ml_syntax.specs.Sound.{AreNumbered}
+use Rattle.value_sites.specs.Sound.{AreNumbered}
 use Rattle.ml_syntax.specs.Standing.{AreNumberedBy, IsWordOf, a_name, a_label, an_equals, a_sign, a_minus}
 use Rattle.ml_trees.specs.Tok.{Name, Tok, fixed, is_placed, placed, word, fixed_of, tok, tok_or}
 use Rattle.ml_trees.specs.Tree.{FileTree}

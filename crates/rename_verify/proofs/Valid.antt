@@ -9,8 +9,8 @@ use Rattle.rotor_base.specs.Files.{FileSet, IsProject, names_of}
 use Rattle.rotor_base.specs.declared.place.Place.{Place}
 use Rattle.rotor_base.specs.declared.source.SourceFile.{SourceFile}
 use Rattle.ml_lexer.specs.Lexed.{Lexeme}
-use Rattle.ml_syntax.specs.Places.{Site}
-use Rattle.ml_syntax.specs.Sound.{IsSound}
+use Rattle.value_sites.specs.Places.{Site}
+use Rattle.value_sites.specs.Sound.{IsSound}
 use Rattle.ml_trees.specs.Tree.{FileTree, UnitTree}
 use Rattle.shape_core.specs.Respell.{Words}
 use Rattle.shape_core.specs.Shape.{Name}

@@ -4,8 +4,8 @@ ghost use Rattle.std.specs.Prelude.{◌≡◌, Err, IfErr, IfOk, List, Ok, map, 
 ghost use Rattle.rotor_base.specs.Files.{IsProject, names_of};
 ghost use Rattle.rotor_base.specs.declared.refusal.Refusal.TheVariants as refusal;
 ghost use Rattle.ml_lexer.specs.Lexed.{view_tokens};
-ghost use Rattle.ml_syntax.specs.Each.{Each};
-ghost use Rattle.ml_syntax.specs.Sound.{IsSound};
+ghost use Rattle.value_sites.specs.Each.{Each};
+ghost use Rattle.value_sites.specs.Sound.{IsSound};
 ghost use Rattle.ml_trees.specs.Tree.{UnitTree};
 ghost use Rattle.ml_trees.specs.View.{view_project};
 ghost use Rattle.binding_model.specs.Facts.{facts as facts_of};

@@ -17,7 +17,7 @@ use Rattle.ml_lexer.specs.Laws.{AreInOrder}
 use Rattle.ml_lexer.specs.Lexed.{Lexeme}
 use Rattle.ml_lexer.specs.Respelled.{respelled, respelled_from}
 use Rattle.ml_lexer.proofs.Order.{lexemes_are_in_order}
-use Rattle.ml_syntax.specs.Respelled.{spelled}
+use Rattle.value_sites.specs.Respelled.{spelled}
 use Rattle.ml_syntax.specs.RespelledFile.{new_words}
 use Rattle.ml_syntax.specs.RespelledSource.{IsRespelled, AreRespelled}
 use Rattle.ml_trees.specs.Tree.{UnitTree}

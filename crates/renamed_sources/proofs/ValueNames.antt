@@ -15,15 +15,15 @@ use Rattle.ml_lexer.proofs.Fronts.{lexeme_of_piece}
 use Rattle.ml_lexer.proofs.Order.{EachWhole, each_whole}
 use Rattle.ml_lexer.proofs.Words.{lexeme_of_cond, word_at_length}
 use Rattle.ml_trees.specs.declared.fixed.Fixed.{Fixed}
-use Rattle.ml_syntax.specs.Places.{Site, sites}
+use Rattle.value_sites.specs.Places.{Site, sites}
 use Rattle.ml_syntax.specs.RespelledFile.{lexeme_toks}
-use Rattle.ml_syntax.specs.Sound.{AreNumbered}
+use Rattle.value_sites.specs.Sound.{AreNumbered}
 use Rattle.ml_trees.specs.Tok.{Name, Tok, word, placed, fixed, is_placed, fixed_of, tok, tok_or}
 use Rattle.ml_trees.specs.Tree.{FileTree, Body, Face, UnitTree}
 use Rattle.ml_trees.specs.Words.{words}
 use Rattle.ml_syntax.proofs.RespelledNames.{lexemes_are_numbered}
 use Rattle.ml_syntax.proofs.SiteWords.{sites_are_words}
-use Rattle.ml_syntax.specs.Each.{Each}
+use Rattle.value_sites.specs.Each.{Each}
 use Rattle.binding_model.specs.Renaming.{placed_sites, file_places, places}
 use Rattle.binding_model.proofs.Leasts.{place_in}
 use Rattle.binding_model.proofs.Sounds.{each_joined}

@@ -6,7 +6,7 @@ use Rattle.rotor_base.specs.declared.source.SourceFile.{SourceFile}
 use Rattle.rotor_base.specs.Files.{FileSet, IsProject, are_over, load_refusal, names_of}
 use Rattle.rotor_base.specs.Name.{is_value_name}
 use Rattle.ml_lexer.specs.Lexed.{Lexeme}
-use Rattle.ml_syntax.specs.Places.{Site}
+use Rattle.value_sites.specs.Places.{Site}
 use Rattle.ml_syntax.specs.RespelledSource.{AreRespelled}
 use Rattle.ml_trees.specs.Tree.{UnitTree}
 use Rattle.shape_core.specs.Respell.{Words}

@@ -10,7 +10,7 @@ use Rattle.rotor_base.specs.Files.{FileSet}
 use Rattle.text_places.specs.declared.counting.Counting.{Counting}
 use Rattle.ml_lexer.specs.Lexed.{Lexeme, Lexed}
 use Rattle.ml_lexer.specs.Respelled.{respelled}
-use Rattle.ml_syntax.specs.Sound.{IsSound}
+use Rattle.value_sites.specs.Sound.{IsSound}
 use Rattle.ml_trees.specs.Tree.{UnitTree}
 use Rattle.binding_model.specs.Facts.{facts as facts_of}
 use Rattle.binding_model.specs.Renaming.{IsBinder}

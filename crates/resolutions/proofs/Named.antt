@@ -1,7 +1,7 @@
 -- A map of the binders of a survey.
 use Rattle.std.proofs.Common.{◌≡◌, List, [], ◌∷◌, map, sym, subst}
 use Rattle.rotor_base.specs.declared.place.Place.{Place}
-use Rattle.ml_syntax.specs.Each.{Each}
+use Rattle.value_sites.specs.Each.{Each}
 use Rattle.shape_core.specs.Shape.{Name}
 use Rattle.rename_survey.specs.declared.answer.Binder.{Binder}
 

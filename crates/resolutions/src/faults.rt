@@ -3,7 +3,7 @@
 ghost use Rattle.std.specs.Prelude.{◌≡◌, ◌≤◌, None, length, map};
 ghost use Rattle.std.specs.Bool.{Decides};
 ghost use Rattle.rotor_base.specs.Limits.{max_name_bytes};
-ghost use Rattle.ml_syntax.specs.Sound.{IsSound};
+ghost use Rattle.value_sites.specs.Sound.{IsSound};
 ghost use Rattle.ml_trees.specs.View.{view_project};
 ghost use Rattle.binding_model.specs.Facts.{facts as facts_of};
 ghost use Rattle.binding_model.specs.Renaming.{IsBinder};

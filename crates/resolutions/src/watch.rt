@@ -1,7 +1,7 @@
 //! What the calls before a renaming return: the project, its facts, the binder that a target names, and the watch.
 
 ghost use Rattle.std.specs.Prelude.{◌≡◌, None, IfOk};
-ghost use Rattle.ml_syntax.specs.Sound.{IsSound};
+ghost use Rattle.value_sites.specs.Sound.{IsSound};
 ghost use Rattle.ml_trees.specs.View.{view_project};
 ghost use Rattle.dependency_kernel.specs.Foot.{IsFoot};
 ghost use Rattle.binding_model.specs.Facts.{facts as facts_of};

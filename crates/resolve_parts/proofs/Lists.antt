@@ -1,6 +1,6 @@
 -- Rows of parts, as steps.
 use Rattle.std.proofs.Common.{◌≡◌, ℕ, List, refl, ap}
-use Rattle.ml_syntax.specs.Places.{Site}
+use Rattle.value_sites.specs.Places.{Site}
 use Rattle.ml_trees.specs.Tree.{Pats, no_pat, more_pat}
 use Rattle.binding_model.specs.Scopes.{bound}
 use Rattle.binding_model.specs.Steps.{◌⨾◌, GroupOf, TieOf}

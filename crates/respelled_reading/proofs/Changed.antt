@@ -7,7 +7,7 @@ use Rattle.rotor_base.specs.Files.{FileSet, IsProject}
 use Rattle.rotor_base.specs.Name.{is_value_name}
 use Rattle.rotor_base.specs.declared.place.Place.{Place}
 use Rattle.rotor_base.specs.declared.source.SourceFile.{SourceFile}
-use Rattle.ml_syntax.specs.Places.{Site, sites}
+use Rattle.value_sites.specs.Places.{Site, sites}
 use Rattle.ml_syntax.specs.RespelledFile.{ChangesNames}
 use Rattle.ml_trees.specs.Tree.{FileTree, Body, Face, UnitTree}
 use Rattle.parse_module.specs.declared.files.FileKind.{FileKind}
@@ -15,7 +15,7 @@ use Rattle.parse_module.specs.declared.files.FileKind.TheVariants as kind
 use Rattle.parse_module.specs.Whole.{IsOfFile}
 use Rattle.shape_core.specs.Shape.{Name}
 use Rattle.shape_core.specs.Respell.{Words}
-use Rattle.ml_syntax.specs.Each.{Each}
+use Rattle.value_sites.specs.Each.{Each}
 use Rattle.binding_model.specs.Renaming.{placed_sites, file_places, places, at_place, in_file}
 use Rattle.binding_model.specs.Scopes.{here}
 use Rattle.binding_model.proofs.Leasts.{place_in}

@@ -3,7 +3,7 @@ use Rattle.std.proofs.Common.{◌≡◌, ℕ, zero, suc, ◌<◌, ◌≤◌, Lis
 use Rattle.rotor_base.specs.declared.token.Class.TheVariants as class
 use Rattle.rotor_base.specs.declared.token.Token.{Token}
 use Rattle.ml_trees.specs.Tok.{Tok, fixed, placed, word}
-use Rattle.ml_syntax.specs.Respelled.{Spelling, spell_tok}
+use Rattle.value_sites.specs.Respelled.{Spelling, spell_tok}
 use Rattle.token_reading.specs.Tokens.{from}
 use Rattle.parse_base.specs.Nesting.{role_of, first_role, role_at, role_before, after, marks, nesting, DeepIs}
 use Rattle.respelled_tokens.specs.Kept.{AreRespelled, NestingIsKept}

@@ -11,7 +11,7 @@ use Rattle.ml_lexer.specs.Respelled.{respelled_lexemes_from}
 use Rattle.ml_lexer.proofs.Local.{which}
 use Rattle.ml_lexer.proofs.Order.{lexemes_are_in_order}
 use Rattle.ml_trees.specs.Tok.{Name, toks_from}
-use Rattle.ml_syntax.specs.Respelled.{Spelling, spelled, spell_tok}
+use Rattle.value_sites.specs.Respelled.{Spelling, spelled, spell_tok}
 use Rattle.ml_syntax.specs.RespelledFile.{lexeme_toks, new_words}
 use Rattle.ml_syntax.proofs.RespelledFile.{respelled_tokens}
 use Rattle.token_reading.specs.Tokens.{lexeme, from}

@@ -2,13 +2,13 @@
 use Rattle.std.specs.Prelude.{◌≡◌, ℕ, ◌⊎◌, ◌==◌, List, [], ◌∷◌, Bool, false, Option, None, length, map}
 use Rattle.rotor_base.specs.declared.token.Class.TheVariants as class
 use Rattle.rotor_base.specs.declared.token.Token.{Token}
-use Rattle.ml_syntax.specs.Respelled.{Spelling, spell_tok, spell_file}
+use Rattle.value_sites.specs.Respelled.{Spelling, spell_tok, spell_file}
 use Rattle.ml_lexer.specs.Lexed.{Lexed, view_tokens}
 use Rattle.ml_lexer.specs.Respelled.{respelled, respelled_lexemes}
 use Rattle.ml_trees.specs.Tree.{FileTree}
 use Rattle.ml_trees.specs.Words.{words}
 use Rattle.ml_trees.specs.WellFormed.{WfFile}
-use Rattle.ml_syntax.specs.Places.{sites}
+use Rattle.value_sites.specs.Places.{sites}
 use Rattle.ml_syntax.specs.RespelledFile.{new_words, ChangesNames}
 use Rattle.token_reading.specs.Tokens.{from}
 use Rattle.parse_base.specs.Nesting.{DeepIs}

@@ -3,7 +3,7 @@ use Rattle.std.proofs.Common.{ℕ, zero, suc, ℤ, Bool, true, false, List, [], 
 use Rattle.rotor_base.specs.declared.place.Place.{Place}
 use Rattle.ml_trees.specs.declared.word.Bracket.TheVariants as bracket
 use Rattle.ml_trees.specs.Tok.{Name as Word}
-use Rattle.ml_syntax.specs.Places.{Site, name_sites, operator_sites}
+use Rattle.value_sites.specs.Places.{Site, name_sites, operator_sites}
 use Rattle.ml_trees.specs.Tree.{ValueName, Expr, Seq, Let, LetOpen, LetModule, Fun, Function, Match, Try, If, Chain, Minus, Apply, ConstrApply}
 use Rattle.ml_trees.specs.Tree.{TagApply, Assert, Lazy, Postfix, Prefixed, Literal, BoolExpr, Value, Constr, Tag, UnitExpr, Paren, Typed, Coerced}
 use Rattle.ml_trees.specs.Tree.{EmptyBegin, Begin, EmptyList, ListExpr, Record, Opened, While, For, Links, no_link, more_link, MaybeExpr, no_expr}

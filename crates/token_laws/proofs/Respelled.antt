@@ -6,7 +6,7 @@ use Rattle.rotor_base.specs.declared.token.Class.{Class}
 use Rattle.ml_lexer.specs.Lexed.{Lexeme, Lexed}
 use Rattle.ml_lexer.specs.Respelled.{respelled_lexemes, respelled_lexemes_from}
 use Rattle.ml_lexer.proofs.OneCutting.{one_lexed}
-use Rattle.ml_syntax.specs.Respelled.{Spelling, spelled}
+use Rattle.value_sites.specs.Respelled.{Spelling, spelled}
 use Rattle.ml_syntax.specs.RespelledFile.{new_words}
 use Rattle.ml_syntax.specs.RespelledSource.{Spellings, AreRespelled}
 use Rattle.ml_trees.specs.Tree.{FileTree, UnitTree}

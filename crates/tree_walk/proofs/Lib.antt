@@ -1,4 +1,2 @@
 pub mod LocalViews
 pub mod Loops
-pub mod Silent
-pub mod Tells

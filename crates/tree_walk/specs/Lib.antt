@@ -1,3 +1,1 @@
-pub mod Behind
-pub mod Told
 pub mod Heard

@@ -5,7 +5,7 @@
 
 ghost use Rattle.std.specs.Prelude.{◌≡◌, true, OnOk};
 ghost use Rattle.ml_trees.specs.View.{view, view_binding, view_argument, view_param, view_part, view_field, view_variable, view_pat, view_word, links, commas, ops, maybe, bindings, view_case, cases, arguments, params, parts, fields};
-ghost use Rattle.tree_walk.specs.Told.{pat_told, expr_told, links_told, base_told, guard_told, binding_told, bindings_told, case_told, cases_told, argument_told, arguments_told, param_told, params_told, part_told, parts_told, field_told, fields_told, variable_told};
+ghost use Rattle.tree_events.specs.Told.{pat_told, expr_told, links_told, base_told, guard_told, binding_told, bindings_told, case_told, cases_told, argument_told, arguments_told, param_told, params_told, part_told, parts_told, field_told, fields_told, variable_told};
 ghost use Rattle.ml_trees.specs.Events as out;
 ghost use Rattle.ml_trees.specs.Events.{bindings_begin, group_begins, group_ends};
 
@@ -17,7 +17,7 @@ use rotor_base::Memory;
 
 /// Reports the events of an expression.
 #[cycle(expression_walk)]
-#[tactic(auto, using(ml_trees::proofs::Variants::expr_views, crate::proofs::Tells::expr_tells))]
+#[tactic(auto, using(ml_trees::proofs::Variants::expr_views, tree_events::proofs::Tells::expr_tells))]
 pub fn expression<V: Visitor>(visitor: &mut V, e: &Expr) -> Result<(), Memory>
     ensures { OnOk result (V.state visitor.new ≡ expr_told V.step (V.state visitor.old) (view e.now)) }
 {
@@ -193,7 +193,7 @@ pub fn expression<V: Visitor>(visitor: &mut V, e: &Expr) -> Result<(), Memory>
 }
 
 /// Reports the variable of a `for`.
-#[tactic(auto, using(crate::proofs::Tells::expr_tells))]
+#[tactic(auto, using(tree_events::proofs::Tells::expr_tells))]
 fn variable<V: Visitor>(visitor: &mut V, variable: &Variable) -> Result<(), Memory>
     ensures { OnOk result (V.state visitor.new ≡ variable_told V.step (V.state visitor.old) (view_variable variable.now)) }
 {
@@ -205,7 +205,7 @@ fn variable<V: Visitor>(visitor: &mut V, variable: &Variable) -> Result<(), Memo
 
 /// Reports the events of an optional expression.
 #[cycle(expression_walk)]
-#[tactic(auto, using(ml_trees::proofs::Variants::expr_views, crate::proofs::Tells::expr_tells))]
+#[tactic(auto, using(ml_trees::proofs::Variants::expr_views, tree_events::proofs::Tells::expr_tells))]
 fn optional<V: Visitor>(visitor: &mut V, e: &Option<Box<Expr>>) -> Result<(), Memory>
     ensures base { OnOk result (V.state visitor.new ≡ base_told V.step (V.state visitor.old) (maybe e.now)) }
     ensures guard { OnOk result (V.state visitor.new ≡ guard_told V.step (V.state visitor.old) (maybe e.now)) }
@@ -218,7 +218,7 @@ fn optional<V: Visitor>(visitor: &mut V, e: &Option<Box<Expr>>) -> Result<(), Me
 
 /// Reports the events of expressions, each behind a `;`.
 #[cycle(expression_walk)]
-#[tactic(auto, using(ml_trees::proofs::Variants::expr_views, crate::proofs::Tells::expr_tells))]
+#[tactic(auto, using(ml_trees::proofs::Variants::expr_views, tree_events::proofs::Tells::expr_tells))]
 fn steps<V: Visitor>(visitor: &mut V, list: &[Expr]) -> Result<(), Memory>
     ensures { OnOk result (V.state visitor.new ≡ links_told V.step (V.state visitor.old) (links list.now)) }
 {
@@ -231,7 +231,7 @@ fn steps<V: Visitor>(visitor: &mut V, list: &[Expr]) -> Result<(), Memory>
 
 /// Reports the events of expressions, each behind a `,`.
 #[cycle(expression_walk)]
-#[tactic(auto, using(ml_trees::proofs::Variants::expr_views, crate::proofs::Tells::expr_tells))]
+#[tactic(auto, using(ml_trees::proofs::Variants::expr_views, tree_events::proofs::Tells::expr_tells))]
 fn components<V: Visitor>(visitor: &mut V, list: &[Expr]) -> Result<(), Memory>
     ensures { OnOk result (V.state visitor.new ≡ links_told V.step (V.state visitor.old) (commas list.now)) }
 {
@@ -244,7 +244,7 @@ fn components<V: Visitor>(visitor: &mut V, list: &[Expr]) -> Result<(), Memory>
 
 /// Reports the events of operators and the operands behind them.
 #[cycle(expression_walk)]
-#[tactic(auto, using(ml_trees::proofs::Variants::expr_views, crate::proofs::Tells::expr_tells))]
+#[tactic(auto, using(ml_trees::proofs::Variants::expr_views, tree_events::proofs::Tells::expr_tells))]
 fn operands<V: Visitor>(visitor: &mut V, list: &[(Word, Expr)]) -> Result<(), Memory>
     ensures { OnOk result (V.state visitor.new ≡ links_told V.step (V.state visitor.old) (ops list.now)) }
 {
@@ -256,7 +256,7 @@ fn operands<V: Visitor>(visitor: &mut V, list: &[(Word, Expr)]) -> Result<(), Me
 }
 
 /// Reports the events of the bindings of a `let`, which are a group.
-#[tactic(auto, using(ml_trees::proofs::Variants::expr_views, crate::proofs::Tells::expr_tells))]
+#[tactic(auto, using(ml_trees::proofs::Variants::expr_views, tree_events::proofs::Tells::expr_tells))]
 pub fn group<V: Visitor>(visitor: &mut V, first: &Binding, rest: &[Binding]) -> Result<(), Memory>
     ensures { OnOk result (V.state visitor.new ≡ V.step (bindings_told V.step (binding_told V.step (V.step (V.state visitor.old) bindings_begin) (view_binding first.now)) (bindings rest.now)) group_ends) }
 {
@@ -267,7 +267,7 @@ pub fn group<V: Visitor>(visitor: &mut V, first: &Binding, rest: &[Binding]) -> 
 }
 
 #[cycle(expression_walk)]
-#[tactic(auto, using(ml_trees::proofs::Variants::binding_views, crate::proofs::Tells::expr_tells))]
+#[tactic(auto, using(ml_trees::proofs::Variants::binding_views, tree_events::proofs::Tells::expr_tells))]
 fn binding<V: Visitor>(visitor: &mut V, part: &Binding) -> Result<(), Memory>
     ensures { OnOk result (V.state visitor.new ≡ binding_told V.step (V.state visitor.old) (view_binding part.now)) }
 {
@@ -290,7 +290,7 @@ fn binding<V: Visitor>(visitor: &mut V, part: &Binding) -> Result<(), Memory>
 }
 
 #[cycle(expression_walk)]
-#[tactic(auto, using(ml_trees::proofs::Variants::binding_views, crate::proofs::Tells::expr_tells))]
+#[tactic(auto, using(ml_trees::proofs::Variants::binding_views, tree_events::proofs::Tells::expr_tells))]
 fn more_bindings<V: Visitor>(visitor: &mut V, list: &[Binding]) -> Result<(), Memory>
     ensures { OnOk result (V.state visitor.new ≡ bindings_told V.step (V.state visitor.old) (bindings list.now)) }
 {
@@ -310,7 +310,7 @@ fn pattern_group<V: Visitor>(visitor: &mut V, pat: &Pat) -> Result<(), Memory>
 }
 
 #[cycle(expression_walk)]
-#[tactic(auto, using(ml_trees::proofs::Variants::expr_views, crate::proofs::Tells::expr_tells))]
+#[tactic(auto, using(ml_trees::proofs::Variants::expr_views, tree_events::proofs::Tells::expr_tells))]
 fn case<V: Visitor>(visitor: &mut V, part: &Case) -> Result<(), Memory>
     ensures { OnOk result (V.state visitor.new ≡ case_told V.step (V.state visitor.old) (view_case part.now)) }
 {
@@ -320,7 +320,7 @@ fn case<V: Visitor>(visitor: &mut V, part: &Case) -> Result<(), Memory>
 }
 
 #[cycle(expression_walk)]
-#[tactic(auto, using(ml_trees::proofs::Variants::expr_views, crate::proofs::Tells::expr_tells))]
+#[tactic(auto, using(ml_trees::proofs::Variants::expr_views, tree_events::proofs::Tells::expr_tells))]
 fn more_cases<V: Visitor>(visitor: &mut V, list: &[Case]) -> Result<(), Memory>
     ensures { OnOk result (V.state visitor.new ≡ cases_told V.step (V.state visitor.old) (cases list.now)) }
 {
@@ -331,7 +331,7 @@ fn more_cases<V: Visitor>(visitor: &mut V, list: &[Case]) -> Result<(), Memory>
 }
 
 #[cycle(expression_walk)]
-#[tactic(auto, using(ml_trees::proofs::Variants::argument_views, crate::proofs::Tells::expr_tells))]
+#[tactic(auto, using(ml_trees::proofs::Variants::argument_views, tree_events::proofs::Tells::expr_tells))]
 fn argument<V: Visitor>(visitor: &mut V, part: &Argument) -> Result<(), Memory>
     ensures { OnOk result (V.state visitor.new ≡ argument_told V.step (V.state visitor.old) (view_argument part.now)) }
 {
@@ -346,7 +346,7 @@ fn argument<V: Visitor>(visitor: &mut V, part: &Argument) -> Result<(), Memory>
 }
 
 #[cycle(expression_walk)]
-#[tactic(auto, using(ml_trees::proofs::Variants::argument_views, crate::proofs::Tells::expr_tells))]
+#[tactic(auto, using(ml_trees::proofs::Variants::argument_views, tree_events::proofs::Tells::expr_tells))]
 fn all_arguments<V: Visitor>(visitor: &mut V, list: &[Argument]) -> Result<(), Memory>
     ensures { OnOk result (V.state visitor.new ≡ arguments_told V.step (V.state visitor.old) (arguments list.now)) }
 {
@@ -366,7 +366,7 @@ fn named_group<V: Visitor>(visitor: &mut V, word: &Word) -> Result<(), Memory>
 }
 
 #[cycle(expression_walk)]
-#[tactic(auto, using(ml_trees::proofs::Variants::param_views, crate::proofs::Tells::expr_tells))]
+#[tactic(auto, using(ml_trees::proofs::Variants::param_views, tree_events::proofs::Tells::expr_tells))]
 fn parameter<V: Visitor>(visitor: &mut V, part: &Param) -> Result<(), Memory>
     ensures { OnOk result (V.state visitor.new ≡ param_told V.step (V.state visitor.old) (view_param part.now)) }
 {
@@ -403,7 +403,7 @@ fn parameter<V: Visitor>(visitor: &mut V, part: &Param) -> Result<(), Memory>
 }
 
 #[cycle(expression_walk)]
-#[tactic(auto, using(ml_trees::proofs::Variants::param_views, crate::proofs::Tells::expr_tells))]
+#[tactic(auto, using(ml_trees::proofs::Variants::param_views, tree_events::proofs::Tells::expr_tells))]
 fn parameters<V: Visitor>(visitor: &mut V, list: &[Param]) -> Result<(), Memory>
     ensures { OnOk result (V.state visitor.new ≡ params_told V.step (V.state visitor.old) (params list.now)) }
 {
@@ -414,7 +414,7 @@ fn parameters<V: Visitor>(visitor: &mut V, list: &[Param]) -> Result<(), Memory>
 }
 
 #[cycle(expression_walk)]
-#[tactic(auto, using(ml_trees::proofs::Variants::part_views, crate::proofs::Tells::expr_tells))]
+#[tactic(auto, using(ml_trees::proofs::Variants::part_views, tree_events::proofs::Tells::expr_tells))]
 fn part<V: Visitor>(visitor: &mut V, part: &Part) -> Result<(), Memory>
     ensures { OnOk result (V.state visitor.new ≡ part_told V.step (V.state visitor.old) (view_part part.now)) }
 {
@@ -426,7 +426,7 @@ fn part<V: Visitor>(visitor: &mut V, part: &Part) -> Result<(), Memory>
 }
 
 #[cycle(expression_walk)]
-#[tactic(auto, using(ml_trees::proofs::Variants::part_views, crate::proofs::Tells::expr_tells))]
+#[tactic(auto, using(ml_trees::proofs::Variants::part_views, tree_events::proofs::Tells::expr_tells))]
 fn all_parts<V: Visitor>(visitor: &mut V, list: &[Part]) -> Result<(), Memory>
     ensures { OnOk result (V.state visitor.new ≡ parts_told V.step (V.state visitor.old) (parts list.now)) }
 {
@@ -437,7 +437,7 @@ fn all_parts<V: Visitor>(visitor: &mut V, list: &[Part]) -> Result<(), Memory>
 }
 
 #[cycle(expression_walk)]
-#[tactic(auto, using(ml_trees::proofs::Variants::field_views, crate::proofs::Tells::expr_tells))]
+#[tactic(auto, using(ml_trees::proofs::Variants::field_views, tree_events::proofs::Tells::expr_tells))]
 fn field<V: Visitor>(visitor: &mut V, part: &Field) -> Result<(), Memory>
     ensures { OnOk result (V.state visitor.new ≡ field_told V.step (V.state visitor.old) (view_field part.now)) }
 {
@@ -457,7 +457,7 @@ fn field<V: Visitor>(visitor: &mut V, part: &Field) -> Result<(), Memory>
 }
 
 #[cycle(expression_walk)]
-#[tactic(auto, using(ml_trees::proofs::Variants::field_views, crate::proofs::Tells::expr_tells))]
+#[tactic(auto, using(ml_trees::proofs::Variants::field_views, tree_events::proofs::Tells::expr_tells))]
 fn more_fields<V: Visitor>(visitor: &mut V, list: &[Field]) -> Result<(), Memory>
     ensures { OnOk result (V.state visitor.new ≡ fields_told V.step (V.state visitor.old) (fields list.now)) }
 {

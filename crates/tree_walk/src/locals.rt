@@ -6,7 +6,7 @@
 ghost use Rattle.std.specs.Prelude.{◌≡◌, OnOk};
 ghost use Rattle.ml_trees.specs.Tree.{LocalArguments};
 ghost use Rattle.ml_trees.specs.View.{view_local, view_local_then, locals};
-ghost use Rattle.tree_walk.specs.Told.{local_told, locals_told};
+ghost use Rattle.tree_events.specs.Told.{local_told, locals_told};
 
 use crate::event::{Event, Visitor};
 use ml_trees::{LocalArgument, LocalModule};
@@ -14,7 +14,7 @@ use rotor_base::Memory;
 
 /// Reports the paths of a module and of its arguments.
 #[cycle(local_walk)]
-#[tactic(auto, using(crate::proofs::LocalViews::local_views, crate::proofs::Tells::local_tells))]
+#[tactic(auto, using(crate::proofs::LocalViews::local_views, tree_events::proofs::Tells::local_tells))]
 pub fn local<V: Visitor>(visitor: &mut V, m: &LocalModule) -> Result<(), Memory>
     ensures { OnOk result (V.state visitor.new ≡ local_told V.step (V.state visitor.old) (view_local m.now)) }
 {
@@ -24,7 +24,7 @@ pub fn local<V: Visitor>(visitor: &mut V, m: &LocalModule) -> Result<(), Memory>
 
 /// Reports the paths of an argument, before more arguments.
 #[cycle(local_walk)]
-#[tactic(auto, using(crate::proofs::LocalViews::local_views, crate::proofs::Tells::local_tells))]
+#[tactic(auto, using(crate::proofs::LocalViews::local_views, tree_events::proofs::Tells::local_tells))]
 fn argument<V: Visitor>(visitor: &mut V, part: &LocalArgument) -> Result<(), Memory>
     ensures { OnOk result ((more : LocalArguments) → locals_told V.step (V.state visitor.old) (view_local_then part.now more) ≡ locals_told V.step (V.state visitor.new) more) }
 {
@@ -35,7 +35,7 @@ fn argument<V: Visitor>(visitor: &mut V, part: &LocalArgument) -> Result<(), Mem
 }
 
 #[cycle(local_walk)]
-#[tactic(auto, using(crate::proofs::LocalViews::local_views, crate::proofs::Tells::local_tells))]
+#[tactic(auto, using(crate::proofs::LocalViews::local_views, tree_events::proofs::Tells::local_tells))]
 fn arguments<V: Visitor>(visitor: &mut V, list: &[LocalArgument]) -> Result<(), Memory>
     ensures { OnOk result (V.state visitor.new ≡ locals_told V.step (V.state visitor.old) (locals list.now)) }
 {

@@ -7,7 +7,7 @@ ghost use Rattle.std.specs.Prelude.{◌≡◌, ℕ, OnOk};
 ghost use Rattle.ml_trees.specs.Tree as pure;
 ghost use Rattle.ml_trees.specs.View.{view_mod, view_mod_argument, view_functor_param, view_mod_type, view_module_name, view_item, view_sig_item, view_file, mod_arguments, functor_params, signature, items, sig_items};
 ghost use Rattle.ml_trees.specs.Events.{scope_begins};
-ghost use Rattle.tree_walk.specs.Told.{brings_told, mod_told, mod_argument_told, mod_arguments_told, functor_param_told, functor_params_told, mod_type_told, signature_told, item_told, items_told, sig_item_told, sig_items_told, file_told};
+ghost use Rattle.tree_events.specs.Told.{brings_told, mod_told, mod_argument_told, mod_arguments_told, functor_param_told, functor_params_told, mod_type_told, signature_told, item_told, items_told, sig_item_told, sig_items_told, file_told};
 
 use crate::event::{Event, Visitor};
 use crate::expressions::{expression, group};
@@ -16,7 +16,7 @@ use ml_trees::{FileTree, FunctorParam, Item, ModArgument, ModExpr, ModType, Modu
 use rotor_base::Memory;
 
 /// Reports that a module of this name is bound from here on.
-#[tactic(auto, using(crate::proofs::Tells::module_tells))]
+#[tactic(auto, using(tree_events::proofs::Tells::module_tells))]
 fn bring<V: Visitor>(visitor: &mut V, name: &ModuleName) -> Result<(), Memory>
     ensures { OnOk result (V.state visitor.new ≡ brings_told V.step (V.state visitor.old) (view_module_name name.now)) }
 {
@@ -47,7 +47,7 @@ fn bring_name<V: Visitor>(visitor: &mut V, item: &Item) -> Result<(), Memory>
 
 /// Reports the events of a module expression.
 #[cycle(module_walk)]
-#[tactic(auto, using(ml_trees::proofs::Variants::mod_expr_views, crate::proofs::Tells::module_tells))]
+#[tactic(auto, using(ml_trees::proofs::Variants::mod_expr_views, tree_events::proofs::Tells::module_tells))]
 fn module<V: Visitor>(visitor: &mut V, m: &ModExpr) -> Result<(), Memory>
     ensures { OnOk result (V.state visitor.new ≡ mod_told V.step (V.state visitor.old) (view_mod m.now)) }
 {
@@ -83,7 +83,7 @@ fn module<V: Visitor>(visitor: &mut V, m: &ModExpr) -> Result<(), Memory>
 }
 
 #[cycle(module_walk)]
-#[tactic(auto, using(ml_trees::proofs::Variants::mod_argument_views, crate::proofs::Tells::module_tells))]
+#[tactic(auto, using(ml_trees::proofs::Variants::mod_argument_views, tree_events::proofs::Tells::module_tells))]
 fn argument<V: Visitor>(visitor: &mut V, part: &ModArgument) -> Result<(), Memory>
     ensures { OnOk result (V.state visitor.new ≡ mod_argument_told V.step (V.state visitor.old) (view_mod_argument part.now)) }
 {
@@ -102,7 +102,7 @@ fn argument<V: Visitor>(visitor: &mut V, part: &ModArgument) -> Result<(), Memor
 }
 
 #[cycle(module_walk)]
-#[tactic(auto, using(ml_trees::proofs::Variants::mod_argument_views, crate::proofs::Tells::module_tells))]
+#[tactic(auto, using(ml_trees::proofs::Variants::mod_argument_views, tree_events::proofs::Tells::module_tells))]
 fn all_arguments<V: Visitor>(visitor: &mut V, list: &[ModArgument]) -> Result<(), Memory>
     ensures { OnOk result (V.state visitor.new ≡ mod_arguments_told V.step (V.state visitor.old) (mod_arguments list.now)) }
 {
@@ -113,7 +113,7 @@ fn all_arguments<V: Visitor>(visitor: &mut V, list: &[ModArgument]) -> Result<()
 }
 
 #[cycle(module_walk)]
-#[tactic(auto, using(ml_trees::proofs::Variants::functor_param_views, crate::proofs::Tells::module_tells))]
+#[tactic(auto, using(ml_trees::proofs::Variants::functor_param_views, tree_events::proofs::Tells::module_tells))]
 fn parameter<V: Visitor>(visitor: &mut V, part: &FunctorParam) -> Result<(), Memory>
     ensures { OnOk result (V.state visitor.new ≡ functor_param_told V.step (V.state visitor.old) (view_functor_param part.now)) }
 {
@@ -132,7 +132,7 @@ fn parameter<V: Visitor>(visitor: &mut V, part: &FunctorParam) -> Result<(), Mem
 
 /// Reports that a scope begins, and the events of parameters in it.
 #[cycle(module_walk)]
-#[tactic(auto, using(ml_trees::proofs::Variants::functor_param_views, crate::proofs::Tells::module_tells))]
+#[tactic(auto, using(ml_trees::proofs::Variants::functor_param_views, tree_events::proofs::Tells::module_tells))]
 fn scope_with<V: Visitor>(visitor: &mut V, list: &[FunctorParam]) -> Result<(), Memory>
     ensures { OnOk result (V.state visitor.new ≡ functor_params_told V.step (V.step (V.state visitor.old) scope_begins) (functor_params list.now)) }
 {
@@ -145,7 +145,7 @@ fn scope_with<V: Visitor>(visitor: &mut V, list: &[FunctorParam]) -> Result<(), 
 
 /// Reports the events of a module type.
 #[cycle(module_walk)]
-#[tactic(auto, using(ml_trees::proofs::Variants::mod_type_views, crate::proofs::Tells::module_tells))]
+#[tactic(auto, using(ml_trees::proofs::Variants::mod_type_views, tree_events::proofs::Tells::module_tells))]
 fn module_type<V: Visitor>(visitor: &mut V, s: &ModType) -> Result<(), Memory>
     ensures { OnOk result (V.state visitor.new ≡ mod_type_told V.step (V.state visitor.old) (view_mod_type s.now)) }
 {
@@ -178,7 +178,7 @@ fn module_type<V: Visitor>(visitor: &mut V, s: &ModType) -> Result<(), Memory>
 }
 
 #[cycle(module_walk)]
-#[tactic(auto, using(ml_trees::proofs::Variants::mod_type_views, crate::proofs::Tells::module_tells))]
+#[tactic(auto, using(ml_trees::proofs::Variants::mod_type_views, tree_events::proofs::Tells::module_tells))]
 fn optional<V: Visitor>(visitor: &mut V, s: &Option<Box<ModType>>) -> Result<(), Memory>
     ensures { OnOk result (V.state visitor.new ≡ signature_told V.step (V.state visitor.old) (signature s.now)) }
 {
@@ -190,7 +190,7 @@ fn optional<V: Visitor>(visitor: &mut V, s: &Option<Box<ModType>>) -> Result<(),
 
 /// Reports the events of an item of a structure.
 #[cycle(module_walk)]
-#[tactic(auto, using(ml_trees::proofs::Variants::item_views, crate::proofs::Tells::module_tells))]
+#[tactic(auto, using(ml_trees::proofs::Variants::item_views, tree_events::proofs::Tells::module_tells))]
 fn item<V: Visitor>(visitor: &mut V, part: &Item) -> Result<(), Memory>
     ensures { OnOk result (V.state visitor.new ≡ item_told V.step (V.state visitor.old) (view_item part.now)) }
 {
@@ -221,7 +221,7 @@ fn item<V: Visitor>(visitor: &mut V, part: &Item) -> Result<(), Memory>
 
 /// Reports the events of the items of a structure.
 #[cycle(module_walk)]
-#[tactic(auto, using(ml_trees::proofs::Variants::item_views, crate::proofs::Tells::module_tells))]
+#[tactic(auto, using(ml_trees::proofs::Variants::item_views, tree_events::proofs::Tells::module_tells))]
 fn body<V: Visitor>(visitor: &mut V, list: &[Item]) -> Result<(), Memory>
     ensures { OnOk result (V.state visitor.new ≡ items_told V.step (V.state visitor.old) (items list.now)) }
 {
@@ -233,7 +233,7 @@ fn body<V: Visitor>(visitor: &mut V, list: &[Item]) -> Result<(), Memory>
 
 /// Reports the events of an item of a signature.
 #[cycle(module_walk)]
-#[tactic(auto, using(ml_trees::proofs::Variants::sig_item_views, crate::proofs::Tells::module_tells))]
+#[tactic(auto, using(ml_trees::proofs::Variants::sig_item_views, tree_events::proofs::Tells::module_tells))]
 fn signature_item<V: Visitor>(visitor: &mut V, part: &SigItem) -> Result<(), Memory>
     ensures { OnOk result (V.state visitor.new ≡ sig_item_told V.step (V.state visitor.old) (view_sig_item part.now)) }
 {
@@ -270,7 +270,7 @@ fn signature_item<V: Visitor>(visitor: &mut V, part: &SigItem) -> Result<(), Mem
 
 /// Reports the events of the items of a signature.
 #[cycle(module_walk)]
-#[tactic(auto, using(ml_trees::proofs::Variants::sig_item_views, crate::proofs::Tells::module_tells))]
+#[tactic(auto, using(ml_trees::proofs::Variants::sig_item_views, tree_events::proofs::Tells::module_tells))]
 fn face<V: Visitor>(visitor: &mut V, list: &[SigItem]) -> Result<(), Memory>
     ensures { OnOk result (V.state visitor.new ≡ sig_items_told V.step (V.state visitor.old) (sig_items list.now)) }
 {
@@ -285,7 +285,7 @@ fn face<V: Visitor>(visitor: &mut V, list: &[SigItem]) -> Result<(), Memory>
 /// # Errors
 ///
 /// What the visitor answers.
-#[tactic(auto, using(crate::proofs::Tells::module_tells))]
+#[tactic(auto, using(tree_events::proofs::Tells::module_tells))]
 pub fn walk<V: Visitor>(visitor: &mut V, tree: &FileTree) -> Result<(), Memory>
     ensures { OnOk result (V.state visitor.new ≡ file_told V.step (V.state visitor.old) (view_file tree.now)) }
 {

@@ -6,7 +6,7 @@
 ghost use Rattle.std.specs.Prelude.{◌≡◌, true, OnOk};
 ghost use Rattle.ml_trees.specs.declared.fixed.Fixed.TheVariants as key;
 ghost use Rattle.ml_trees.specs.View.{view_name, view_names, view_pat, view_pat_field, pats, pat_fields};
-ghost use Rattle.tree_walk.specs.Told.{names_told, pat_told, pats_told, pat_field_told, pat_fields_told};
+ghost use Rattle.tree_events.specs.Told.{names_told, pat_told, pats_told, pat_field_told, pat_fields_told};
 ghost use Rattle.ml_trees.specs.Events.{value};
 
 use crate::event::{Event, Visitor};
@@ -28,7 +28,7 @@ pub fn name<V: Visitor>(visitor: &mut V, binds: bool, name: &ValueName) -> Resul
 }
 
 /// Reports the names after each `as`.
-#[tactic(auto, using(crate::proofs::Tells::pat_tells))]
+#[tactic(auto, using(tree_events::proofs::Tells::pat_tells))]
 fn names<V: Visitor>(visitor: &mut V, list: &[ValueName]) -> Result<(), Memory>
     ensures { OnOk result (V.state visitor.new ≡ names_told V.step (V.state visitor.old) (view_names list.now)) }
 {
@@ -40,7 +40,7 @@ fn names<V: Visitor>(visitor: &mut V, list: &[ValueName]) -> Result<(), Memory>
 
 /// Reports the events of a pattern.
 #[cycle(pattern_walk)]
-#[tactic(auto, using(ml_trees::proofs::Variants::pat_views, ml_trees::proofs::Variants::pat_field_views, crate::proofs::Tells::pat_tells))]
+#[tactic(auto, using(ml_trees::proofs::Variants::pat_views, ml_trees::proofs::Variants::pat_field_views, tree_events::proofs::Tells::pat_tells))]
 pub fn pattern<V: Visitor>(visitor: &mut V, pat: &Pat) -> Result<(), Memory>
     ensures { OnOk result (V.state visitor.new ≡ pat_told V.step (V.state visitor.old) (view_pat pat.now)) }
 {
@@ -98,7 +98,7 @@ pub fn pattern<V: Visitor>(visitor: &mut V, pat: &Pat) -> Result<(), Memory>
 
 /// Reports the events of patterns, each behind the same fixed word.
 #[cycle(pattern_walk)]
-#[tactic(auto, using(ml_trees::proofs::Variants::pat_views, ml_trees::proofs::Variants::pat_field_views, crate::proofs::Tells::pat_tells))]
+#[tactic(auto, using(ml_trees::proofs::Variants::pat_views, ml_trees::proofs::Variants::pat_field_views, tree_events::proofs::Tells::pat_tells))]
 fn patterns<V: Visitor>(visitor: &mut V, sign: Fixed, list: &[Pat]) -> Result<(), Memory>
     ensures { OnOk result (V.state visitor.new ≡ pats_told V.step (V.state visitor.old) sign (pats list.now)) }
 {
@@ -112,7 +112,7 @@ fn patterns<V: Visitor>(visitor: &mut V, sign: Fixed, list: &[Pat]) -> Result<()
 
 /// Reports the events of a field.
 #[cycle(pattern_walk)]
-#[tactic(auto, using(ml_trees::proofs::Variants::pat_views, ml_trees::proofs::Variants::pat_field_views, crate::proofs::Tells::pat_tells))]
+#[tactic(auto, using(ml_trees::proofs::Variants::pat_views, ml_trees::proofs::Variants::pat_field_views, tree_events::proofs::Tells::pat_tells))]
 fn field<V: Visitor>(visitor: &mut V, field: &PatField) -> Result<(), Memory>
     ensures { OnOk result (V.state visitor.new ≡ pat_field_told V.step (V.state visitor.old) (view_pat_field field.now)) }
 {
@@ -132,7 +132,7 @@ fn field<V: Visitor>(visitor: &mut V, field: &PatField) -> Result<(), Memory>
 }
 
 #[cycle(pattern_walk)]
-#[tactic(auto, using(ml_trees::proofs::Variants::pat_views, ml_trees::proofs::Variants::pat_field_views, crate::proofs::Tells::pat_tells))]
+#[tactic(auto, using(ml_trees::proofs::Variants::pat_views, ml_trees::proofs::Variants::pat_field_views, tree_events::proofs::Tells::pat_tells))]
 fn fields<V: Visitor>(visitor: &mut V, list: &[PatField]) -> Result<(), Memory>
     ensures { OnOk result (V.state visitor.new ≡ pat_fields_told V.step (V.state visitor.old) (pat_fields list.now)) }
 {

@@ -14,13 +14,13 @@ use crate::refusals::{deep_text, fault_text, form_text, refusal_text, unread_tex
 use ml_lexer::{LexError, lex};
 use ml_trees::{Pat, Run};
 use parse_base::{MAX_NESTED, parse_pat, scan_depth, scan_forms};
-use pattern_reading::simple_pattern;
-use token_reading::{ReadError, TokenTable, declaration_run};
 use parse_expr::parse_seq;
 use parse_module::{FileKind, parse_file};
+use pattern_reading::simple_pattern;
 use rotor_base::{MAX_FILE_BYTES, Token};
 use std::alloc::{AllocError, Global};
 use std::fmt::Write;
+use token_reading::{ReadError, TokenTable, declaration_run};
 
 /// What a text is read as: its lexemes (`tokens`), its first refused form (`forms`), its first token that is nested too
 /// deep (`depth`), the pattern, Simple pattern, declaration or expression that it begins with (`pat`, `simple`, `decl`,

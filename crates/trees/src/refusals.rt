@@ -2,9 +2,9 @@
 
 use ml_lexer::LexError;
 use parse_base::ParseError;
-use token_reading::ReadError;
 use rotor_base::FormKind;
 use std::alloc::{AllocError, Global};
+use token_reading::ReadError;
 
 pub fn fault_text(alloc: Global, fault: LexError) -> Result<String, AllocError> {
     match fault {

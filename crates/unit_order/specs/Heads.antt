@@ -7,7 +7,7 @@ use Rattle.std.specs.Str.{bytes_eq}
 use Rattle.ml_trees.specs.Tok.{Name}
 use Rattle.ml_trees.specs.Tree.{UpperName, Items, SigItems, FileTree, UnitTree}
 use Rattle.ml_trees.specs.Events.{Event, module_path, qualifier, last_path, scope_begins, scope_ends, brings, items_out, sig_items_out, file_out}
-use Rattle.tree_walk.specs.Behind.{behind}
+use Rattle.tree_events.specs.Behind.{behind}
 
 -- ---- paths
 

@@ -5,7 +5,7 @@ use Rattle.rotor_base.specs.declared.place.Goal.TheVariants.{Decl, Outside, Miss
 use Rattle.rotor_base.specs.declared.place.Place.{Place}
 use Rattle.rotor_base.specs.declared.place.Ref.{Ref}
 use Rattle.rotor_base.specs.declared.looks.Watch.{Watch}
-use Rattle.ml_syntax.specs.Each.{Each}
+use Rattle.value_sites.specs.Each.{Each}
 use Rattle.shape_core.specs.Shape.{Name, Shape, Struct, Functor, Unitary, Opaque, Entries, none, a_val, a_mod, a_mty, a_dark, or_value, find_val}
 use Rattle.shape_core.specs.Shape.{value_in}
 use Rattle.shape_core.specs.Looks.{is_member}

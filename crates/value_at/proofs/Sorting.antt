@@ -10,7 +10,7 @@ use Rattle.std.proofs.lemmas.List.Kept.{AllPairs-cons}
 use Rattle.rotor_base.specs.declared.place.Place.{Place}
 use Rattle.rotor_base.specs.declared.place.Ref.{Ref}
 use Rattle.rotor_base.specs.declared.place.Foot.{Foot}
-use Rattle.ml_syntax.specs.Each.{Each}
+use Rattle.value_sites.specs.Each.{Each}
 use Rattle.binding_model.specs.Facts.{is_before, put, in_order}
 use Rattle.rename_model.specs.Foot.{leads_in, refs_to}
 use Rattle.rename_steps.proofs.Having.{Has, has_left, has_right, has_split, has_mapped, has_unmapped, has_filtered, has_unfiltered, has_contained, contained_has}

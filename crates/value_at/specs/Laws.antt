@@ -5,7 +5,7 @@ use Rattle.rotor_base.specs.declared.place.Place.{Place}
 use Rattle.rotor_base.specs.declared.place.Ref.{Ref}
 use Rattle.rotor_base.specs.declared.place.Foot.{Foot}
 use Rattle.ml_lexer.specs.Lexed.{Lexeme, Lexed}
-use Rattle.ml_syntax.specs.Sound.{IsSound}
+use Rattle.value_sites.specs.Sound.{IsSound}
 use Rattle.ml_trees.specs.Tree.{UnitTree}
 use Rattle.binding_model.specs.Facts.{is_before}
 use Rattle.rename_model.specs.Foot.{leads_in}

@@ -4,11 +4,11 @@ use Rattle.std.proofs.Common.{refl, ap, sym, subst, ◌∙◌, filter, get_or, l
 use Rattle.std.proofs.lemmas.Bool.{eqb-true}
 use Rattle.rotor_base.specs.declared.place.Place.{Place}
 use Rattle.ml_syntax.specs.declared.sites.Site.{Site}
-use Rattle.ml_syntax.specs.Each.{Each}
-use Rattle.ml_syntax.specs.Places as pure
-use Rattle.ml_syntax.specs.Places.{sites}
+use Rattle.value_sites.specs.Each.{Each}
+use Rattle.value_sites.specs.Places as pure
+use Rattle.value_sites.specs.Places.{sites}
 use Rattle.ml_syntax.specs.Sites.{view_site, view_sites}
-use Rattle.ml_syntax.specs.Sound.{IsSoundFile, IsBodyPart, IsFacePart, part_files}
+use Rattle.value_sites.specs.Sound.{IsSoundFile, IsBodyPart, IsFacePart, part_files}
 use Rattle.ml_syntax.specs.Standing.{RiseFrom}
 use Rattle.ml_syntax.proofs.Numbers.{sites_are_ordered}
 use Rattle.ml_trees.specs.Tree.{FileTree, Body, Face}

@@ -1,7 +1,7 @@
 -- The binders among places (own).
 use Rattle.std.specs.Prelude.{List, filter, map}
 use Rattle.rotor_base.specs.declared.place.Place.{Place}
-use Rattle.ml_syntax.specs.Places.{Site}
+use Rattle.value_sites.specs.Places.{Site}
 
 -- the binders among places
 abbrev pub binding : List (Place × Site) → List (Place × Site)

@@ -2,8 +2,8 @@
 use Rattle.std.specs.Prelude.{◌≡◌, ◌==◌, ◌<◌, ℕ, List, [], ◌∷◌, Option, Some, None, if◌then◌else◌, length, slice_index_or}
 use Rattle.rotor_base.specs.declared.place.Place.{Place}
 use Rattle.ml_syntax.specs.declared.sites.Site.{Site}
-use Rattle.ml_syntax.specs.Places as pure
-use Rattle.ml_syntax.specs.Places.{sites}
+use Rattle.value_sites.specs.Places as pure
+use Rattle.value_sites.specs.Places.{sites}
 use Rattle.ml_syntax.specs.Sites.{view_site, view_sites}
 use Rattle.ml_trees.specs.Tree.{FileTree, Body, Face}
 use Rattle.shape_core.specs.Shape.{or_else, some_if}

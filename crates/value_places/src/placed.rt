@@ -2,7 +2,7 @@
 
 ghost use Rattle.std.specs.Prelude.{◌≡◌, IfOk, option_copied};
 ghost use Rattle.ml_syntax.specs.Sites.{view_site};
-ghost use Rattle.ml_syntax.specs.Sound.{IsSound};
+ghost use Rattle.value_sites.specs.Sound.{IsSound};
 ghost use Rattle.ml_trees.specs.View.{view_project};
 ghost use Rattle.shape_core.specs.Respell.{over};
 ghost use Rattle.binding_model.specs.Renaming.{places, at_place};
@@ -29,7 +29,7 @@ pub struct PlacedProject<'p> {
 impl<'p> Model for PlacedProject<'p> {
     ghost use Rattle.std.specs.Prelude.{◌≡◌, List};
     ghost use Rattle.rotor_base.specs.declared.place.Place.{Place};
-    ghost use Rattle.ml_syntax.specs.Places.{Site as PureSite};
+    ghost use Rattle.value_sites.specs.Places.{Site as PureSite};
     ghost use Rattle.ml_trees.specs.View.{view_project};
     ghost use Rattle.binding_model.specs.Renaming.{places};
     ghost use Rattle.value_places.specs.Binders.{binder_places};

@@ -8,7 +8,7 @@ use Rattle.rotor_base.specs.declared.place.Place.{Place}
 use Rattle.rotor_base.specs.declared.source.SourceFile.{SourceFile}
 use Rattle.ml_lexer.specs.Respelled.{respelled}
 use Rattle.ml_lexer.proofs.OneCutting.{one_lexed}
-use Rattle.ml_syntax.specs.Places.{Site, sites}
+use Rattle.value_sites.specs.Places.{Site, sites}
 use Rattle.ml_syntax.specs.RespelledFile.{lexeme_toks}
 use Rattle.ml_syntax.specs.RespelledSource.{IsRespelled, AreRespelled}
 use Rattle.ml_trees.specs.Tree.{FileTree, UnitTree}

@@ -4,10 +4,10 @@ use Rattle.std.proofs.Common.{append_assoc, length-append}
 use Rattle.rotor_base.specs.declared.token.Class.{Class}
 use Rattle.rotor_base.specs.declared.token.Class.TheVariants as class
 use Rattle.ml_lexer.specs.Lexed.{Lexeme, Lexed}
-use Rattle.ml_syntax.specs.Places.{Site, sites}
-use Rattle.ml_syntax.specs.Respelled.{Spelling, spelled}
+use Rattle.value_sites.specs.Places.{Site, sites}
+use Rattle.value_sites.specs.Respelled.{Spelling, spelled}
 use Rattle.ml_syntax.specs.RespelledFile.{lexeme_toks, new_words}
-use Rattle.ml_syntax.specs.Sound.{AreNumbered}
+use Rattle.value_sites.specs.Sound.{AreNumbered}
 use Rattle.ml_syntax.specs.Standing.{AreNumberedBy, IsWordOf, a_name, a_sign}
 use Rattle.ml_trees.specs.Tok.{Name, Tok, tok, word}
 use Rattle.ml_trees.specs.Tree.{FileTree}

@@ -8,8 +8,8 @@ use Rattle.ml_lexer.specs.Lexed.{Lexeme}
 use Rattle.ml_lexer.specs.Respelled.{respelled, respelled_lexemes, respelled_lexemes_from}
 use Rattle.ml_lexer.proofs.Back.{respelled_back}
 use Rattle.ml_lexer.proofs.OneCutting.{one_lexed}
-use Rattle.ml_syntax.specs.Places.{sites}
-use Rattle.ml_syntax.specs.Respelled.{Spelling, spelled}
+use Rattle.value_sites.specs.Places.{sites}
+use Rattle.value_sites.specs.Respelled.{Spelling, spelled}
 use Rattle.ml_syntax.specs.RespelledFile.{lexeme_toks, new_words, ChangesNames}
 use Rattle.ml_syntax.specs.RespelledSource.{IsRespelled, AreRespelled}
 use Rattle.ml_trees.specs.Tree.{FileTree, UnitTree}

@@ -5,7 +5,7 @@ use Rattle.std.specs.Str.{bytes_eq}
 use Rattle.rotor_base.specs.Files.{FileSet, IsProject}
 use Rattle.rotor_base.specs.declared.place.Place.{Place}
 use Rattle.ml_syntax.specs.RespelledSource.{AreRespelled}
-use Rattle.ml_syntax.specs.Sound.{IsSound}
+use Rattle.value_sites.specs.Sound.{IsSound}
 use Rattle.ml_trees.specs.Tree.{UnitTree}
 use Rattle.shape_core.specs.Shape.{Name}
 use Rattle.binding_model.specs.Facts.{facts}

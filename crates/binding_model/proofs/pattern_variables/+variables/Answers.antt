@@ -3,7 +3,7 @@ use Rattle.std.proofs.lemmas.List.{drop_more, drop_all}
 use Rattle.ml_trees.specs.declared.pattern.Pat.{Pat}
 use Rattle.ml_trees.specs.declared.pattern.PatField.{PatField}
 use Rattle.ml_trees.specs.View.{view_pat, view_pat_field, pats, pat_fields}
-use Rattle.ml_syntax.specs.Places.{mark}
+use Rattle.value_sites.specs.Places.{mark}
 use Rattle.binding_model.specs.Variables.{variables, pats_variables, field_variables, fields_variables}
 use Rattle.binding_model.proofs.Marked.{one_more, nothing_joined}
 use Rattle.binding_model.proofs.pattern_variables.+variables.Goals as goal

@@ -1,6 +1,6 @@
 use Rattle.std.proofs.Common.{◌≡◌, ◌++◌, drop, map}
 use Rattle.ml_trees.specs.View.{pats, pat_fields}
-use Rattle.ml_syntax.specs.Places.{mark}
+use Rattle.value_sites.specs.Places.{mark}
 use Rattle.binding_model.specs.Variables.{pats_variables, fields_variables}
 use Rattle.binding_model.proofs.pattern_variables.+variables.Given as goal
 

@@ -2,7 +2,7 @@ use Rattle.std.proofs.Common.{◌+◌, ◌∷◌, ◌++◌, map, drop, sym, ap, 
 use Rattle.std.proofs.lemmas.List.{drop_more, drop_all}
 use Rattle.ml_trees.specs.declared.word.ValueName.{ValueName}
 use Rattle.ml_trees.specs.View.{view_name, view_names}
-use Rattle.ml_syntax.specs.Places.{mark, name_sites}
+use Rattle.value_sites.specs.Places.{mark, name_sites}
 use Rattle.binding_model.specs.Variables.{names}
 use Rattle.binding_model.proofs.Marked.{one_more, nothing_joined}
 use Rattle.binding_model.proofs.pattern_variables.add_names.Goals as goal

@@ -1,6 +1,6 @@
 use Rattle.std.proofs.Common.{◌≡◌, ◌++◌, drop, map}
 use Rattle.ml_trees.specs.View.{view_names}
-use Rattle.ml_syntax.specs.Places.{mark}
+use Rattle.value_sites.specs.Places.{mark}
 use Rattle.binding_model.specs.Variables.{names}
 use Rattle.binding_model.proofs.pattern_variables.add_names.Given as goal
 

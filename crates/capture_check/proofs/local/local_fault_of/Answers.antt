@@ -7,7 +7,7 @@ use Rattle.rotor_base.specs.declared.place.Ref.{Ref}
 use Rattle.rotor_base.specs.declared.looks.RefLook.{RefLook}
 use Rattle.rotor_base.specs.declared.looks.LinkLook.{LinkLook}
 use Rattle.rotor_base.specs.Place.{same_place, place_cmp}
-use Rattle.ml_syntax.specs.Places.{Site}
+use Rattle.value_sites.specs.Places.{Site}
 use Rattle.value_places.specs.Placed.{name_in}
 use Rattle.capture_check.specs.Fault.{of_ref, of_link}
 use Rattle.capture_check.specs.Firsts.{IsFirstChange, IsFirstRepeat}

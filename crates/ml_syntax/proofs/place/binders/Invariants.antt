@@ -1,6 +1,6 @@
 use Rattle.std.proofs.Common.{◌≡◌, ◌++◌, map}
 use Rattle.std.specs.List.{filter}
-use Rattle.ml_syntax.specs.Places.{mark}
+use Rattle.value_sites.specs.Places.{mark}
 use Rattle.ml_syntax.specs.Sites.{view_sites}
 use Rattle.ml_syntax.proofs.place.binders.Given as goal
 

@@ -17,8 +17,8 @@ use Rattle.binding_model.proofs.Takings.{heavy_stays}
 use Rattle.resolve_base.proofs.Lemmas.{entries_appended, joined, joined_none}
 use Rattle.expr_resolve.proofs.Fronts.{front_of_front}
 use Rattle.expr_resolve.proofs.Forms.{passed}
-use Rattle.mod_resolve.specs.Given.{functors_to, given_in, given_shape, given_shapes, optional_shape, optional_type_steps, seal_shape, site_steps}
-use Rattle.mod_resolve.proofs.Parameters.{in_given, module_item, module_added}
+use Rattle.module_entries.specs.Given.{functors_to, given_in, given_shape, given_shapes, optional_shape, optional_type_steps, seal_shape, site_steps}
+use Rattle.module_entries.proofs.Parameters.{in_given, module_item, module_added}
 use Rattle.mod_resolve.proofs.modules.+modules.Goals as goal
 
 pub all_items-returns-in_err-added-clause-heavy : goal.all_items-returns-in_err-added-clause-heavy

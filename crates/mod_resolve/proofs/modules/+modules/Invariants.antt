@@ -5,7 +5,7 @@ use Rattle.shape_core.specs.Node.{entries_of}
 use Rattle.binding_model.specs.Scopes.{applied_all, params_in, entries, sig_entries}
 use Rattle.binding_model.specs.Taken.{taken, Going}
 use Rattle.binding_model.specs.Walk.{mod_arguments_steps, functor_steps, items_steps, sig_items_steps}
-use Rattle.mod_resolve.specs.Given.{given_shapes}
+use Rattle.module_entries.specs.Given.{given_shapes}
 use Rattle.mod_resolve.proofs.modules.+modules.Given as goal
 
 abbrev pub invariant-applications-loop-part : goal.invariant-applications-loop-part

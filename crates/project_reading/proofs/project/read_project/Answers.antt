@@ -1,7 +1,7 @@
 use Rattle.std.proofs.Common.{◌≡◌, ◌<◌, List, All, map, ap, subst, sym, ◌∙◌, arith}
 use Rattle.std.specs.Option.{option_copied}
 use Rattle.std.proofs.lemmas.List.{length-map}
-use Rattle.ml_syntax.specs.Sound.{AreDistinct}
+use Rattle.value_sites.specs.Sound.{AreDistinct}
 use Rattle.ml_trees.specs.Tree.{UnitTree}
 use Rattle.ml_trees.specs.View.{view_file, view_unit}
 use Rattle.unit_order.specs.Order.{IsListed}

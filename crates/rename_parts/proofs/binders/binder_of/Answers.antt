@@ -1,5 +1,5 @@
 use Rattle.std.proofs.Common.{◌<◌, sym, ap, subst, ◌∙◌, Some, [], false, List, length}
-use Rattle.ml_syntax.specs.declared.place.Mark.{Mark}
+use Rattle.value_sites.specs.declared.mark.Mark.{Mark}
 use Rattle.ml_trees.specs.View.{view_file}
 use Rattle.rename_parts.proofs.Marks.{elsewhere, found_mark, picked, whatever_default}
 use Rattle.rename_parts.proofs.binders.binder_of.Goals as goal

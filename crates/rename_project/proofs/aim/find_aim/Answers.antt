@@ -1,6 +1,6 @@
 use Rattle.std.proofs.Common.{inl, subst, List}
 use Rattle.rotor_base.specs.declared.place.Place.{Place}
-use Rattle.ml_syntax.specs.Places.{Site}
+use Rattle.value_sites.specs.Places.{Site}
 use Rattle.ml_trees.specs.View.{view_project}
 use Rattle.binding_model.specs.Renaming.{IsBinder}
 use Rattle.rename_model.proofs.One.{one_name}

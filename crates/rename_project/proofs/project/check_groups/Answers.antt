@@ -1,6 +1,6 @@
 use Rattle.std.proofs.Common.{inl, subst, List, Option, Some, None, ◌∙◌}
 use Rattle.rotor_base.specs.declared.place.Place.{Place}
-use Rattle.ml_syntax.specs.Places.{Site}
+use Rattle.value_sites.specs.Places.{Site}
 use Rattle.value_places.specs.Placed.{name_in}
 use Rattle.ml_trees.specs.View.{view_project}
 use Rattle.binding_model.specs.Facts.{facts}

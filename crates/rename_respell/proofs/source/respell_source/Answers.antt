@@ -2,7 +2,7 @@ use Rattle.std.proofs.Common.{◌+◌, ◌++◌, List, ℕ, ap, refl, option_cop
 use Rattle.ml_lexer.proofs.Order.{lexemes_are_in_order, tokens_are_few}
 use Rattle.ml_lexer.specs.Lexed.{view_tokens}
 use Rattle.ml_lexer.specs.Respelled.{respelled}
-use Rattle.ml_syntax.specs.Respelled.{Spelling}
+use Rattle.value_sites.specs.Respelled.{Spelling}
 use Rattle.binding_model.specs.Renaming.{in_file}
 use Rattle.rename_respell.specs.Respelled.{new_texts}
 use Rattle.rename_respell.specs.Tables.{words_in}

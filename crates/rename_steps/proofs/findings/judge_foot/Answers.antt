@@ -2,7 +2,7 @@ use Rattle.std.proofs.Common.{◌≡◌, inl, List, ap, subst, ◌∙◌}
 use Rattle.rotor_base.specs.declared.place.Place.{Place}
 use Rattle.rotor_base.specs.declared.place.Ref.{Ref}
 use Rattle.rotor_base.specs.declared.place.Facts.{Facts}
-use Rattle.ml_syntax.specs.Places.{Site}
+use Rattle.value_sites.specs.Places.{Site}
 use Rattle.binding_model.specs.Facts.{facts}
 use Rattle.rename_model.specs.Foot.{hits}
 use Rattle.rename_parts.specs.Hits.{all_hits}

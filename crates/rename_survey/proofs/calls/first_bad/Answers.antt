@@ -2,7 +2,7 @@ use Rattle.std.proofs.Common.{◌≡◌, inl, None, Some, Option, List, ap, sym,
 use Rattle.rotor_base.specs.declared.place.Place.{Place}
 use Rattle.rotor_base.specs.declared.place.Link.{Link}
 use Rattle.rotor_base.specs.declared.place.Facts.{Facts}
-use Rattle.ml_syntax.specs.Places.{Site}
+use Rattle.value_sites.specs.Places.{Site}
 use Rattle.value_places.specs.Placed.{name_in}
 use Rattle.binding_model.specs.Facts.{facts, least, unmatched_items}
 use Rattle.binding_model.specs.Renaming.{name_of}

@@ -1,6 +1,6 @@
 use Rattle.std.proofs.Common.{ap, map, sym, subst, List, ◌∙◌}
 use Rattle.rotor_base.specs.declared.place.Place.{Place}
-use Rattle.ml_syntax.specs.Each.{Each}
+use Rattle.value_sites.specs.Each.{Each}
 use Rattle.shape_core.specs.Shape.{Name}
 use Rattle.binding_model.specs.Renaming.{IsBinder}
 use Rattle.rename_survey.specs.declared.answer.Binder.{Binder}

@@ -3,12 +3,12 @@ use Rattle.ml_trees.specs.declared.fixed.Fixed.TheVariants as key
 use Rattle.ml_trees.specs.Tok.{fixed}
 use Rattle.ml_trees.specs.View.{view, view_tok, view_binding, view_case, view_argument, view_param, view_part, view_field, links, commas}
 use Rattle.ml_trees.specs.View.{ops, tail_before, otherwise, maybe, bindings, cases, arguments, params, parts, fields}
-use Rattle.tree_walk.specs.Told.{expr_told, links_told, tail_told, binding_told, bindings_told, case_told, cases_told, arguments_told}
-use Rattle.tree_walk.specs.Told.{params_told, parts_told, field_told, fields_told}
-use Rattle.tree_walk.proofs.Tells.{told_no_link, told_more_link, told_no_binding, told_more_binding, told_no_case, told_more_case}
-use Rattle.tree_walk.proofs.Tells.{told_no_argument, told_more_argument, told_no_param, told_more_param, told_no_part, told_more_part}
-use Rattle.tree_walk.proofs.Tells.{told_no_field, told_more_field, told_or_if, told_or_else, told_no_else, told_If, told_Let, told_Match}
-use Rattle.tree_walk.proofs.Tells.{told_Try, told_Record}
+use Rattle.tree_events.specs.Told.{expr_told, links_told, tail_told, binding_told, bindings_told, case_told, cases_told, arguments_told}
+use Rattle.tree_events.specs.Told.{params_told, parts_told, field_told, fields_told}
+use Rattle.tree_events.proofs.Tells.{told_no_link, told_more_link, told_no_binding, told_more_binding, told_no_case, told_more_case}
+use Rattle.tree_events.proofs.Tells.{told_no_argument, told_more_argument, told_no_param, told_more_param, told_no_part, told_more_part}
+use Rattle.tree_events.proofs.Tells.{told_no_field, told_more_field, told_or_if, told_or_else, told_no_else, told_If, told_Let, told_Match}
+use Rattle.tree_events.proofs.Tells.{told_Try, told_Record}
 use Rattle.ml_trees.specs.Events.{group_ends}
 use Rattle.ml_trees.proofs.Variants.{at_expr_let, at_expr_match, at_expr_try, at_expr_record, at_expr_if}
 use Rattle.tree_walk.proofs.Loops.{goes_further, is_whole, all_gone}

@@ -1,6 +1,6 @@
 use Rattle.ml_trees.specs.View.{locals}
-use Rattle.tree_walk.specs.Told.{locals_told}
-use Rattle.tree_walk.proofs.Tells.{told_no_local}
+use Rattle.tree_events.specs.Told.{locals_told}
+use Rattle.tree_events.proofs.Tells.{told_no_local}
 use Rattle.tree_walk.proofs.Loops.{goes_further, is_whole}
 use Rattle.tree_walk.proofs.locals.+local_walk.Goals as goal
 

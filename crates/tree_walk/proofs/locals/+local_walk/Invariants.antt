@@ -1,6 +1,6 @@
 use Rattle.std.proofs.Common.{◌≡◌, drop}
 use Rattle.ml_trees.specs.View.{locals}
-use Rattle.tree_walk.specs.Told.{locals_told}
+use Rattle.tree_events.specs.Told.{locals_told}
 use Rattle.tree_walk.proofs.locals.+local_walk.Given as goal
 
 abbrev pub invariant-arguments-loop-part : goal.invariant-arguments-loop-part

@@ -3,10 +3,10 @@ use Rattle.ml_trees.specs.View.{view_mod_argument, view_functor_param, view_mod,
 use Rattle.ml_trees.specs.View.{mod_arguments, functor_params, items, sig_items}
 use Rattle.ml_trees.proofs.Variants.{at_item_module}
 use Rattle.ml_trees.specs.Events.{scope_begins, scope_ends}
-use Rattle.tree_walk.specs.Told.{brings_told, mod_told, signature_told, item_told, mod_arguments_told, functor_params_told, items_told}
-use Rattle.tree_walk.specs.Told.{sig_items_told}
-use Rattle.tree_walk.proofs.Tells.{told_no_mod_argument, told_more_mod_argument, told_no_functor_param, told_more_functor_param}
-use Rattle.tree_walk.proofs.Tells.{told_ModuleItem, told_no_item, told_more_item, told_no_sig_item, told_more_sig_item}
+use Rattle.tree_events.specs.Told.{brings_told, mod_told, signature_told, item_told, mod_arguments_told, functor_params_told, items_told}
+use Rattle.tree_events.specs.Told.{sig_items_told}
+use Rattle.tree_events.proofs.Tells.{told_no_mod_argument, told_more_mod_argument, told_no_functor_param, told_more_functor_param}
+use Rattle.tree_events.proofs.Tells.{told_ModuleItem, told_no_item, told_more_item, told_no_sig_item, told_more_sig_item}
 use Rattle.tree_walk.proofs.Loops.{goes_further, is_whole, on_ok}
 use Rattle.tree_walk.proofs.modules.+module_walk.Goals as goal
 

@@ -1,6 +1,6 @@
 use Rattle.std.proofs.Common.{◌≡◌, drop}
 use Rattle.ml_trees.specs.View.{mod_arguments, functor_params, items, sig_items}
-use Rattle.tree_walk.specs.Told.{mod_arguments_told, functor_params_told, items_told, sig_items_told}
+use Rattle.tree_events.specs.Told.{mod_arguments_told, functor_params_told, items_told, sig_items_told}
 use Rattle.tree_walk.proofs.modules.+module_walk.Given as goal
 
 abbrev pub invariant-all_arguments-loop-part : goal.invariant-all_arguments-loop-part

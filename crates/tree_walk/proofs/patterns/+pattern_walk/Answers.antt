@@ -1,7 +1,7 @@
 use Rattle.std.proofs.Common.{◌∙◌, ap, sym}
 use Rattle.ml_trees.specs.View.{view_pat, view_pat_field, pats, pat_fields}
-use Rattle.tree_walk.specs.Told.{pat_told, pats_told, pat_fields_told}
-use Rattle.tree_walk.proofs.Tells.{told_no_pat, told_more_pat, told_no_pat_field, told_more_pat_field}
+use Rattle.tree_events.specs.Told.{pat_told, pats_told, pat_fields_told}
+use Rattle.tree_events.proofs.Tells.{told_no_pat, told_more_pat, told_no_pat_field, told_more_pat_field}
 use Rattle.ml_trees.specs.Events.{part_ends}
 use Rattle.tree_walk.proofs.Loops.{goes_further, is_whole}
 use Rattle.tree_walk.proofs.patterns.+pattern_walk.Goals as goal

@@ -1,6 +1,6 @@
 use Rattle.std.proofs.Common.{◌≡◌, drop}
 use Rattle.ml_trees.specs.View.{pats, pat_fields}
-use Rattle.tree_walk.specs.Told.{pats_told, pat_fields_told}
+use Rattle.tree_events.specs.Told.{pats_told, pat_fields_told}
 use Rattle.tree_walk.proofs.patterns.+pattern_walk.Given as goal
 
 abbrev pub invariant-patterns-loop-pat : goal.invariant-patterns-loop-pat

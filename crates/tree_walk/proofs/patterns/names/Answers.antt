@@ -1,7 +1,7 @@
 use Rattle.std.proofs.Common.{◌∙◌, ap, sym}
 use Rattle.ml_trees.specs.View.{view_name, view_names}
-use Rattle.tree_walk.specs.Told.{names_told}
-use Rattle.tree_walk.proofs.Tells.{told_names_end, told_names_more}
+use Rattle.tree_events.specs.Told.{names_told}
+use Rattle.tree_events.proofs.Tells.{told_names_end, told_names_more}
 use Rattle.tree_walk.proofs.Loops.{goes_further, is_whole}
 use Rattle.tree_walk.proofs.patterns.names.Goals as goal
 

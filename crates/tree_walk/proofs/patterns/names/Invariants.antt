@@ -1,6 +1,6 @@
 use Rattle.std.proofs.Common.{◌≡◌, drop}
 use Rattle.ml_trees.specs.View.{view_names}
-use Rattle.tree_walk.specs.Told.{names_told}
+use Rattle.tree_events.specs.Told.{names_told}
 use Rattle.tree_walk.proofs.patterns.names.Given as goal
 
 abbrev pub invariant-loop-one : goal.invariant-loop-one

@@ -7,8 +7,8 @@ use Rattle.binding_model.specs.Scopes.{here, named, param_in, params_in, from_pa
 use Rattle.binding_model.specs.Steps.{Steps, WeighedSite}
 use Rattle.binding_model.specs.Taken.{Taken, taken}
 use Rattle.binding_model.specs.Walk.{functor_steps, mod_steps, sealing_steps, item_steps}
-use Rattle.mod_resolve.specs.Given.{given_shape, given_shapes, functor_to, functors_to, given_in, optional_shape, optional_type_steps, seal_steps}
-use Rattle.mod_resolve.specs.Given.{seal_shape, site_steps}
+use Rattle.module_entries.specs.Given.{given_shape, given_shapes, functor_to, functors_to, given_in, optional_shape, optional_type_steps, seal_steps}
+use Rattle.module_entries.specs.Given.{seal_shape, site_steps}
 
 pub in_given : (file : ℕ) (sc : Entries) (p : FunctorParam) → given_in p (given_shape file sc p) ≡ param_in file sc p
 in_given file sc (NamedParam at x s) = refl

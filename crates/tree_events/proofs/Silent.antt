@@ -5,7 +5,7 @@ use Rattle.ml_trees.specs.Tok.{Name, Tok}
 use Rattle.ml_trees.specs.Tree.{ModuleName, UpperName, AnyName, Constraint, ConstraintOf, WithClause, WithOf}
 use Rattle.ml_trees.specs.Events.{Event, type_out, optional_out, bang_out, open_out, lowers_out, module_name_out, constraint_out, constraints_out}
 use Rattle.ml_trees.specs.Events.{withs_out, texts_out}
-use Rattle.tree_walk.specs.Behind.{behind}
+use Rattle.tree_events.specs.Behind.{behind}
 
 pub type_silent : {S : Type 0} (step : S → Event → S) (run : Option (List Tok)) (k : S → S) (s : S) → type_out (behind step) run k s ≡ k s
 type_silent step None k s = refl

@@ -8,7 +8,7 @@ ghost use Rattle.binding_model.specs.Scopes.{here, texts, type_under};
 ghost use Rattle.binding_model.specs.Steps.{WeighedSite};
 ghost use Rattle.binding_model.specs.Taken.{HasTaken, HasStopped, taken, Going};
 ghost use Rattle.binding_model.specs.Walk.{type_start as start, param_start as start_of_param};
-ghost use Rattle.mod_resolve.specs.Given.{functor_to, functors_to, given_in, seal_steps, seal_shape, site_steps};
+ghost use Rattle.module_entries.specs.Given.{functor_to, functors_to, given_in, seal_steps, seal_shape, site_steps};
 
 use crate::entries::named_module;
 use binding_model::Found;

@@ -3,12 +3,12 @@
 use Rattle.std.specs.Prelude.{ℕ, ◌-◌, take, drop, length, List, [], ◌∷◌, ◌++◌, Bool, true, false, if◌then◌else◌, codes, not, Option, Some, None}
 use Rattle.std.specs.List.{filter}
 use Rattle.ml_trees.specs.declared.fixed.Fixed.TheVariants as key
-use Rattle.ml_syntax.specs.declared.place.Mark.{Mark}
+use Rattle.value_sites.specs.declared.mark.Mark.{Mark}
 use Rattle.ml_trees.specs.Tok.{Name, Tok, placed, word}
 use Rattle.ml_trees.specs.Runs.{has_colon}
 use Rattle.ml_trees.specs.Tree.{ValueName, PlainName, OperatorName, Variable, PlainVariable, AnyVariable, FileTree}
 use Rattle.ml_trees.specs.Events.{Event, value, field, label, operator, minus, file_out}
-use Rattle.tree_walk.specs.Behind.{behind}
+use Rattle.tree_events.specs.Behind.{behind}
 
 -- a place with its name: whether it is a binder, whether its word is a label or a field too, and whether it is an
 -- operator

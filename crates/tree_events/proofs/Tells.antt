@@ -37,15 +37,15 @@ use Rattle.ml_trees.specs.Events.{links_out, base_out, guard_out, tail_out, bind
 use Rattle.ml_trees.specs.Events.{arguments_out, param_out, params_out, part_out, parts_out, field_out, fields_out, mod_out, mod_argument_out}
 use Rattle.ml_trees.specs.Events.{mod_arguments_out, functor_param_out, functor_params_out, mod_type_out, signature_out, item_out, items_out}
 use Rattle.ml_trees.specs.Events.{sig_item_out, sig_items_out, file_out}
-use Rattle.tree_walk.specs.Told.{names_told, brings_told, pat_told, pats_told, pat_field_told, pat_fields_told, variable_told, local_told}
-use Rattle.tree_walk.specs.Told.{locals_told, expr_told, links_told, base_told, guard_told, tail_told, binding_told, bindings_told, case_told}
-use Rattle.tree_walk.specs.Told.{cases_told, argument_told, arguments_told, param_told, params_told, part_told, parts_told, field_told}
-use Rattle.tree_walk.specs.Told.{fields_told, mod_told, mod_argument_told, mod_arguments_told, functor_param_told, functor_params_told}
-use Rattle.tree_walk.specs.Told.{mod_type_told, signature_told, item_told, items_told, sig_item_told, sig_items_told, file_told}
+use Rattle.tree_events.specs.Told.{names_told, brings_told, pat_told, pats_told, pat_field_told, pat_fields_told, variable_told, local_told}
+use Rattle.tree_events.specs.Told.{locals_told, expr_told, links_told, base_told, guard_told, tail_told, binding_told, bindings_told, case_told}
+use Rattle.tree_events.specs.Told.{cases_told, argument_told, arguments_told, param_told, params_told, part_told, parts_told, field_told}
+use Rattle.tree_events.specs.Told.{fields_told, mod_told, mod_argument_told, mod_arguments_told, functor_param_told, functor_params_told}
+use Rattle.tree_events.specs.Told.{mod_type_told, signature_told, item_told, items_told, sig_item_told, sig_items_told, file_told}
 use Rattle.rotor_base.specs.declared.token.Class.{Class}
-use Rattle.tree_walk.specs.Behind.{behind}
-use Rattle.tree_walk.proofs.Silent.{type_silent, optional_silent, bang_silent, open_silent, lowers_silent, module_name_silent, withs_silent}
-use Rattle.tree_walk.proofs.Silent.{texts_silent}
+use Rattle.tree_events.specs.Behind.{behind}
+use Rattle.tree_events.proofs.Silent.{type_silent, optional_silent, bang_silent, open_silent, lowers_silent, module_name_silent, withs_silent}
+use Rattle.tree_events.proofs.Silent.{texts_silent}
 
 names_goes_on : {S : Type 0} (step : S → Event → S) (x0 : List ValueName) (k : S → S) (z : S) → names_out (behind step) x0 k z ≡ k (names_told
     step z x0)

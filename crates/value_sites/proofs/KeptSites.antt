@@ -4,11 +4,11 @@ use Rattle.rotor_base.specs.declared.token.Class.{Class}
 use Rattle.rotor_base.specs.declared.token.Class.TheVariants as class
 use Rattle.ml_trees.specs.declared.fixed.Fixed.TheVariants as key
 use Rattle.ml_trees.specs.Tok.{Name, Tok, placed, word}
-use Rattle.ml_syntax.specs.Places.{Site, operated, operator_sites}
-use Rattle.ml_syntax.specs.Respelled.{Spelling, spelled, spell_tok}
-use Rattle.ml_syntax.specs.Each.{Each}
-use Rattle.ml_syntax.specs.SpelledSites.{IsKept, spell_site}
-use Rattle.ml_syntax.proofs.Sited.{back}
+use Rattle.value_sites.specs.Places.{Site, operated, operator_sites}
+use Rattle.value_sites.specs.Respelled.{Spelling, spelled, spell_tok}
+use Rattle.value_sites.specs.Each.{Each}
+use Rattle.value_sites.specs.SpelledSites.{IsKept, spell_site}
+use Rattle.value_sites.proofs.Sited.{back}
 
 pub map-both : {A B : Type 0} (s : A → B) (a b : List A) → map s a ++ map s b ≡ map s (a ++ b)
 map-both s [] b = refl

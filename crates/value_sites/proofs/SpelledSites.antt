@@ -4,14 +4,14 @@ use Rattle.ml_trees.specs.declared.fixed.Fixed.TheVariants as key
 use Rattle.ml_trees.specs.Tok.{Tok, placed, word}
 use Rattle.ml_trees.specs.Tree.{ValueName, PlainName, OperatorName, UpperName, AnyName, FileTree}
 use Rattle.ml_trees.specs.Events.{Event, said, run_of, value, field, label, operator, minus, brings}
-use Rattle.tree_walk.specs.Behind.{behind}
-use Rattle.ml_syntax.specs.Places.{Site, plain, punned, operated, operator_sites, name_sites, label_site, adds_site, sites}
-use Rattle.ml_syntax.specs.Respelled.{Spelling, spell_tok, spell_value_name, spell_file}
-use Rattle.ml_syntax.specs.Each.{Each}
-use Rattle.ml_syntax.specs.SpelledSites.{IsKept, spell_site, SitesAreRespelled}
-use Rattle.ml_syntax.proofs.Sited.{front, operator_stay}
-use Rattle.ml_syntax.proofs.KeptSites.{map-both, one_kept, operator-spell}
-use Rattle.ml_syntax.proofs.SpelledEvents.{spell_event, file_spelled}
+use Rattle.tree_events.specs.Behind.{behind}
+use Rattle.value_sites.specs.Places.{Site, plain, punned, operated, operator_sites, name_sites, label_site, adds_site, sites}
+use Rattle.value_sites.specs.Respelled.{Spelling, spell_tok, spell_value_name, spell_file}
+use Rattle.value_sites.specs.Each.{Each}
+use Rattle.value_sites.specs.SpelledSites.{IsKept, spell_site, SitesAreRespelled}
+use Rattle.value_sites.proofs.Sited.{front, operator_stay}
+use Rattle.value_sites.proofs.KeptSites.{map-both, one_kept, operator-spell}
+use Rattle.value_sites.proofs.SpelledEvents.{spell_event, file_spelled}
 
 module _ (v : Spelling) where
   abbrev Kept : Site → Type 0

@@ -2,7 +2,7 @@
 
 ghost use Rattle.std.specs.Prelude.{◌≡◌, ◌++◌, [], true, IfOk, OnOk};
 ghost use Rattle.ml_trees.specs.View.{view_name, view_module_name};
-ghost use Rattle.ml_syntax.specs.Places.{name_sites};
+ghost use Rattle.value_sites.specs.Places.{name_sites};
 ghost use Rattle.shape_core.specs.Shape.{a_mty, none};
 ghost use Rattle.shape_core.specs.Node.{entries_of};
 ghost use Rattle.binding_model.specs.Scopes.{bound, named};

@@ -1,6 +1,6 @@
 use Rattle.std.proofs.Common.{◌≡◌, length}
-use Rattle.mod_resolve.specs.Given.{functors_to}
-use Rattle.mod_resolve.proofs.functors.functor_from.Given as goal
+use Rattle.module_entries.specs.Given.{functors_to}
+use Rattle.module_entries.proofs.functors.functor_from.Given as goal
 
 abbrev pub invariant-loop-param : goal.invariant-loop-param
 invariant-loop-param l = functors_to l.fn.given.items l.fn.body ≡ functors_to l.given.items l.shape

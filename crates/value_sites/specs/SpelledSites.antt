@@ -1,9 +1,9 @@
 -- The places of a respelled tree (own).
 use Rattle.std.specs.Prelude.{◌≡◌, ◌||◌, IsTrue, map}
-use Rattle.ml_syntax.specs.Each.{Each}
+use Rattle.value_sites.specs.Each.{Each}
 use Rattle.ml_trees.specs.Tree.{FileTree}
-use Rattle.ml_syntax.specs.Places.{Site, sites}
-use Rattle.ml_syntax.specs.Respelled.{Spelling, spell_file}
+use Rattle.value_sites.specs.Places.{Site, sites}
+use Rattle.value_sites.specs.Respelled.{Spelling, spell_file}
 
 -- an operator, and a word that is a label or a field too, keeps its word
 abbrev pub IsKept : Spelling → Site → Type 0

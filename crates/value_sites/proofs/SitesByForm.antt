@@ -19,7 +19,7 @@ use Rattle.ml_trees.specs.Tree.{no_type, some_type, Item, ExprItem, SeparatorIte
 use Rattle.ml_trees.specs.Tree.{ModuleTypeItem, OpenItem, IncludeItem, Items, no_item, more_item, SigItem, SeparatorSig, ValSig, ExternalSig}
 use Rattle.ml_trees.specs.Tree.{TypeSig, ExceptionSig, ModuleSig, AliasSig, ModuleTypeSig, OpenSig, IncludeSig, SigItems, no_sig_item, more_sig_item}
 use Rattle.ml_trees.specs.Tree.{FileTree, Body, Face}
-use Rattle.ml_syntax.specs.Places.{Site, punned, operated, operator_sites, name_sites, label_site, variable_sites}
+use Rattle.value_sites.specs.Places.{Site, punned, operated, operator_sites, name_sites, label_site, variable_sites}
 
 -- ---- patterns
 

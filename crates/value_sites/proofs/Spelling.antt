@@ -36,13 +36,13 @@ use Rattle.ml_trees.specs.WellFormed.{WfArguments, WfParam, WfParams, WfPart, Wf
 use Rattle.ml_trees.specs.WellFormed.{WfConstraints, WfWiths, is_functor, is_simple_mod, is_simple_type, is_separator, WfExternal, WfMod}
 use Rattle.ml_trees.specs.WellFormed.{WfModArgument, WfModArguments, WfFunctorParam, WfFunctorParams, WfModType, WfSignature, WfItem, WfItems}
 use Rattle.ml_trees.specs.WellFormed.{WfSigItem, WfSigItems}
-use Rattle.ml_syntax.specs.Respelled.{Spelling, spell_tok, spell_run, spell_type, spell_value_name, spell_pat, spell_pats, spell_pat_field}
-use Rattle.ml_syntax.specs.Respelled.{spell_pat_fields, spell_expr, spell_links, spell_maybe_expr, spell_tail, spell_binding}
-use Rattle.ml_syntax.specs.Respelled.{spell_bindings, spell_case, spell_cases, spell_argument, spell_arguments, spell_param, spell_params, spell_part}
-use Rattle.ml_syntax.specs.Respelled.{spell_parts, spell_field, spell_fields, spell_constraint, spell_with_clause, spell_mod_expr, spell_mod_argument}
-use Rattle.ml_syntax.specs.Respelled.{spell_mod_arguments, spell_functor_param, spell_functor_params, spell_mod_type, spell_maybe_type, spell_item}
-use Rattle.ml_syntax.specs.Respelled.{spell_items, spell_sig_item, spell_sig_items, spell_file, RespellingKeepsTheTree}
-use Rattle.ml_syntax.proofs.SpelledEvents.{spell_event, file_spelled}
+use Rattle.value_sites.specs.Respelled.{Spelling, spell_tok, spell_run, spell_type, spell_value_name, spell_pat, spell_pats, spell_pat_field}
+use Rattle.value_sites.specs.Respelled.{spell_pat_fields, spell_expr, spell_links, spell_maybe_expr, spell_tail, spell_binding}
+use Rattle.value_sites.specs.Respelled.{spell_bindings, spell_case, spell_cases, spell_argument, spell_arguments, spell_param, spell_params, spell_part}
+use Rattle.value_sites.specs.Respelled.{spell_parts, spell_field, spell_fields, spell_constraint, spell_with_clause, spell_mod_expr, spell_mod_argument}
+use Rattle.value_sites.specs.Respelled.{spell_mod_arguments, spell_functor_param, spell_functor_params, spell_mod_type, spell_maybe_type, spell_item}
+use Rattle.value_sites.specs.Respelled.{spell_items, spell_sig_item, spell_sig_items, spell_file, RespellingKeepsTheTree}
+use Rattle.value_sites.proofs.SpelledEvents.{spell_event, file_spelled}
 
 both : {a b c d : Bool} → a ≡ c → b ≡ d → a || b ≡ c || d
 both p q = rw (p, q) refl

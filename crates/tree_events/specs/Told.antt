@@ -24,7 +24,7 @@ use Rattle.ml_trees.specs.Events.{links_out, base_out, guard_out, tail_out, bind
 use Rattle.ml_trees.specs.Events.{arguments_out, param_out, params_out, part_out, parts_out, field_out, fields_out, mod_out, mod_argument_out}
 use Rattle.ml_trees.specs.Events.{mod_arguments_out, functor_param_out, functor_params_out, mod_type_out, signature_out, item_out, items_out}
 use Rattle.ml_trees.specs.Events.{sig_item_out, sig_items_out, file_out}
-use Rattle.tree_walk.specs.Behind.{behind}
+use Rattle.tree_events.specs.Behind.{behind}
 
 unfoldable pub names_told : {S : Type 0} → (S → Event → S) → S → List ValueName → S
 names_told step s x0 = names_out (behind step) x0 (λ t. t) s

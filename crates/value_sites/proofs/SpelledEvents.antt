@@ -38,12 +38,12 @@ use Rattle.ml_trees.specs.Events.{param_out, params_out, part_out, parts_out, fi
 use Rattle.ml_trees.specs.Events.{constraints_out, withs_out, texts_out, external_out, open_item_out, mod_out, mod_argument_out}
 use Rattle.ml_trees.specs.Events.{mod_arguments_out, functor_param_out, functor_params_out, mod_type_out, signature_out, item_out, items_out}
 use Rattle.ml_trees.specs.Events.{sig_item_out, sig_items_out, file_out}
-use Rattle.ml_syntax.specs.Respelled.{Spelling, spell, spell_tok, spell_run, spell_type, spell_value_name, spell_pat, spell_pats}
-use Rattle.ml_syntax.specs.Respelled.{spell_pat_field, spell_pat_fields, spell_variable, spell_expr, spell_links, spell_maybe_expr, spell_tail}
-use Rattle.ml_syntax.specs.Respelled.{spell_binding, spell_bindings, spell_case, spell_cases, spell_argument, spell_arguments, spell_param}
-use Rattle.ml_syntax.specs.Respelled.{spell_params, spell_part, spell_parts, spell_field, spell_fields, spell_constraint, spell_with_clause}
-use Rattle.ml_syntax.specs.Respelled.{spell_mod_expr, spell_mod_argument, spell_mod_arguments, spell_functor_param, spell_functor_params}
-use Rattle.ml_syntax.specs.Respelled.{spell_mod_type, spell_maybe_type, spell_item, spell_items, spell_sig_item, spell_sig_items, spell_file}
+use Rattle.value_sites.specs.Respelled.{Spelling, spell, spell_tok, spell_run, spell_type, spell_value_name, spell_pat, spell_pats}
+use Rattle.value_sites.specs.Respelled.{spell_pat_field, spell_pat_fields, spell_variable, spell_expr, spell_links, spell_maybe_expr, spell_tail}
+use Rattle.value_sites.specs.Respelled.{spell_binding, spell_bindings, spell_case, spell_cases, spell_argument, spell_arguments, spell_param}
+use Rattle.value_sites.specs.Respelled.{spell_params, spell_part, spell_parts, spell_field, spell_fields, spell_constraint, spell_with_clause}
+use Rattle.value_sites.specs.Respelled.{spell_mod_expr, spell_mod_argument, spell_mod_arguments, spell_functor_param, spell_functor_params}
+use Rattle.value_sites.specs.Respelled.{spell_mod_type, spell_maybe_type, spell_item, spell_items, spell_sig_item, spell_sig_items, spell_file}
 
 -- an event with other words in the place of its lower-case ones
 abbrev pub spell_event : Spelling → Event → Event

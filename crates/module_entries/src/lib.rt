@@ -1,0 +1,12 @@
+//! What an item adds to its scope, and the shapes of functors and sealed modules.
+#![tactic(auto)]
+
+mod entries;
+mod functors;
+
+pub use entries::{
+    Added, append, declared, named_module, nothing, opened, shown, token_of, type_entry,
+};
+pub use functors::{
+    functor_from, functor_of, module_site, no_param, param_entries, type_at, type_start,
+};

@@ -1,0 +1,2 @@
+//! What the events of each kind of tree make of a state: definitions, and a rule for each form.
+#![tactic(auto)]
