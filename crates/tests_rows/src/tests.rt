@@ -1,7 +1,4 @@
-mod calls;
 mod faults;
-mod graph;
-mod lexemes;
 mod limits;
 mod outside;
 mod run;
