@@ -2,7 +2,6 @@
 
 ghost use Rattle.std.specs.Prelude.{◌≡◌, Err, IfErr, IfOk, Ok, List, map as map_list};
 ghost use Rattle.value_sites.specs.Each.{Each};
-ghost use Rattle.value_sites.specs.Sound.{IsSound};
 ghost use Rattle.ml_trees.specs.Tree.{UnitTree};
 ghost use Rattle.ml_trees.specs.View.{view_project};
 ghost use Rattle.ml_lexer.specs.Lexed.{view_tokens};
@@ -49,11 +48,9 @@ pub fn respell_read(
     facts: &Facts,
     map: &[(Place, Name)],
 ) -> Result<Vec<Vec<u8>>, Memory>
-    requires sound { IsSound (view_project read.now.project) }
     requires placed { placed.now ≡ places (view_project read.now.project) }
     requires cut { AreCut files.now.entries (map_list (λ list. view_tokens list.items) read.now.tokens.items) }
     requires facts { facts.now ≡ facts_of (view_project read.now.project) }
-    requires binders { Each (λ e. IsBinder (view_project read.now.project) e.0) map.now }
     ensures { IfOk result (λ sources. AreRespelledBytes (mapped_words (view_project read.now.project) map.now) 0 files.now.entries (map_list (λ bytes. bytes.items) sources.items)) }
 {
     let words = NewWords {

@@ -193,13 +193,6 @@ module _ (us : List UnitTree) (sound : IsSound us) where
     pub given : Each IsGiven r
     given = given_all (binders_of us) listed
 
-    binder_all : (L : Renaming) → Each IsGiven L → Each (λ e. IsBinder us e.0) L
-    binder_all [] h = tt
-    binder_all (e ∷ L) h = ((h.0.site, h.0.at, h.0.binds), binder_all L h.1)
-
-    pub are_binders : Each (λ e. IsBinder us e.0) r
-    are_binders = binder_all r given
-
     kept_in : (L : Renaming) → Each IsGiven L → Each (λ e. IsBinder us e.0) (filter (is_other us) L)
     kept_in [] h = tt
     kept_in (e ∷ L) h = by (is_other us e) (kept_in L h.1) where

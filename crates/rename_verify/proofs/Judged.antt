@@ -7,12 +7,10 @@ use Rattle.rotor_base.specs.declared.place.Place.{Place}
 use Rattle.value_sites.specs.Places.{Site}
 use Rattle.rotor_base.specs.declared.source.SourceFile.{SourceFile}
 use Rattle.ml_lexer.specs.Lexed.{Lexeme}
-use Rattle.value_sites.specs.Each.{Each}
 use Rattle.value_sites.specs.Sound.{IsSound}
 use Rattle.ml_trees.specs.Tree.{UnitTree}
 use Rattle.shape_core.specs.Respell.{Words}
 use Rattle.binding_model.specs.Facts.{facts}
-use Rattle.binding_model.specs.Renaming.{IsBinder}
 use Rattle.binding_model.specs.Renaming.{IsFixedSite, Renaming, at_place, name_of, places, respell}
 use Rattle.binding_model.specs.Sums.{heavy}
 use Rattle.capture_check.specs.declared.fault.Fault.{Fault}
@@ -33,7 +31,6 @@ use Rattle.rename_survey.specs.declared.answer.Binder.{Binder}
 use Rattle.rename_survey.specs.Listed.{binders_in}
 use Rattle.rename_survey.proofs.Listing.{all_listed}
 use Rattle.rename_verify.specs.Verdict.{AreChanges, IsBytes, IsFixedAt, IsSources, reasons}
-use Rattle.rename_verify.proofs.Given.{are_binders}
 use Rattle.rename_verify.proofs.Listing.{all_free, least_fixed, not_fixed}
 use Rattle.rename_verify.proofs.Reasons.{as_many, no_broken, no_bytes, no_fixed, no_reason, no_sources, then_broken, then_bytes, then_fixed}
 use Rattle.rename_verify.proofs.Renamed.{AreRespelling, stays, still}
@@ -122,9 +119,6 @@ module _ (old new : FileSet) (us : List UnitTree) (p : IsProject old) (reads : R
     (m : Renaming) (list : List Changed) (ls : List (Place × Site)) (at : ls ≡ places us) (g : IsSuggestedFor (binders_in ls) new m list) where
   h : IsSuggested us new m list
   h = subst (λ (bs : List Binder). IsSuggestedFor bs new m list) (ap binders_in at ∙ all_listed us (read_is_sound old us p reads)) g
-
-  pub names_binders : Each (λ e. IsBinder us e.0) m
-  names_binders = subst (λ (r : Renaming). Each (λ e. IsBinder us e.0) r) (sym h.2) (are_binders us (read_is_sound old us p reads) h.0)
 
   pub changes_free : (k : Changed) → Contains list k → IsFixedSite (at_place (places us) k.0) → ⊥
   changes_free k among = not_fixed us (read_is_sound old us p reads) h.0 k (subst (λ (l : List Changed). Contains l k) h.3 among)

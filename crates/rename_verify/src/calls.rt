@@ -4,12 +4,10 @@ ghost use Rattle.std.specs.Prelude.{◌≡◌, Err, IfErr, IfOk, List, Ok, map, 
 ghost use Rattle.rotor_base.specs.Files.{IsProject, names_of};
 ghost use Rattle.rotor_base.specs.declared.refusal.Refusal.TheVariants as refusal;
 ghost use Rattle.ml_lexer.specs.Lexed.{view_tokens};
-ghost use Rattle.value_sites.specs.Each.{Each};
-ghost use Rattle.value_sites.specs.Sound.{IsSound};
 ghost use Rattle.ml_trees.specs.Tree.{UnitTree};
 ghost use Rattle.ml_trees.specs.View.{view_project};
 ghost use Rattle.binding_model.specs.Facts.{facts as facts_of};
-ghost use Rattle.binding_model.specs.Renaming.{IsBinder, places};
+ghost use Rattle.binding_model.specs.Renaming.{places};
 ghost use Rattle.binding_model.specs.Sums.{heavy};
 ghost use Rattle.project_reading.specs.Reads.{Reads};
 ghost use Rattle.project_reading.specs.Sources.{AreCut};
@@ -96,11 +94,9 @@ fn other_byte(
     facts: &Facts,
     found: &Suggested,
 ) -> Result<Option<Spot>, Memory>
-    requires sound { IsSound (view_project read.now.project) }
     requires cut { AreCut old.now.entries (map (λ list. view_tokens list.items) read.now.tokens.items) }
     requires placed { placed.now ≡ places (view_project read.now.project) }
     requires facts { facts.now ≡ facts_of (view_project read.now.project) }
-    requires binders { Each (λ e. IsBinder (view_project read.now.project) e.0) found.now.names.items }
     requires names { names_of old.now.entries ≡ names_of new.now.entries }
     ensures { IfOk result (HasSpot (view_project read.now.project) found.now.names.items old.now new.now) }
 {

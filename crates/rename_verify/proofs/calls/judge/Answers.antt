@@ -1,19 +1,10 @@
 use Rattle.std.proofs.Common.{List, None, Some, Contains, subst}
 use Rattle.ml_trees.specs.View.{view_project}
-use Rattle.project_reading.proofs.Soundness.{read_is_sound}
 use Rattle.rename_verify.specs.Changed.{Changed}
 use Rattle.rename_verify.specs.Fixed.{IsLeastHeld}
 use Rattle.rename_verify.specs.Steps.{HasFirstFault, HasSpot}
-use Rattle.rename_verify.proofs.Judged.{all_kept, broken_fault, changes_free, fixed_binder, is_read_again, names_binders, other_bytes, same_shape}
+use Rattle.rename_verify.proofs.Judged.{all_kept, broken_fault, changes_free, fixed_binder, is_read_again, other_bytes, same_shape}
 use Rattle.rename_verify.proofs.calls.judge.Goals as goal
-
-pub other_byte-requires-clause-sound : goal.other_byte-requires-clause-sound
-other_byte-requires-clause-sound c = read_is_sound c.args.old.now (view_project c.args.read.now.project) c.requires.project c.requires.reads
-
-pub other_byte-requires-clause-binders : goal.other_byte-requires-clause-binders
-other_byte-requires-clause-binders c =
-    names_binders c.args.old.now c.args.new.now (view_project c.args.read.now.project) c.requires.project c.requires.reads c.requires.light
-    c.requires.names c.requires.manifest c.in_ok-found.found.names.items c.in_ok-found.found.changes.items c.args.placed.now c.requires.placed c.in_ok-found.ensures
 
 pub returns-in-Some-clause-verdict : goal.returns-in-Some-clause-verdict
 returns-in-Some-clause-verdict c =
