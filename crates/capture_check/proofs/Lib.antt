@@ -2,7 +2,7 @@ pub mod Before
 pub mod Least
 pub mod Twice
 pub mod Groups
-pub mod Filing
+pub mod PlaceTests
 pub mod Binders
 pub mod Faults
 pub mod One

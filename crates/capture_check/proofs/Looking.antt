@@ -15,7 +15,7 @@ use Rattle.rotor_base.specs.Place.{same_place, place_cmp}
 use Rattle.binding_model.specs.Steps.{a_ref}
 use Rattle.binding_model.specs.Local.{ref_look_at, link_look_at, would_goal, would_come, would_be, would_links}
 use Rattle.binding_model.proofs.Standing.{same_swap}
-use Rattle.capture_check.proofs.Filing.{tests_same}
+use Rattle.capture_check.proofs.PlaceTests.{tests_same}
 use Rattle.capture_check.specs.Would.{goal_if, source_if, goal_by, source_by, ref_by, links_by, HasMembers, HasRefLooks, HasLinkLooks}
 
 -- one more member

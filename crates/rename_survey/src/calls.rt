@@ -1,9 +1,9 @@
 //! The survey of files.
 
 ghost use Rattle.std.specs.Prelude.{◌≡◌, List, IfErr, IfOk, Err, Ok};
-ghost use Rattle.value_sites.specs.Sound.{IsSound};
 ghost use Rattle.ml_trees.specs.Tree.{UnitTree};
 ghost use Rattle.ml_trees.specs.View.{view_project};
+ghost use Rattle.value_sites.specs.Sound.{IsSound};
 ghost use Rattle.binding_model.specs.Facts.{facts as facts_of};
 ghost use Rattle.binding_model.specs.Renaming.{places};
 ghost use Rattle.rename_project.specs.Steps.{IsRefusedFor};

@@ -1,4 +1,4 @@
--- Two tests for a place.
+-- The test of a map for a place is that of `same_place`.
 use Rattle.std.proofs.Common.{◌≡◌, Bool, true, false, refl, ap, sym, ◌∙◌, subst}
 use Rattle.std.specs.Ordering.{is_eq}
 use Rattle.std.proofs.lemmas.Cmp.{tied_itself}
@@ -9,7 +9,6 @@ use Rattle.rotor_base.proofs.Places.{place_found, place_total}
 use Rattle.binding_model.proofs.LastEntries.{same_is}
 use Rattle.capture_check.proofs.Twice.{same_back}
 
--- two tests for a place
 same_false : (p q : Place) → is_at (place_cmp p) q ≡ false → same_place p q ≡ false
 same_false p q e = by (same_place p q) refl where
   by : (b : Bool) → same_place p q ≡ b → same_place p q ≡ false
