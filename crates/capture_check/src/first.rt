@@ -38,7 +38,7 @@ pub fn first_fault(
     Ok(fault_of(repeat, capture, mislink))
 }
 
-/// The first of three answers.
+/// The first fault of three answers: a Clash precedes a Capture, and both precede a Mislink.
 pub fn fault_of(
     repeat: Option<Repeat>,
     capture: Option<Change>,

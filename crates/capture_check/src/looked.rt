@@ -24,7 +24,7 @@ pub type RefTable = BTreeMap<Place, RefLook>;
 /// The first look of each number of a link.
 pub type LinkTable = BTreeMap<u64, LinkLook>;
 
-/// The set of the declarations of a footprint.
+/// The declarations of a footprint as a set. `Memory` is the only error.
 pub fn members_of(alloc: Global, decls: &[Place]) -> Result<Members, Memory>
     ensures { IfOk result (λ members. (d : Place) → contains place_cmp members d ≡ list_any (same_place d) decls.now) }
 {
@@ -45,7 +45,8 @@ pub fn is_in(members: &Members, goal: Goal) -> bool
     }
 }
 
-/// The table of the looks of references.
+/// The looks of references by their places. If several looks have one place, the first counts. `Memory` is the only
+/// error.
 pub fn ref_table(alloc: Global, looks: &[RefLook]) -> Result<RefTable, Memory>
     ensures { IfOk result (HasRefLooks looks.now) }
 {
@@ -66,7 +67,7 @@ fn add_ref_look(table: &mut RefTable, look: RefLook) -> Result<(), Memory>
     Ok(())
 }
 
-/// The table of the looks of links.
+/// The looks of links by their numbers. If several looks have one number, the first counts. `Memory` is the only error.
 pub fn link_table(alloc: Global, looks: &[LinkLook]) -> Result<LinkTable, Memory>
     ensures { IfOk result (HasLinkLooks looks.now) }
 {
@@ -87,7 +88,8 @@ fn add_link_look(table: &mut LinkTable, look: LinkLook) -> Result<(), Memory>
     Ok(())
 }
 
-/// The references of the project after a renaming, at the places of the old ones.
+/// The references that the renamed project will have, at the places of the old ones. The answer comes from the looks
+/// alone. `Memory` is the only error.
 pub fn would_refs(
     alloc: Global,
     members: &Members,
@@ -117,7 +119,8 @@ fn goal_by(members: &Members, look: Option<RefLook>, old: Goal) -> Goal
     }
 }
 
-/// The links of the project after a renaming, in the order of the old ones.
+/// The links that the renamed project will have, in the order of the old ones. The answer comes from the looks alone.
+/// `Memory` is the only error.
 pub fn would_links(
     alloc: Global,
     members: &Members,

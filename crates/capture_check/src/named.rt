@@ -15,7 +15,7 @@ pub struct BinderNames<'n, 'p> {
     pub new: &'n [u8],
 }
 
-/// The name of a place.
+/// The name that the binder at a place has after the renaming: the new one if the place is renamed, or else its own.
 pub fn name_at<'n>(names: &BinderNames<'n, '_>, place: Place) -> &'n [u8]
     ensures { result.now ≡ named names.now place }
 {

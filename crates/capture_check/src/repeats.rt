@@ -33,7 +33,7 @@ pub fn first_repeat(
     first_repeat_of(alloc, &names, groups)
 }
 
-/// The first repeat of a name in a group, if some binders have a new name.
+/// The first repeat of a name in a group, if some binders have a new name. `Memory` is the only error.
 pub fn first_repeat_of(
     alloc: Global,
     names: &BinderNames<'_, '_>,
@@ -81,13 +81,13 @@ fn add_place(
     ensures seen { OnOk result ((x : List ℕ) → at seen.new x ≡ (if bytes_eq name.now x then Some (lesser (at seen.old name.now) place) else at seen.old x)) }
 {
     let before = seen.get(name);
-    let least = lesser(before, place);
+    let least = take_lesser(before, place);
     seen.put(alloc, name, least)?;
     Ok(repeat_of(before, place))
 }
 
 /// The lesser of two places, or the second if there is no first.
-fn lesser(before: Option<Place>, place: Place) -> Place
+fn take_lesser(before: Option<Place>, place: Place) -> Place
     ensures { result ≡ lesser before place }
 {
     match before {

@@ -14,7 +14,7 @@ pub fn would_ref(look: RefLook, member: bool) -> Goal
     ensures { result ≡ goal_if member look }
 {
     if look.is_new || member {
-        would_find(look.by, look.goal, later(look.foot, look.new))
+        would_find(look.by, look.goal, take_later(look.foot, look.new))
     } else {
         look.goal
     }
@@ -26,7 +26,7 @@ pub fn would_link(look: LinkLook, member: bool) -> Goal
 {
     let none = behind_darks(look.by, look.darks, None);
     if look.is_new || member {
-        let found = would_find(look.by, none, later(look.foot, look.new));
+        let found = would_find(look.by, none, take_later(look.foot, look.new));
         would_source(look.later_foot || look.later_new, look.pinned, found)
     } else {
         would_source(
@@ -50,7 +50,7 @@ fn would_source(hidden: bool, pinned: bool, found: Goal) -> Goal
 }
 
 /// The later of two spots of a list.
-fn later(a: Option<Spot>, b: Option<Spot>) -> Option<Spot>
+fn take_later(a: Option<Spot>, b: Option<Spot>) -> Option<Spot>
     ensures { result ≡ later a b }
 {
     match (a, b) {

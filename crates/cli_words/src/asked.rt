@@ -28,22 +28,22 @@ pub(crate) fn is_written(asked: Asked<&str>, words: &[String]) -> bool
     ensures { result ≡ is_written_in (in_words asked.entry) (map string_bytes words.now) }
 {
     match asked {
-        Asked::Check => are(words, &["check"]),
-        Asked::Footprint { target } => is_value(target) && are(words, &["footprint", target]),
+        Asked::Check => is_same(words, &["check"]),
+        Asked::Footprint { target } => is_value(target) && is_same(words, &["footprint", target]),
         Asked::Rename {
             target,
             name,
             flags,
         } => is_renaming(target, name, flags, words),
-        Asked::Sample { units } => is_value(units) && are(words, &["sample", units]),
+        Asked::Sample { units } => is_value(units) && is_same(words, &["sample", units]),
         Asked::Verify { old, new } => {
-            is_value(old) && is_value(new) && are(words, &["verify", old, new])
+            is_value(old) && is_value(new) && is_same(words, &["verify", old, new])
         }
-        Asked::Batch { file, write: false } => is_value(file) && are(words, &["batch", file]),
+        Asked::Batch { file, write: false } => is_value(file) && is_same(words, &["batch", file]),
         Asked::Batch { file, write: true } => {
-            is_value(file) && are(words, &["batch", file, "--write"])
+            is_value(file) && is_same(words, &["batch", file, "--write"])
         }
-        Asked::Recover => are(words, &["recover"]),
+        Asked::Recover => is_same(words, &["recover"]),
     }
 }
 
@@ -65,28 +65,28 @@ fn are_written(flags: Flags, words: &[String]) -> bool
 {
     match (flags.write, flags.safe, flags.json) {
         (true, true, _) => false,
-        (false, false, false) => are(words, &[]),
-        (false, false, true) => are(words, &["--json"]),
-        (true, false, false) => are(words, &["--write"]),
-        (false, true, false) => are(words, &["--safe"]),
+        (false, false, false) => is_same(words, &[]),
+        (false, false, true) => is_same(words, &["--json"]),
+        (true, false, false) => is_same(words, &["--write"]),
+        (false, true, false) => is_same(words, &["--safe"]),
         (true, false, true) => {
-            are(words, &["--write", "--json"]) || are(words, &["--json", "--write"])
+            is_same(words, &["--write", "--json"]) || is_same(words, &["--json", "--write"])
         }
         (false, true, true) => {
-            are(words, &["--safe", "--json"]) || are(words, &["--json", "--safe"])
+            is_same(words, &["--safe", "--json"]) || is_same(words, &["--json", "--safe"])
         }
     }
 }
 
 /// Whether the words are these texts.
-fn are(words: &[String], texts: &[&str]) -> bool
+fn is_same(words: &[String], texts: &[&str]) -> bool
     ensures { result ≡ same_words (map string_bytes words.now) (map (λ text. text.now) texts.now) }
 {
     match words {
         [] => texts.is_empty(),
         [word, words @ ..] => match texts {
             [] => false,
-            [text, texts @ ..] => word.as_str() == *text && are(words, texts),
+            [text, texts @ ..] => word.as_str() == *text && is_same(words, texts),
         },
     }
 }

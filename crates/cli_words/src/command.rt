@@ -78,7 +78,7 @@ pub fn read_words(alloc: Global, words: &[String]) -> Result<Command, WordsError
     ensures ok { IfOk result (λ command. command_of (map string_bytes words.now) ≡ Some command) }
     ensures usage { result ≡ Err WordsError.Usage → command_of (map string_bytes words.now) ≡ None }
 {
-    let matches = parsed(alloc, words)?;
+    let matches = parse_words(alloc, words)?;
     let Some(asked) = heard_in(&matches) else {
         return Err(WordsError::Usage);
     };
@@ -89,7 +89,7 @@ pub fn read_words(alloc: Global, words: &[String]) -> Result<Command, WordsError
 }
 
 /// What `clap` reads.
-fn parsed<'a>(alloc: Global, words: &'a [String]) -> Result<ArgMatches<'a>, WordsError>
+fn parse_words<'a>(alloc: Global, words: &'a [String]) -> Result<ArgMatches<'a>, WordsError>
     ensures ok { IfOk result (λ matches. option_and_then heard (subcommand_rows_of matches) ≡ read_of (map string_bytes words.entry.now)) }
     ensures usage { result ≡ Err WordsError.Usage → is_taken (map string_bytes words.entry.now) ≡ false }
 {
@@ -98,12 +98,12 @@ fn parsed<'a>(alloc: Global, words: &'a [String]) -> Result<ArgMatches<'a>, Word
     };
     match program.try_get_matches_from(words) {
         Ok(matches) => Ok(matches),
-        Err(error) => Err(refused(&error)),
+        Err(error) => Err(convert_error(&error)),
     }
 }
 
 /// Why `clap` refuses the words.
-fn refused(error: &clap::Error) -> WordsError
+fn convert_error(error: &clap::Error) -> WordsError
     ensures { result ≡ WordsError.Usage → kind_of error.now ≢ ErrorKind.OutOfMemory }
 {
     match error.kind() {

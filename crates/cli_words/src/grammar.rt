@@ -10,7 +10,7 @@ use std::alloc::{AllocError, Global};
 pub(crate) fn program<'a>(alloc: Global) -> Result<Command<'a>, AllocError>
     ensures { IfOk result (λ command. IsTold command rotor_app) }
 {
-    bare(alloc)
+    make_bare(alloc)
         .subcommand(Command::new(alloc, "check"))?
         .subcommand(footprint(alloc)?)?
         .subcommand(rename(alloc)?)?
@@ -21,7 +21,7 @@ pub(crate) fn program<'a>(alloc: Global) -> Result<Command<'a>, AllocError>
 }
 
 /// The program with help and version off. Its words don't begin with its name.
-fn bare<'a>(alloc: Global) -> Command<'a>
+fn make_bare<'a>(alloc: Global) -> Command<'a>
     ensures { IsTold result program_app }
 {
     Command::new(alloc, "rotor")

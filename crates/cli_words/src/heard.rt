@@ -11,12 +11,12 @@ use clap::ArgMatches;
 pub(crate) fn heard_in<'a>(matches: &ArgMatches<'a>) -> Option<Asked<&'a str>>
     ensures { option_map in_words result ≡ option_and_then heard (subcommand_rows_of matches.now) }
 {
-    let (name, values) = met(matches)?;
+    let (name, values) = find_subcommand(matches)?;
     form_in(name, values)
 }
 
 /// The subcommand that was read.
-fn met<'a, 'b>(matches: &'b ArgMatches<'a>) -> Option<(&'a str, &'b ArgMatches<'a>)>
+fn find_subcommand<'a, 'b>(matches: &'b ArgMatches<'a>) -> Option<(&'a str, &'b ArgMatches<'a>)>
     ensures { option_map (λ p. (p.0.now, rows_of (found_of p.1.now))) result ≡ subcommand_rows_of matches.now }
 {
     matches.subcommand()

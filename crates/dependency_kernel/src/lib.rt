@@ -19,7 +19,7 @@ pub fn footprint(alloc: Global, facts: &Facts, d: Place) -> Result<Foot, Memory>
     ensures foot { IfOk result (λ foot. IsFoot facts.now.links d foot) }
 {
     let links = facts.links.as_slice();
-    let decls = reached::reached(alloc, links, d)?;
+    let decls = reached::find_reached(alloc, links, d)?;
     let outside = outside::least_fixed(alloc, links, &decls)?;
     Ok(Foot {
         decls: Row::from_vec(decls),

@@ -10,7 +10,7 @@ use std::collections::BTreeMap;
 /// The declarations that are linked with each declaration, in either direction.
 pub type Neighbors = BTreeMap<Place, Vec<Place>>;
 
-/// The neighbors of all declarations of some links.
+/// For each declaration, those that a link joins with it, in either direction. `Memory` is the only error.
 pub fn neighbors_of(alloc: Global, links: &[Link]) -> Result<Neighbors, Memory>
     ensures joined { IfOk result (λ neighbors. (a b : Place) → HasNeighbor neighbors a b → Joined links.now a b) }
     ensures all { IfOk result (λ neighbors. (a b : Place) → Joined links.now a b → HasNeighbor neighbors a b) }

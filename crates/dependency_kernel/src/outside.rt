@@ -8,7 +8,7 @@ use rotor_base::{Goal, Link, Memory, Place};
 use std::alloc::Global;
 use std::collections::BTreeSet;
 
-/// The first of some declarations, which are in order, that is in a link with the outside.
+/// The first of these declarations, which are in order, that has a link with the outside. `Memory` is the only error.
 pub fn least_fixed(alloc: Global, links: &[Link], decls: &[Place]) -> Result<Option<Place>, Memory>
     requires { AllPairs IsBefore decls.now }
     ensures { IfOk result (IsLeastFixed links.now decls.now) }

@@ -8,8 +8,9 @@ use rotor_base::{Link, Memory, Place};
 use std::alloc::Global;
 use std::collections::BTreeSet;
 
-/// The declarations that are reached from `d` along links, in order of places.
-pub fn reached(alloc: Global, links: &[Link], d: Place) -> Result<Vec<Place>, Memory>
+/// The declarations that a path of links joins with `d`, `d` itself too, in order of places. `Memory` is the only
+/// error.
+pub fn find_reached(alloc: Global, links: &[Link], d: Place) -> Result<Vec<Place>, Memory>
     ensures ordered { IfOk result (λ decls. AllPairs IsBefore decls.items) }
     ensures reached { IfOk result (λ decls. (p : Place) → Contains decls.items p → Path links.now d p) }
     ensures all { IfOk result (λ decls. (p : Place) → Path links.now d p → Contains decls.items p) }

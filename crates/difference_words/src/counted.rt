@@ -7,7 +7,7 @@ ghost use Rattle.project_reading.specs.Sources.{AreCut};
 ghost use Rattle.difference_words.specs.Warnings.{CountsWarnings, count_line as count_line_of, named as named_of};
 
 use crate::folder::folder_differences;
-use messages::{counted, joined};
+use messages::{format_count, join_words};
 use project_reading::Read;
 use rotor_base::{Files, Memory, Row};
 use std::alloc::Global;
@@ -31,21 +31,21 @@ fn count_line(alloc: Global, count: u64) -> Result<Row<u8>, Memory>
     if count == 0 {
         return Ok(Row::new(alloc));
     }
-    let places = counted(alloc, count, "place")?;
-    joined(
+    let places = format_count(alloc, count, "place")?;
+    join_words(
         alloc,
         &[
             b"warning: in ",
             places.as_slice(),
             b" OCaml may read this folder otherwise; `rotor-explain check` names ",
-            named(count),
+            choose_pronoun(count),
             b"\n",
         ],
     )
 }
 
 /// How the sentence names so many places.
-fn named(count: u64) -> &'static [u8]
+fn choose_pronoun(count: u64) -> &'static [u8]
     ensures { result.now ≡ named_of count }
 {
     if count == 1 { b"it" } else { b"them" }

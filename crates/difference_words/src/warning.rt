@@ -3,7 +3,7 @@ ghost use Rattle.std.specs.Prelude.{◌≡◌, IfOk, map};
 ghost use Rattle.refusal_words.specs.Cut.{view_cut};
 ghost use Rattle.difference_words.specs.Warning.{applied as applied_of, commented as commented_of, index_help as index_help_of, index_text as index_text_of, indexed as indexed_of, late as late_of, module_of, form_of, opened as opened_of, opened_note as opened_note_of, opened_text as opened_text_of, standard as standard_of, warned, warning_of as warning_for};
 
-use messages::{Kind, Message, Note, Severity, Spot, joined, spot_text};
+use messages::{Kind, Message, Note, Severity, Spot, join_words, spot_text};
 use reading_differences::{Difference, Indexed, Parting};
 use refusal_words::{CutSource, byte_spot, place_spot};
 use rotor_base::{Memory, Place, Row};
@@ -19,14 +19,14 @@ pub fn warning_of(
 {
     let at = difference.at;
     match &difference.how {
-        Parting::Indexing(form) => indexed(alloc, cuts, at, *form),
-        Parting::Opened { name, by } => opened(alloc, cuts, at, name.as_bytes(), *by),
-        Parting::Types(argument) => applied(alloc, cuts, at, argument.as_bytes()),
-        Parting::Comment(offset) => commented(alloc, cuts, at, *offset),
+        Parting::Indexing(form) => warn_indexed(alloc, cuts, at, *form),
+        Parting::Opened { name, by } => warn_opened(alloc, cuts, at, name.as_bytes(), *by),
+        Parting::Types(argument) => warn_applied(alloc, cuts, at, argument.as_bytes()),
+        Parting::Comment(offset) => warn_commented(alloc, cuts, at, *offset),
         Parting::Order { unit, needed } => {
-            late(alloc, cuts, at, unit.as_bytes(), needed.as_bytes())
+            warn_late(alloc, cuts, at, unit.as_bytes(), needed.as_bytes())
         }
-        Parting::Standard => standard(alloc, cuts, at),
+        Parting::Standard => warn_standard(alloc, cuts, at),
     }
 }
 
@@ -45,7 +45,7 @@ fn warning_at(alloc: Global, kind: Kind, text: Row<u8>, at: Spot, help: Option<R
 }
 
 /// The warning of a form that reads an element.
-fn indexed(
+fn warn_indexed(
     alloc: Global,
     cuts: &[CutSource<'_>],
     at: Place,
@@ -63,7 +63,7 @@ fn indexed(
 fn index_text<'a>(alloc: Global, form: &'a [u8], name: &'a [u8]) -> Result<Row<u8>, Memory>
     ensures { IfOk result (λ text. text ≡ index_text_of form.entry.now name.entry.now) }
 {
-    joined(
+    join_words(
         alloc,
         &[
             b"in OCaml `",
@@ -81,7 +81,7 @@ fn index_text<'a>(alloc: Global, form: &'a [u8], name: &'a [u8]) -> Result<Row<u
 fn index_help(alloc: Global, name: &[u8]) -> Result<Row<u8>, Memory>
     ensures { IfOk result (λ text. text ≡ index_help_of name.now) }
 {
-    joined(
+    join_words(
         alloc,
         &[b"do not rename `get` or `set` of that `", name, b"`"],
     )
@@ -108,7 +108,7 @@ fn form_text(form: Indexed) -> &'static [u8]
 }
 
 /// The warning of a module that is used behind the opening of a module from outside.
-fn opened(
+fn warn_opened(
     alloc: Global,
     cuts: &[CutSource<'_>],
     at: Place,
@@ -135,7 +135,7 @@ fn opened(
 fn opened_text<'a>(alloc: Global, by: &'a [u8], name: &'a [u8]) -> Result<Row<u8>, Memory>
     ensures { IfOk result (λ text. text ≡ opened_text_of by.entry.now name.entry.now) }
 {
-    joined(
+    join_words(
         alloc,
         &[
             b"if the module opened at ",
@@ -157,7 +157,7 @@ fn opened_note(alloc: Global, cuts: &[CutSource<'_>], by: Place) -> Result<Note,
 }
 
 /// The warning of a functor that is applied in a type.
-fn applied(
+fn warn_applied(
     alloc: Global,
     cuts: &[CutSource<'_>],
     at: Place,
@@ -165,7 +165,7 @@ fn applied(
 ) -> Result<Message, Memory>
     ensures { IfOk result (λ message. message ≡ applied_of (map view_cut cuts.now) at argument.now) }
 {
-    let text = joined(
+    let text = join_words(
         alloc,
         &[
             b"a functor is applied in a type; OCaml matches `",
@@ -173,7 +173,7 @@ fn applied(
             b"` with its parameter, rotor does not",
         ],
     )?;
-    let help = joined(
+    let help = join_words(
         alloc,
         &[b"after a renaming in `", argument, b"`, compile the folder"],
     )?;
@@ -182,7 +182,7 @@ fn applied(
 }
 
 /// The warning of a quote behind a name, in a comment.
-fn commented(
+fn warn_commented(
     alloc: Global,
     cuts: &[CutSource<'_>],
     at: Place,
@@ -190,7 +190,7 @@ fn commented(
 ) -> Result<Message, Memory>
     ensures { IfOk result (λ message. message ≡ commented_of (map view_cut cuts.now) at offset) }
 {
-    let text = joined(
+    let text = join_words(
         alloc,
         &[
             b"OCaml reads the name before this quote with it; rotor reads a character here, so the two may end this comment",
@@ -202,7 +202,7 @@ fn commented(
 }
 
 /// The warning of a unit that is linked behind a unit that needs it.
-fn late<'a>(
+fn warn_late<'a>(
     alloc: Global,
     cuts: &[CutSource<'_>],
     at: Place,
@@ -211,7 +211,7 @@ fn late<'a>(
 ) -> Result<Message, Memory>
     ensures { IfOk result (λ message. message ≡ late_of (map view_cut cuts.now) at unit.entry.now needed.entry.now) }
 {
-    let text = joined(
+    let text = join_words(
         alloc,
         &[
             b"rotor.units puts `",
@@ -228,7 +228,7 @@ fn late<'a>(
 }
 
 /// The warning of a unit with the name of OCaml's standard library.
-fn standard(alloc: Global, cuts: &[CutSource<'_>], at: Place) -> Result<Message, Memory>
+fn warn_standard(alloc: Global, cuts: &[CutSource<'_>], at: Place) -> Result<Message, Memory>
     ensures { IfOk result (λ message. message ≡ standard_of (map view_cut cuts.now) at) }
 {
     let text =

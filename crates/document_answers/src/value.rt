@@ -73,7 +73,7 @@ fn value_reply(
     ensures plain { IfOk result IsPlain }
 {
     match query {
-        Query::PrepareRename => Ok(Ok(prepared(alloc, around, place)?)),
+        Query::PrepareRename => Ok(Ok(prepare_word(alloc, around, place)?)),
         Query::Rename { name: Some(name) } => {
             renaming_reply(alloc, around, place, declared, name.as_bytes())
         }
@@ -104,7 +104,7 @@ fn value_places(alloc: Global, facts: &Facts, declared: Place) -> Result<Vec<Val
 }
 
 /// The word of a token that a renaming would replace; of an operator, nothing.
-fn prepared(alloc: Global, around: Around<'_>, place: Place) -> Result<Answer, Memory>
+fn prepare_word(alloc: Global, around: Around<'_>, place: Place) -> Result<Answer, Memory>
     ensures { IfOk result (λ answer. answer ≡ prepared_of (view_scene around.entry.scene) place) }
 {
     let cuts = around.scene.cuts;

@@ -16,7 +16,7 @@ use crate::opened::{Opened, open_folder};
 use crate::refused::{is_memory, project_told};
 use crate::told::Told;
 use difference_words::warnings;
-use messages::{counted, joined};
+use messages::{format_count, join_words};
 use rotor_base::{Counts, Files, Memory, Refusal, Row};
 use std::alloc::Global;
 use value_places::PlacedProject;
@@ -85,11 +85,11 @@ fn counts_of(alloc: Global, files: &Files, opened: &Opened<'_>) -> Result<Counts
 fn counts_text(alloc: Global, counts: &Counts) -> Result<Row<u8>, Memory>
     ensures { IfOk result (λ text. text ≡ counts_text_of counts.now) }
 {
-    let files = counted(alloc, counts.files, "source")?;
-    let units = counted(alloc, counts.units, "unit")?;
-    let declarations = counted(alloc, counts.declarations, "declaration")?;
-    let uses = counted(alloc, counts.references, "use")?;
-    joined(
+    let files = format_count(alloc, counts.files, "source")?;
+    let units = format_count(alloc, counts.units, "unit")?;
+    let declarations = format_count(alloc, counts.declarations, "declaration")?;
+    let uses = format_count(alloc, counts.references, "use")?;
+    join_words(
         alloc,
         &[
             files.as_slice(),

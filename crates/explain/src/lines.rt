@@ -3,7 +3,7 @@ ghost use Rattle.std.specs.Prelude.{◌≡◌, ◌++◌, IfOk, OnOk, flat_map, m
 ghost use Rattle.refusal_words.specs.Cut.{view_cut};
 ghost use Rattle.explain.specs.Lines.{place_line as place_line_of, place_message as place_message_of, place_word as place_word_of};
 
-use messages::{Kind, Message, Severity, joined, spot_text};
+use messages::{Kind, Message, Severity, join_words, spot_text};
 use refusal_words::{CutSource, place_spot};
 use rotor_base::{Memory, Place, Row};
 use std::alloc::Global;
@@ -42,7 +42,7 @@ pub(crate) fn push_place(
 {
     let spot = place_spot(alloc, cuts, place)?;
     let at = spot_text(alloc, &spot)?;
-    let line = joined(alloc, &[at.as_slice(), b": ", word.as_bytes(), b"\n"])?;
+    let line = join_words(alloc, &[at.as_slice(), b": ", word.as_bytes(), b"\n"])?;
     text.extend_from_slice(line.as_slice())?;
     Ok(())
 }

@@ -18,7 +18,7 @@ use crate::refused::{is_memory, refusal_told};
 use crate::shown::tool_places;
 use crate::told::Told;
 use difference_words::counted_differences;
-use messages::{counted, joined};
+use messages::{format_count, join_words};
 use refusal_words::{CutSource, cut_sources};
 use rename_files::rename_in;
 use rotor_base::{Files, Memory, Refusal, Renamed, Row, Target};
@@ -112,10 +112,10 @@ fn renamed_line(alloc: Global, done: &Renamed) -> Result<Row<u8>, Memory>
     ensures { IfOk result (λ line. line ≡ renamed_line_of done.now) }
 {
     let declarations = done.foot.decls.as_slice().len() as u64;
-    let declarations = counted(alloc, declarations, "declaration")?;
-    let uses = counted(alloc, done.refs, "use")?;
-    let files = counted(alloc, done.changed.as_slice().len() as u64, "file")?;
-    joined(
+    let declarations = format_count(alloc, declarations, "declaration")?;
+    let uses = format_count(alloc, done.refs, "use")?;
+    let files = format_count(alloc, done.changed.as_slice().len() as u64, "file")?;
+    join_words(
         alloc,
         &[
             b"`",

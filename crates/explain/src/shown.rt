@@ -17,7 +17,7 @@ use crate::opened::{Opened, open_folder};
 use crate::refused::{is_memory, refusal_told};
 use crate::told::Told;
 use difference_words::counted_differences;
-use messages::{Message, counted, joined, spot_text};
+use messages::{Message, format_count, join_words, spot_text};
 use refusal_words::{CutSource, cut_sources, place_spot};
 use rename_files::foot_in;
 use rotor_base::{Facts, Files, Foot, FootReport, Memory, Place, Refusal, Row, Target};
@@ -105,9 +105,9 @@ fn shown_line(alloc: Global, shown: &FootReport) -> Result<Row<u8>, Memory>
     ensures { IfOk result (λ line. line ≡ shown_line_of shown.now) }
 {
     let declarations = shown.foot.decls.as_slice().len() as u64;
-    let declarations = counted(alloc, declarations, "declaration")?;
-    let uses = counted(alloc, shown.refs, "use")?;
-    joined(
+    let declarations = format_count(alloc, declarations, "declaration")?;
+    let uses = format_count(alloc, shown.refs, "use")?;
+    join_words(
         alloc,
         &[
             b"`",
@@ -156,7 +156,7 @@ fn push_outside(
     };
     let spot = place_spot(alloc, cuts, place)?;
     let at = spot_text(alloc, &spot)?;
-    let line = joined(
+    let line = join_words(
         alloc,
         &[
             at.as_slice(),

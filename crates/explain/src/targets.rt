@@ -7,10 +7,10 @@ ghost use Rattle.refusal_words.specs.Cut.{view_cut};
 ghost use Rattle.explain.specs.Targets.{count_feeds as count_feeds_of, cut_of, dotted_step, dotted_words as dotted_words_of, lacking as lacking_of, member_message as member_message_of, path_message as path_message_of, path_up_to as path_up_to_of, place_message as place_message_of, split_message, split_path, spot_message as spot_message_of, target_message as target_message_of, token_message as token_message_of, use_message as use_message_of};
 
 use crate::path_stop::PathStop;
-use messages::{Message, joined, shown_word};
+use messages::{Message, join_words, shown_word};
 use refusal_words::{
-    CutSource, a_use, foreign_value, nameless, no_line, no_member, no_path, no_source, no_token,
-    no_token_at, no_value,
+    CutSource, a_use, explain_nameless, foreign_value, no_line, no_member, no_path, no_source,
+    no_token, no_token_at, no_value,
 };
 use rename_parts::token_at;
 use rotor_base::{Goal, Memory, Name, Place, Ref, Row, Target};
@@ -31,11 +31,11 @@ pub(crate) fn target_message(
     match target {
         Target::At { file, token } => match find_source(cuts, file.as_bytes()) {
             Some((number, cut)) => token_message(alloc, cuts, refs, number, cut, *token),
-            None => nameless(alloc, no_source(alloc, file.as_bytes())?),
+            None => explain_nameless(alloc, no_source(alloc, file.as_bytes())?),
         },
         Target::Spot { file, line, column } => match find_source(cuts, file.as_bytes()) {
             Some((number, cut)) => spot_message(alloc, cuts, refs, number, cut, *line, *column),
-            None => nameless(alloc, no_source(alloc, file.as_bytes())?),
+            None => explain_nameless(alloc, no_source(alloc, file.as_bytes())?),
         },
         Target::Dotted(path) => path_message(alloc, stop, path.as_slice()),
     }
@@ -71,7 +71,7 @@ fn token_message(
 {
     let count = cut.tokens.len();
     if token as usize > count {
-        return nameless(alloc, no_token(alloc, cut.name, token, count as u64)?);
+        return explain_nameless(alloc, no_token(alloc, cut.name, token, count as u64)?);
     }
     place_message(alloc, cuts, refs, Place { file, token })
 }
@@ -90,11 +90,11 @@ fn spot_message(
     ensures { IfOk result (λ message. message ≡ spot_message_of (map view_cut cuts.now) refs.now file (view_cut cut.now) line column) }
 {
     if line as usize > count_feeds(cut.bytes) + 1 {
-        return nameless(alloc, no_line(alloc, cut.name, line)?);
+        return explain_nameless(alloc, no_line(alloc, cut.name, line)?);
     }
     match token_at(cut.bytes, &cut.tokens, line, column) {
         Some(token) => place_message(alloc, cuts, refs, Place { file, token }),
-        None => nameless(alloc, no_token_at(alloc, cut.name, line, column)?),
+        None => explain_nameless(alloc, no_token_at(alloc, cut.name, line, column)?),
     }
 }
 
@@ -156,14 +156,14 @@ fn path_message(alloc: Global, stop: PathStop, path: &[Name]) -> Result<Message,
     match stop {
         PathStop::Lacks(step) => {
             let name = path_up_to(alloc, path, step)?;
-            let text = joined(alloc, &[lacking(step), name.as_slice(), b"`"])?;
-            nameless(alloc, text)
+            let text = join_words(alloc, &[lacking(step), name.as_slice(), b"`"])?;
+            explain_nameless(alloc, text)
         }
         PathStop::NoStructure(step) => {
             let name = path_up_to(alloc, path, step)?;
             let end = b"` is no structure or signature";
-            let text = joined(alloc, &[b"`", name.as_slice(), end])?;
-            nameless(alloc, text)
+            let text = join_words(alloc, &[b"`", name.as_slice(), end])?;
+            explain_nameless(alloc, text)
         }
         PathStop::AtValue => value_message(alloc, path),
     }
@@ -205,7 +205,7 @@ fn value_message(alloc: Global, path: &[Name]) -> Result<Message, Memory>
 {
     match path.split_last() {
         Some((last, front)) => member_message(alloc, front, last),
-        None => nameless(alloc, no_path(alloc, b"")?),
+        None => explain_nameless(alloc, no_path(alloc, b"")?),
     }
 }
 
@@ -214,10 +214,10 @@ fn member_message(alloc: Global, front: &[Name], last: &Name) -> Result<Message,
     ensures { IfOk result (λ message. message ≡ member_message_of front.now last.now) }
 {
     if front.len() == 0 {
-        return nameless(alloc, no_path(alloc, last.as_bytes())?);
+        return explain_nameless(alloc, no_path(alloc, last.as_bytes())?);
     }
     let module = dotted_words(alloc, front)?;
-    nameless(alloc, no_member(alloc, module.as_slice(), last.as_bytes())?)
+    explain_nameless(alloc, no_member(alloc, module.as_slice(), last.as_bytes())?)
 }
 
 /// Names with dots between them.

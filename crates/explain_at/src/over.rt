@@ -14,10 +14,10 @@ use crate::place::refused_at;
 use crate::spot::spot_told;
 use cli_words::read_target;
 use explain::{Told, explain_check};
-use messages::{Message, joined, shown_word};
+use messages::{Message, join_words, shown_word};
 use ml_trees::Project;
 use project_reading::read_project;
-use refusal_words::{CutSource, cut_sources, nameless};
+use refusal_words::{CutSource, cut_sources, explain_nameless};
 use rename_project::resolve;
 use rotor_base::{Facts, Files, Memory, Refusal, SourceFile, Target};
 use std::alloc::Global;
@@ -98,6 +98,6 @@ fn no_place(alloc: Global, word: &str) -> Result<Message, Memory>
     ensures { IfOk result (λ message. message ≡ no_place_of word.now) }
 {
     let word = shown_word(alloc, word.as_bytes())?;
-    let text = joined(alloc, &[b"`", word.as_slice(), b"` is no FILE:LINE:COLUMN"])?;
-    nameless(alloc, text)
+    let text = join_words(alloc, &[b"`", word.as_slice(), b"` is no FILE:LINE:COLUMN"])?;
+    explain_nameless(alloc, text)
 }

@@ -11,7 +11,7 @@ ghost use Rattle.messages.specs.declared.kinds.Kind.TheVariants as kind;
 ghost use Rattle.explain_at.specs.At.{SaysPlace, declaration_message as declaration_message_of, refused_at as refused_at_of, target_line as target_line_of, target_told as target_told_of, valueless as valueless_of, valueless_text as valueless_text_of};
 
 use explain::{Ending, Told, maybe_told, place_message, place_word};
-use messages::{Kind, Message, Severity, joined};
+use messages::{Kind, Message, Severity, join_words};
 use ml_trees::Project;
 use refusal_words::{CutSource, place_spot, word_at};
 use report::number_text;
@@ -33,7 +33,7 @@ pub(crate) fn place_told(
 {
     match value_at(alloc, project, facts, place)? {
         ValueAt::Value(declared) => target_told(alloc, cuts, declared),
-        found => refused_at(alloc, valueless(alloc, cuts, place, found)?),
+        found => refused_at(alloc, explain_valueless(alloc, cuts, place, found)?),
     }
 }
 
@@ -65,7 +65,7 @@ fn target_line(alloc: Global, cuts: &[CutSource<'_>], declared: Place) -> Result
 {
     let spot = place_spot(alloc, cuts, declared)?;
     let number = number_text(alloc, u64::from(declared.token))?;
-    joined(
+    join_words(
         alloc,
         &[spot.file.as_slice(), b"#", number.as_slice(), b"\n"],
     )
@@ -83,7 +83,7 @@ fn declaration_message(
 }
 
 /// The message of a token that declares and uses no value of the folder.
-fn valueless(
+fn explain_valueless(
     alloc: Global,
     cuts: &[CutSource<'_>],
     place: Place,
@@ -109,7 +109,7 @@ fn valueless_text(alloc: Global, word: &[u8], found: ValueAt) -> Result<Row<u8>,
 {
     match found {
         ValueAt::NoValue => Ok(Row::from_vec(b"no value stands here".to_vec(alloc)?)),
-        ValueAt::Outside | ValueAt::Blurred | ValueAt::Value(_) => joined(
+        ValueAt::Outside | ValueAt::Blurred | ValueAt::Value(_) => join_words(
             alloc,
             &[b"`", word, b"` is no value that this folder declares"],
         ),

@@ -4,7 +4,7 @@ ghost use Rattle.explain_batch.specs.Steps.{SaysDone, SaysSteps, done_line as do
 
 use crate::stopped::stopped_told;
 use explain::{Ending, Told, bare_told, diffs_text};
-use messages::{counted, joined};
+use messages::{format_count, join_words};
 use rename_batch::{BatchError, Batched, Step, batch};
 use rotor_base::{Files, Memory, Row};
 use std::alloc::Global;
@@ -42,7 +42,7 @@ fn done_told(
 fn done_line(alloc: Global, steps: &[Step], batched: &Batched) -> Result<Row<u8>, Memory>
     ensures { IfOk result (λ line. line ≡ done_line_of steps.now batched.now) }
 {
-    let count = counted(alloc, steps.len() as u64, "step")?;
-    let changed = counted(alloc, batched.changed.as_slice().len() as u64, "file")?;
-    joined(alloc, &[count.as_slice(), b", ", changed.as_slice(), b"\n"])
+    let count = format_count(alloc, steps.len() as u64, "step")?;
+    let changed = format_count(alloc, batched.changed.as_slice().len() as u64, "file")?;
+    join_words(alloc, &[count.as_slice(), b", ", changed.as_slice(), b"\n"])
 }

@@ -116,14 +116,14 @@ fn told_as(command: Command, as_json: bool) -> Result<Asked, WordsError>
     ensures ok { IfOk result (λ asked. asked_for as_json (Some command) ≡ Some asked) }
     ensures usage { result ≡ Err WordsError.Usage → asked_for as_json (Some command) ≡ None }
 {
-    match explained(command) {
+    match find_question(command) {
         Some(question) => Ok(Asked { question, as_json }),
         None => Err(WordsError::Usage),
     }
 }
 
 /// The question of a command of `rotor`, if it is one that is explained.
-fn explained(command: Command) -> Option<Question>
+fn find_question(command: Command) -> Option<Question>
     ensures { result ≡ question_for command }
 {
     match command {

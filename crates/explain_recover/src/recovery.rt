@@ -9,7 +9,7 @@ ghost use Rattle.explain_recover.specs.Recovery.{SaysRecovery, name_line, recove
 
 use apply_journal::{RecoverError, read_recovery};
 use explain::{Ending, Told, bare_told, unloaded_told};
-use messages::{counted, joined};
+use messages::{format_count, join_words};
 use refusal_words::bad_plan;
 use rotor_base::{Memory, Row, SourceFile};
 use std::alloc::Global;
@@ -73,8 +73,8 @@ fn without_last(files: &[SourceFile]) -> &[SourceFile]
 fn recovery_text(alloc: Global, files: &[SourceFile]) -> Result<Row<u8>, Memory>
     ensures { IfOk result (λ text. text ≡ recovery_text_of files.now) }
 {
-    let count = counted(alloc, files.len() as u64, "file")?;
-    let head = joined(
+    let count = format_count(alloc, files.len() as u64, "file")?;
+    let head = join_words(
         alloc,
         &[b"`rotor recover` would write ", count.as_slice(), b"\n"],
     )?;

@@ -6,11 +6,11 @@ ghost use Rattle.explain_verify.specs.Judged.{IsJudged, SaysAnswer, SaysRefused,
 
 use capture_check::Fault;
 use explain::{Ending, Told, bare_told, maybe_told, unloaded_told};
-use messages::{Message, counted, joined, spot_text};
+use messages::{Message, format_count, join_words, spot_text};
 use refusal_places::placed_message;
 use refusal_words::{
-    CutSource, cut_sources, fixed, other_bytes, other_sources, place_spot, renaming_message,
-    word_at,
+    CutSource, cut_sources, explain_fixed, other_bytes, other_sources, place_spot,
+    renaming_message, word_at,
 };
 use rename_steps::refusal_of_fault;
 use rename_verify::{Change, Verdict, Why, verify};
@@ -73,8 +73,8 @@ fn changes_text(
 ) -> Result<Row<u8>, Memory>
     ensures { IfOk result (λ text. text ≡ changes_text_of (map view_cut olds.now) changes.now) }
 {
-    let count = counted(alloc, changes.len() as u64, "change")?;
-    let head = joined(alloc, &[b"a valid renaming: ", count.as_slice(), b"\n"])?;
+    let count = format_count(alloc, changes.len() as u64, "change")?;
+    let head = join_words(alloc, &[b"a valid renaming: ", count.as_slice(), b"\n"])?;
     let mut text = head.into_vec();
     push_changes(alloc, &mut text, olds, changes)?;
     Ok(Row::from_vec(text))
@@ -102,7 +102,7 @@ fn change_line(alloc: Global, olds: &[CutSource<'_>], change: &Change) -> Result
 {
     let spot = place_spot(alloc, olds, change.0)?;
     let at = spot_text(alloc, &spot)?;
-    joined(
+    join_words(
         alloc,
         &[
             at.as_slice(),
@@ -127,7 +127,7 @@ fn why_message(
     match why {
         Why::Sources { name } => Ok(Some(other_sources(alloc, name.as_bytes())?)),
         Why::Bytes { file, offset } => Ok(Some(other_bytes(alloc, news, *file, *offset)?)),
-        Why::Fixed { at } => Ok(Some(fixed(alloc, olds, *at)?)),
+        Why::Fixed { at } => Ok(Some(explain_fixed(alloc, olds, *at)?)),
         Why::Broken(fault) => fault_message(alloc, olds, news, *fault),
     }
 }

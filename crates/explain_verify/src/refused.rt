@@ -3,7 +3,7 @@ ghost use Rattle.std.specs.Prelude.{◌≡◌, IfOk};
 ghost use Rattle.refusal_words.specs.Parts.{bare as bare_of};
 ghost use Rattle.explain_verify.specs.Lists.{double_message as double_message_of, large_message as large_message_of, load_message as load_message_of, manifest_message as manifest_message_of};
 
-use messages::{Kind, Message, Severity, grouped, joined};
+use messages::{Kind, Message, Severity, group_digits, join_words};
 use refusal_words::too_many;
 use rotor_base::{LoadError, Memory, Row};
 use std::alloc::Global;
@@ -25,31 +25,31 @@ pub(crate) fn load_message(alloc: Global, error: &LoadError) -> Result<Option<Me
 fn large_message(alloc: Global, file: &[u8]) -> Result<Message, Memory>
     ensures { IfOk result (λ message. message ≡ large_message_of file.now) }
 {
-    let text = joined(
+    let text = join_words(
         alloc,
         &[
             file,
             b" has more than 1,048,576 bytes, or with it the sources have more than 8,388,608 bytes",
         ],
     )?;
-    Ok(bare(alloc, Kind::TooLarge, text, None))
+    Ok(make_error(alloc, Kind::TooLarge, text, None))
 }
 
 /// The message of a unit that two files make.
 fn double_message(alloc: Global, unit: &[u8]) -> Result<Message, Memory>
     ensures { IfOk result (λ message. message ≡ double_message_of unit.now) }
 {
-    let text = joined(alloc, &[b"two files make the unit `", unit, b"`"])?;
+    let text = join_words(alloc, &[b"two files make the unit `", unit, b"`"])?;
     let help = Row::from_vec(b"rename or move one of them".to_vec(alloc)?);
-    Ok(bare(alloc, Kind::DoubleUnit, text, Some(help)))
+    Ok(make_error(alloc, Kind::DoubleUnit, text, Some(help)))
 }
 
 /// The message of a manifest that has a bad line, or none for a unit.
 fn manifest_message(alloc: Global, line: u32) -> Result<Message, Memory>
     ensures { IfOk result (λ message. message ≡ manifest_message_of line) }
 {
-    let number = grouped(alloc, u64::from(line))?;
-    let text = joined(
+    let number = group_digits(alloc, u64::from(line))?;
+    let text = join_words(
         alloc,
         &[
             b"line ",
@@ -58,11 +58,11 @@ fn manifest_message(alloc: Global, line: u32) -> Result<Message, Memory>
         ],
     )?;
     let help = Row::from_vec(b"each unit of the folder stands on one line".to_vec(alloc)?);
-    Ok(bare(alloc, Kind::BadManifest, text, Some(help)))
+    Ok(make_error(alloc, Kind::BadManifest, text, Some(help)))
 }
 
 /// An error without a place.
-fn bare(alloc: Global, kind: Kind, text: Row<u8>, help: Option<Row<u8>>) -> Message
+fn make_error(alloc: Global, kind: Kind, text: Row<u8>, help: Option<Row<u8>>) -> Message
     ensures { result ≡ bare_of kind text help }
 {
     Message {

@@ -64,14 +64,14 @@ pub fn expression(
             group(alloc, found, &values)?;
             let_part(alloc, found, file, first, *recursive, &values, scope)?;
             let_parts(alloc, found, file, rest, *recursive, &values, scope)?;
-            under(alloc, found, file, body, &values, scope)
+            resolve_under(alloc, found, file, body, &values, scope)
         },
         Expr::LetOpen {
             open,
             path,
             body,
             ..
-        } => opened(alloc, found, file, *open, &path.words, body, scope),
+        } => resolve_opened(alloc, found, file, *open, &path.words, body, scope),
         Expr::LetModule {
             module,
             name,
@@ -86,7 +86,7 @@ pub fn expression(
             };
             weighed_site(found, at, &shape)?;
             let entries = module_entry(alloc, name, shape)?;
-            under(alloc, found, file, body, &entries, scope)
+            resolve_under(alloc, found, file, body, &entries, scope)
         },
         Expr::Fun { params, body, .. } => {
             let len = scope.len();
@@ -136,7 +136,7 @@ pub fn expression(
             expression(alloc, found, file, test, scope)?;
             expression(alloc, found, file, then, scope)?;
             branches(alloc, found, file, more, scope)?;
-            optional(alloc, found, file, otherwise, scope)
+            resolve_optional(alloc, found, file, otherwise, scope)
         },
         Expr::Assign { first, rest } => {
             expression(alloc, found, file, first, scope)?;
@@ -195,12 +195,12 @@ pub fn expression(
             rest,
             ..
         } => {
-            optional(alloc, found, file, base, scope)?;
+            resolve_optional(alloc, found, file, base, scope)?;
             field(alloc, found, file, first, scope)?;
             more_fields(alloc, found, file, rest, scope)
         },
         Expr::Opened { path, body } => {
-            opened(
+            resolve_opened(
                 alloc,
                 found,
                 file,
@@ -224,7 +224,7 @@ pub fn expression(
             expression(alloc, found, file, from, scope)?;
             expression(alloc, found, file, to, scope)?;
             let values = variable_group(alloc, found, file, variable)?;
-            under(alloc, found, file, body, &values, scope)
+            resolve_under(alloc, found, file, body, &values, scope)
         },
     }
 }
@@ -232,7 +232,7 @@ pub fn expression(
 /// An optional expression.
 #[cycle(expressions)]
 #[tactic(auto, using(binding_model::proofs::Takings::heavy_stays))]
-fn optional(
+fn resolve_optional(
     alloc: Global,
     found: &mut Found,
     file: u32,
@@ -252,7 +252,7 @@ fn optional(
 /// An expression in a scope that goes on with more entries.
 #[cycle(expressions)]
 #[tactic(auto, using(crate::proofs::Fronts::front_of_front, binding_model::proofs::Takings::heavy_stays))]
-fn under(
+fn resolve_under(
     alloc: Global,
     found: &mut Found,
     file: u32,
@@ -498,7 +498,7 @@ fn case(
     let values = pattern_group(alloc, found, file, &part.pat)?;
     let len = scope.len();
     go_on_with(alloc, scope, &values)?;
-    let done = guarded(alloc, found, file, part, scope);
+    let done = resolve_guarded(alloc, found, file, part, scope);
     scope.cut(len);
     done
 }
@@ -621,7 +621,7 @@ fn parameter(
 /// An expression in the scope that an opening of a module gives. The site ends before the expression.
 #[cycle(expressions)]
 #[tactic(auto, using(binding_model::proofs::Takings::heavy_stays))]
-fn opened(
+fn resolve_opened(
     alloc: Global,
     found: &mut Found,
     file: u32,
@@ -636,13 +636,13 @@ fn opened(
 {
     let at = Place { file, token };
     let entries = opening(alloc, found, path, at, scope)?;
-    under(alloc, found, file, e, &entries, scope)
+    resolve_under(alloc, found, file, e, &entries, scope)
 }
 
 /// The guard and the body of a case.
 #[cycle(expressions)]
 #[tactic(auto, using(binding_model::proofs::Takings::heavy_stays))]
-fn guarded(
+fn resolve_guarded(
     alloc: Global,
     found: &mut Found,
     file: u32,
@@ -653,7 +653,7 @@ fn guarded(
     ensures heavy { HasStopped result found.old (maybe_steps file (entries_of scope.old) (maybe part.now.guard) ⨾ expr_steps file (entries_of scope.old) (view part.now.body)) }
     ensures scope { scope.new ≡ scope.old }
 {
-    optional(alloc, found, file, &part.guard, scope)?;
+    resolve_optional(alloc, found, file, &part.guard, scope)?;
     expression(alloc, found, file, &part.body, scope)
 }
 
@@ -685,7 +685,8 @@ pub fn let_part(
     }
 }
 
-/// Several parts of a `let`, as for [`let_part`].
+/// Several parts of a `let`, in order, as for [`let_part`]. The errors are `Heavy`, at the first site that is too
+/// heavy, and `Memory`.
 #[cycle(expressions)]
 #[tactic(auto, using(crate::proofs::Fronts::front_of_front, binding_model::proofs::Takings::heavy_stays))]
 pub fn let_parts(

@@ -19,11 +19,11 @@ pub(crate) fn double_message(
 ) -> Result<Option<Message>, Memory>
     ensures { IfOk result (λ message. message ≡ double_message_of (map string_bytes names.now) unit.now) }
 {
-    let bodies = twins(alloc, names, unit, true)?;
+    let bodies = list_twins(alloc, names, unit, true)?;
     if let [first, second, ..] = bodies.as_slice() {
         return Ok(Some(double_unit(alloc, first.as_bytes(), second.as_bytes(), unit)?));
     }
-    let faces = twins(alloc, names, unit, false)?;
+    let faces = list_twins(alloc, names, unit, false)?;
     if let [first, second, ..] = faces.as_slice() {
         return Ok(Some(double_unit(alloc, first.as_bytes(), second.as_bytes(), unit)?));
     }
@@ -31,7 +31,12 @@ pub(crate) fn double_message(
 }
 
 /// The names among some that make a unit and are of one kind.
-fn twins(alloc: Global, names: &[String], unit: &[u8], is_body: bool) -> Result<Vec<String>, Memory>
+fn list_twins(
+    alloc: Global,
+    names: &[String],
+    unit: &[u8],
+    is_body: bool,
+) -> Result<Vec<String>, Memory>
     ensures { IfOk result (λ found. map string_bytes found.items ≡ twins_of (map string_bytes names.now) unit.now is_body) }
 {
     let mut found = Vec::new(alloc);

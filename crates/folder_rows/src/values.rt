@@ -42,7 +42,7 @@ fn value_answer(alloc: Global, row: &[&str]) -> Result<String, Memory> {
 }
 
 /// What a row about a folder that is refused prints.
-fn refused(alloc: Global, why: Refusal) -> Result<String, Memory> {
+fn describe_refusal(alloc: Global, why: Refusal) -> Result<String, Memory> {
     match why {
         Refusal::Memory => Err(Memory),
         _ => Ok(String::from_str(alloc, "the folder is refused")?),

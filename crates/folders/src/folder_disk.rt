@@ -102,12 +102,12 @@ impl<'a, R: Files<File = File>> Disk for FolderDisk<'a, R> {
 
     fn look(&mut self, name: &str) -> io::Result<Found> {
         self.find(name)?;
-        found(self.rt.symlink_metadata(self.place.as_str()))
+        read_metadata(self.rt.symlink_metadata(self.place.as_str()))
     }
 
     fn follow(&mut self, name: &str) -> io::Result<Found> {
         self.find(name)?;
-        found(self.rt.metadata(self.place.as_str()))
+        read_metadata(self.rt.metadata(self.place.as_str()))
     }
 
     fn open(&mut self, name: &str) -> io::Result<File> {
@@ -152,7 +152,7 @@ impl<'a, R: Files<File = File>> Disk for FolderDisk<'a, R> {
 }
 
 /// What the system's answer says of a name.
-fn found(answer: io::Result<Metadata>) -> io::Result<Found> {
+fn read_metadata(answer: io::Result<Metadata>) -> io::Result<Found> {
     match answer {
         Ok(metadata) => Ok(kind_of(&metadata)),
         Err(error) if error.kind() == ErrorKind::NotFound => Ok(Found::Missing),

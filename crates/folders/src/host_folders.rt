@@ -29,6 +29,6 @@ impl<'a, R: Files<File = File>> Folders for HostFolders<'a, R> {
 
     fn folder(&self, alloc: Global, path: &str) -> Result<Self::Folder, Memory> {
         let disk = FolderDisk::new(alloc, self.rt, path)?;
-        Ok(HostTree::over(alloc, disk))
+        Ok(HostTree::from_disk(alloc, disk))
     }
 }

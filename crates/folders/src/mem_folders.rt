@@ -33,7 +33,7 @@ impl MemFolders {
     }
 
     /// The folder with this path.
-    fn at(&self, path: &str) -> Option<&MemFolder>
+    fn find_folder(&self, path: &str) -> Option<&MemFolder>
         ensures found { IfSome result (λ folder. folder.now.files.items ≡ files_at path.now (mem_folders self.now)) }
         ensures none { IfNone result (files_at path.now (mem_folders self.now) ≡ []) }
     {
@@ -54,9 +54,9 @@ impl Folders for MemFolders {
     ghost content = { λ folders path. Some (source_map (files_at path (mem_folders folders))) };
 
     fn folder(&self, alloc: Global, path: &str) -> Result<MemTree, Memory> {
-        match self.at(path) {
+        match self.find_folder(path) {
             Some(folder) => {
-                let files = copied(alloc, &folder.files)?;
+                let files = copy_all(alloc, &folder.files)?;
                 MemTree::new(alloc, files, Vec::new(alloc))
             }
             None => missing_folder(alloc),
@@ -73,7 +73,7 @@ fn missing_folder(alloc: Global) -> Result<MemTree, Memory>
 }
 
 /// The same files.
-fn copied(alloc: Global, files: &[SourceFile]) -> Result<Vec<SourceFile>, Memory>
+fn copy_all(alloc: Global, files: &[SourceFile]) -> Result<Vec<SourceFile>, Memory>
     ensures { IfOk result (λ copies. copies.items ≡ files.now) }
 {
     let mut copies = Vec::new(alloc);

@@ -64,12 +64,12 @@ pub fn looks_in(found: Found) -> Result<Looks, Memory>
 {
     let Found { recorder, .. } = found;
     match recorder {
-        Some(Recorder { looks, .. }) => sorted(looks),
+        Some(Recorder { looks, .. }) => sort_looks(looks),
         None => Err(Memory),
     }
 }
 
-fn sorted(looks: Looks) -> Result<Looks, Memory>
+fn sort_looks(looks: Looks) -> Result<Looks, Memory>
     ensures { IfOk result (λ sorted. sorted ≡ record looks { refs = in_order (λ look. look.at) looks.refs }) }
 {
     let Looks {

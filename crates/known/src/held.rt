@@ -13,7 +13,7 @@ pub(crate) struct Held {
 
 impl Held {
     /// A file that was not read.
-    pub(crate) fn unread(alloc: Global) -> Self
+    pub(crate) fn make_unread(alloc: Global) -> Self
         ensures bytes { result.bytes.items ≡ [] }
         ensures limit { result.limit ≡ 0 }
     {

@@ -26,17 +26,17 @@ pub fn see_names<T: Tree>(alloc: Global, tree: &mut T) -> Result<Seen, TreeError
     ensures content { T.content tree.new ≡ T.content tree.old }
 {
     let names = tree.list(alloc)?;
-    Ok(unread(alloc, names)?)
+    Ok(list_unread(alloc, names)?)
 }
 
 /// Files of these names, none of which was read.
-fn unread(alloc: Global, names: Vec<String>) -> Result<Seen, Memory>
+fn list_unread(alloc: Global, names: Vec<String>) -> Result<Seen, Memory>
     ensures names { IfOk result (λ seen. (name : List ℕ) → is_some (get (seen_files seen) name) ≡ list_any (bytes_eq name) (map string_bytes names.items)) }
     ensures nothing { IfOk result (λ seen. (name : List ℕ) (limit : ℕ) → IsRead seen name limit → limit ≡ 0) }
 {
     let mut seen = Seen::new(alloc);
     for name in names {
-        seen.set(name, Held::unread(alloc))?;
+        seen.set(name, Held::make_unread(alloc))?;
     }
     Ok(seen)
 }

@@ -4,8 +4,8 @@ ghost use Rattle.messages.specs.Excerpt.{carets_of, excerpt_of, last_of, line_of
 
 use crate::parts::Spot;
 use crate::span::front;
-use crate::terminal::{characters, first, safe_text};
-use crate::words::joined;
+use crate::terminal::{characters, safe_text, take_first};
+use crate::words::join_words;
 use report::number_text;
 use rotor_base::{Memory, Row};
 use std::alloc::Global;
@@ -38,13 +38,13 @@ fn lines(
 ) -> Result<Row<u8>, Memory>
     ensures { IfOk result (λ text. text ≡ lines_of line before.now behind.now marked) }
 {
-    let head = last(before, BEFORE);
-    let tail = first(behind, WIDTH - head.len());
+    let head = take_last(before, BEFORE);
+    let tail = take_first(behind, WIDTH - head.len());
     let is_cut = head.len() < before.len();
-    let number = numbered(alloc, line)?;
+    let number = pad_number(alloc, line)?;
     let shown = line_text(alloc, is_cut, head, tail, tail.len() < behind.len())?;
     let carets = caret_text(alloc, is_cut, head, marked.min(tail.len()))?;
-    joined(
+    join_words(
         alloc,
         &[
             number.as_slice(),
@@ -58,16 +58,16 @@ fn lines(
 }
 
 /// The number of a line, in five columns at least.
-fn numbered(alloc: Global, line: u32) -> Result<Row<u8>, Memory>
+fn pad_number(alloc: Global, line: u32) -> Result<Row<u8>, Memory>
     ensures { IfOk result (λ text. text ≡ numbered line) }
 {
     let digits = number_text(alloc, u64::from(line))?;
     let blanks = vec![in alloc; b' '; NUMBER_WIDTH.saturating_sub(digits.as_slice().len())]?;
-    joined(alloc, &[&blanks, digits.as_slice()])
+    join_words(alloc, &[&blanks, digits.as_slice()])
 }
 
 /// The last characters, at most so many.
-fn last(list: &[char], len: usize) -> &[char]
+fn take_last(list: &[char], len: usize) -> &[char]
     ensures last { result.now ≡ last_of list.now len }
     ensures few { length result.now ≤ len }
 {
@@ -109,7 +109,7 @@ fn caret_text(alloc: Global, is_cut: bool, head: &[char], width: usize) -> Resul
 {
     let blanks = blanks_under(alloc, head)?;
     let carets = vec![in alloc; b'^'; width.max(1)]?;
-    joined(alloc, &[margin(is_cut).as_bytes(), &blanks, &carets])
+    join_words(alloc, &[margin(is_cut).as_bytes(), &blanks, &carets])
 }
 
 /// The blanks under the dots where a line is cut.

@@ -43,7 +43,7 @@ pub enum Kind {
     Comment,
 }
 
-/// The word of a kind.
+/// The word that a message prints for its kind, as `toomany`. It takes no memory.
 pub fn kind_text(kind: Kind) -> &'static str
     ensures { result.now ≡ kind_text_of kind }
 {

@@ -18,5 +18,5 @@ pub use laws::shown_characters_are_safe;
 pub use parts::{Message, Note, Severity, Spot};
 pub use printed::{push_message, spot_text};
 pub use span::spot_in;
-pub use terminal::{shown, shown_word};
-pub use words::{counted, grouped, joined};
+pub use terminal::{show_bytes, shown_word};
+pub use words::{format_count, group_digits, join_words};

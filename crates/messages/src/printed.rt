@@ -7,8 +7,8 @@ ghost use Rattle.messages.specs.Kind.{kind_text as kind_text_of};
 use crate::excerpt::excerpt;
 use crate::kinds::kind_text;
 use crate::parts::{Message, Note, Severity, Spot};
-use crate::terminal::shown;
-use crate::words::joined;
+use crate::terminal::show_bytes;
+use crate::words::join_words;
 use report::{number_text, push_line};
 use rotor_base::{Memory, Row};
 use std::alloc::Global;
@@ -19,7 +19,7 @@ pub fn spot_text(alloc: Global, spot: &Spot) -> Result<Row<u8>, Memory>
 {
     let line = number_text(alloc, u64::from(spot.line))?;
     let column = number_text(alloc, u64::from(spot.column))?;
-    joined(
+    join_words(
         alloc,
         &[
             spot.file.as_slice(),
@@ -154,8 +154,8 @@ fn push_excerpt(alloc: Global, text: &mut Vec<u8>, spot: &Spot) -> Result<(), Me
 fn push_safe(alloc: Global, text: &mut Vec<u8>, words: &[&[u8]]) -> Result<(), Memory>
     ensures { OnOk result (text.new.items ≡ text.old.items ++ safe_line (map (λ word. word.now) words.now)) }
 {
-    let line = joined(alloc, words)?;
-    let line = shown(alloc, line.as_slice())?;
+    let line = join_words(alloc, words)?;
+    let line = show_bytes(alloc, line.as_slice())?;
     push_line(text, &[line.as_slice()])
 }
 

@@ -2,7 +2,7 @@
 ghost use Rattle.std.specs.Prelude.{◌≡◌, IfOk, string_bytes, take};
 ghost use Rattle.messages.specs.Shown.{characters_of, hides, safe as safe_of, safe_bytes, shown_of, shown_word_of};
 
-use crate::words::joined;
+use crate::words::join_words;
 use rotor_base::{Memory, Row};
 use std::alloc::Global;
 
@@ -38,7 +38,7 @@ fn is_hidden(character: char) -> bool
 }
 
 /// What a terminal gets for a character.
-fn safe(character: char) -> char
+fn show_character(character: char) -> char
     ensures { result ≡ safe_of character }
 {
     if is_hidden(character) { '?' } else { character }
@@ -51,20 +51,20 @@ pub(crate) fn safe_text(alloc: Global, characters: &[char]) -> Result<String, Me
     Ok(
         characters
             .iter()
-            .map(|character| safe(*character))
+            .map(|character| show_character(*character))
             .collect(alloc)?,
     )
 }
 
 /// The first characters, at most so many.
-pub(crate) fn first(list: &[char], len: usize) -> &[char]
+pub(crate) fn take_first(list: &[char], len: usize) -> &[char]
     ensures { result.now ≡ take len list.now }
 {
     if len < list.len() { &list[..len] } else { list }
 }
 
 /// What a terminal gets for some bytes. The one error is want of memory.
-pub fn shown(alloc: Global, bytes: &[u8]) -> Result<Row<u8>, Memory>
+pub fn show_bytes(alloc: Global, bytes: &[u8]) -> Result<Row<u8>, Memory>
     ensures { IfOk result (λ text. text ≡ shown_of bytes.now) }
 {
     let characters = characters(alloc, bytes)?;
@@ -82,6 +82,6 @@ pub fn shown_word(alloc: Global, word: &[u8]) -> Result<Row<u8>, Memory>
         let text = safe_text(alloc, &characters)?;
         return Ok(Row::from_vec(text.into_bytes()));
     }
-    let text = safe_text(alloc, first(&characters, CUT_WORD))?;
-    joined(alloc, &[text.as_bytes(), b"..."])
+    let text = safe_text(alloc, take_first(&characters, CUT_WORD))?;
+    join_words(alloc, &[text.as_bytes(), b"..."])
 }

@@ -8,7 +8,7 @@ use rotor_base::{Memory, Row};
 use std::alloc::Global;
 
 /// Some words, one directly behind the other. The one error is want of memory.
-pub fn joined(alloc: Global, words: &[&[u8]]) -> Result<Row<u8>, Memory>
+pub fn join_words(alloc: Global, words: &[&[u8]]) -> Result<Row<u8>, Memory>
     ensures { IfOk result (λ bytes. bytes ≡ join (map (λ word. word.now) words.now)) }
 {
     let mut bytes = Vec::new(alloc);
@@ -19,7 +19,7 @@ pub fn joined(alloc: Global, words: &[&[u8]]) -> Result<Row<u8>, Memory>
 }
 
 /// A number in decimal with a comma before each group of three digits. The one error is want of memory.
-pub fn grouped(alloc: Global, number: u64) -> Result<Row<u8>, Memory>
+pub fn group_digits(alloc: Global, number: u64) -> Result<Row<u8>, Memory>
     ensures { IfOk result (λ text. text ≡ grouped_of number) }
 {
     let digits = number_text(alloc, number)?;
@@ -45,10 +45,10 @@ fn add_grouped(text: &mut Vec<u8>, digits: &[u8]) -> Result<(), Memory>
 }
 
 /// A number of things: the number, and the word with an `s` if there is not just one. The one error is want of memory.
-pub fn counted(alloc: Global, number: u64, word: &str) -> Result<Row<u8>, Memory>
+pub fn format_count(alloc: Global, number: u64, word: &str) -> Result<Row<u8>, Memory>
     ensures { IfOk result (λ text. text ≡ counted_of number word.now) }
 {
-    let digits = grouped(alloc, number)?;
+    let digits = group_digits(alloc, number)?;
     with_ending(alloc, digits.as_slice(), word, ending(number))
 }
 
@@ -61,7 +61,7 @@ fn with_ending<'a>(
 ) -> Result<Row<u8>, Memory>
     ensures { IfOk result (λ text. text ≡ join (number.entry.now ∷ codes " " ∷ word.entry.now ∷ ending.entry.now ∷ [])) }
 {
-    joined(alloc, &[number, b" ", word.as_bytes(), ending.as_bytes()])
+    join_words(alloc, &[number, b" ", word.as_bytes(), ending.as_bytes()])
 }
 
 /// The ending of the word for a number of things.

@@ -16,11 +16,11 @@ use binding_model::Found;
 use expr_resolve::{expression, let_part, let_parts};
 use ml_trees::{FunctorParam, Item, ModArgument, ModExpr, ModType, SigItem};
 use module_entries::{
-    Added, append, declared, functor_from, functor_of, module_site, named_module, no_param,
-    nothing, opened, param_entries, shown, token_of, type_at, type_entry, type_start,
+    Added, add_nothing, add_opened, add_shown, append, declare_value, functor_from, functor_of,
+    module_site, named_module, no_param, param_entries, token_of, type_at, type_entry, type_start,
 };
 use resolve_base::{go_on_with, group, matched, opening, weighed_site};
-use resolve_parts::{applied, apply, apply_to_nothing, let_values, module_entry, shape_at};
+use resolve_parts::{apply, apply_to_nothing, let_values, module_entry, shape_at, share_result};
 use rotor_base::Place;
 use shape_core::{FactError, Scope, Shared, SharedEntry, bring, make_functor, make_struct};
 use std::alloc::Global;
@@ -130,7 +130,7 @@ fn application(
         }
         ModArgument::Nothing { .. } => apply_to_nothing(alloc, found, function)?,
     }
-    Ok(applied(alloc, function)?)
+    Ok(share_result(alloc, function)?)
 }
 
 /// Parameters of a functor, each in the scope of those before it, with the shapes of those that have one. The scope
@@ -197,7 +197,8 @@ fn functor_param(
     }
 }
 
-/// The shape of a module type in its scope, as for [`module`].
+/// The shape of a module type in its scope. After an `Ok` the scope is as it was. The errors are `Heavy`, at the first
+/// site that is too heavy, and `Memory`.
 #[cycle(modules)]
 #[tactic(auto, using(ml_trees::proofs::Variants::mod_type_views, module_entries::proofs::Parameters::given_so, expr_resolve::proofs::Fronts::front_of_front, binding_model::proofs::Takings::heavy_stays))]
 pub fn module_type(
@@ -271,7 +272,8 @@ fn optional_type(
     }
 }
 
-/// The entries of a structure, whose scope ends with it.
+/// The entries of a structure. After an `Ok` the scope is as it was. The errors are `Heavy`, at the first site that is
+/// too heavy, and `Memory`.
 #[cycle(modules)]
 #[tactic(auto, using(binding_model::proofs::Takings::heavy_stays))]
 pub fn structure(
@@ -318,7 +320,8 @@ fn all_items(
     Ok(made)
 }
 
-/// The entries of a signature, whose scope ends with it.
+/// The entries of a signature. After an `Ok` the scope is as it was. The errors are `Heavy`, at the first site that is
+/// too heavy, and `Memory`.
 #[cycle(modules)]
 #[tactic(auto, using(binding_model::proofs::Takings::heavy_stays))]
 pub fn signature(
@@ -384,9 +387,9 @@ fn item(
     match part {
         Item::Expression(e) => {
             expression(alloc, found, file, e, scope)?;
-            Ok(nothing(alloc))
+            Ok(add_nothing(alloc))
         }
-        Item::Separator => Ok(nothing(alloc)),
+        Item::Separator => Ok(add_nothing(alloc)),
         Item::Value {
             recursive,
             first,
@@ -397,11 +400,14 @@ fn item(
             group(alloc, found, &values)?;
             let_part(alloc, found, file, first, *recursive, &values, scope)?;
             let_parts(alloc, found, file, rest, *recursive, &values, scope)?;
-            Ok(shown(alloc, values))
+            Ok(add_shown(alloc, values))
         }
-        Item::External(external) => Ok(shown(alloc, declared(alloc, file, &external.name)?)),
-        Item::Type(_) => Ok(nothing(alloc)),
-        Item::Exception { .. } => Ok(nothing(alloc)),
+        Item::External(external) => Ok(add_shown(
+            alloc,
+            declare_value(alloc, file, &external.name)?,
+        )),
+        Item::Type(_) => Ok(add_nothing(alloc)),
+        Item::Exception { .. } => Ok(add_nothing(alloc)),
         Item::Module {
             at,
             name,
@@ -417,7 +423,7 @@ fn item(
             scope.cut(len);
             let at = Place { file, token: *at };
             let shape = module_site(alloc, found, at, given, source, target)?;
-            Ok(shown(alloc, named_module(alloc, name, shape)?))
+            Ok(add_shown(alloc, named_module(alloc, name, shape)?))
         }
         Item::ModuleType {
             at,
@@ -427,7 +433,7 @@ fn item(
         } => {
             let shape = module_type(alloc, found, file, signature, scope)?;
             weighed_site(found, Place { file, token: *at }, &shape)?;
-            Ok(shown(alloc, type_entry(alloc, name, shape)?))
+            Ok(add_shown(alloc, type_entry(alloc, name, shape)?))
         }
         Item::Open(open) => {
             let at = Place {
@@ -435,13 +441,13 @@ fn item(
                 token: open.at,
             };
             let entries = opening(alloc, found, &open.path.words, at, scope)?;
-            Ok(opened(alloc, entries))
+            Ok(add_opened(alloc, entries))
         }
         Item::Include { at, module: m } => {
             let shape = module(alloc, found, file, m, scope)?;
             let at = Place { file, token: *at };
             weighed_site(found, at, &shape)?;
-            Ok(shown(alloc, bring(alloc, Some(&shape), at)?))
+            Ok(add_shown(alloc, bring(alloc, Some(&shape), at)?))
         }
     }
 }
@@ -463,11 +469,14 @@ fn sig_item(
     ensures scope { IfOk result (λ _. scope.new ≡ scope.old) }
 {
     match part {
-        SigItem::SigSeparator => Ok(nothing(alloc)),
-        SigItem::Val { name, .. } => Ok(shown(alloc, declared(alloc, file, name)?)),
-        SigItem::SigExternal(external) => Ok(shown(alloc, declared(alloc, file, &external.name)?)),
-        SigItem::SigType(_) => Ok(nothing(alloc)),
-        SigItem::SigException { .. } => Ok(nothing(alloc)),
+        SigItem::SigSeparator => Ok(add_nothing(alloc)),
+        SigItem::Val { name, .. } => Ok(add_shown(alloc, declare_value(alloc, file, name)?)),
+        SigItem::SigExternal(external) => Ok(add_shown(
+            alloc,
+            declare_value(alloc, file, &external.name)?,
+        )),
+        SigItem::SigType(_) => Ok(add_nothing(alloc)),
+        SigItem::SigException { .. } => Ok(add_nothing(alloc)),
         SigItem::SigModule {
             at,
             name,
@@ -480,12 +489,12 @@ fn sig_item(
             scope.cut(len);
             let shape = functor_from(alloc, given, shape)?;
             weighed_site(found, Place { file, token: *at }, &shape)?;
-            Ok(shown(alloc, named_module(alloc, name, shape)?))
+            Ok(add_shown(alloc, named_module(alloc, name, shape)?))
         }
         SigItem::Alias { at, name, path, .. } => {
             let shape = shape_at(alloc, &path.words, scope)?;
             weighed_site(found, Place { file, token: *at }, &shape)?;
-            Ok(shown(alloc, module_entry(alloc, name, shape)?))
+            Ok(add_shown(alloc, module_entry(alloc, name, shape)?))
         }
         SigItem::SigModuleType {
             at,
@@ -495,7 +504,7 @@ fn sig_item(
         } => {
             let shape = module_type(alloc, found, file, signature, scope)?;
             weighed_site(found, Place { file, token: *at }, &shape)?;
-            Ok(shown(alloc, type_entry(alloc, name, shape)?))
+            Ok(add_shown(alloc, type_entry(alloc, name, shape)?))
         }
         SigItem::SigOpen(open) => {
             let at = Place {
@@ -503,13 +512,13 @@ fn sig_item(
                 token: open.at,
             };
             let entries = opening(alloc, found, &open.path.words, at, scope)?;
-            Ok(opened(alloc, entries))
+            Ok(add_opened(alloc, entries))
         }
         SigItem::SigInclude { at, signature } => {
             let shape = module_type(alloc, found, file, signature, scope)?;
             let at = Place { file, token: *at };
             weighed_site(found, at, &shape)?;
-            Ok(shown(alloc, bring(alloc, Some(&shape), at)?))
+            Ok(add_shown(alloc, bring(alloc, Some(&shape), at)?))
         }
     }
 }

@@ -90,14 +90,14 @@ fn unit_parts(
 
 /// Matches a body with its interface, and pins an interface alone. The result is the unit's shape. `Memory` is the only
 /// error.
-fn joined(alloc: Global, found: &mut Found, parts: Parts) -> Result<Shared, Memory>
+fn join_parts(alloc: Global, found: &mut Found, parts: Parts) -> Result<Shared, Memory>
     ensures taken { OnOk result (taken (Going found.old) (joined_steps parts.body parts.face) ≡ Going found.new) }
     ensures shape { IfOk result (λ shape. shape ≡ joined_shape parts.body parts.face) }
 {
     let Parts { body, face } = parts;
     match face {
         Some(face) => {
-            met(alloc, found, body, &face)?;
+            match_or_pin(alloc, found, body, &face)?;
             Ok(face)
         }
         None => match body {
@@ -108,7 +108,12 @@ fn joined(alloc: Global, found: &mut Found, parts: Parts) -> Result<Shared, Memo
 }
 
 /// Matches a body, if there is one, with an interface, and pins an interface alone. `Memory` is the only error.
-fn met(alloc: Global, found: &mut Found, body: Option<Shared>, face: &Shared) -> Result<(), Memory>
+fn match_or_pin(
+    alloc: Global,
+    found: &mut Found,
+    body: Option<Shared>,
+    face: &Shared,
+) -> Result<(), Memory>
     ensures { OnOk result (taken (Going found.old) (joined_steps body (Some face.now)) ≡ Going found.new) }
 {
     match body {
@@ -154,7 +159,7 @@ fn unit(
     ensures scope { IfOk result (λ _. scope.new ≡ scope.old) }
 {
     let parts = unit_parts(alloc, found, tree, scope)?;
-    let shape = joined(alloc, found, parts)?;
+    let shape = join_parts(alloc, found, parts)?;
     let at = Place {
         file: last_file(tree),
         token: 1,

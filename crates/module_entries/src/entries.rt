@@ -22,7 +22,7 @@ pub struct Added {
 }
 
 /// An item that adds nothing.
-pub fn nothing(alloc: Global) -> Added
+pub fn add_nothing(alloc: Global) -> Added
     ensures shown { result.shown.items ≡ [] }
     ensures opened { result.opened.items ≡ [] }
 {
@@ -33,7 +33,7 @@ pub fn nothing(alloc: Global) -> Added
 }
 
 /// An item that adds these entries.
-pub fn shown(alloc: Global, entries: Vec<SharedEntry>) -> Added
+pub fn add_shown(alloc: Global, entries: Vec<SharedEntry>) -> Added
     ensures shown { result.shown.items ≡ entries.items }
     ensures opened { result.opened.items ≡ [] }
 {
@@ -44,7 +44,7 @@ pub fn shown(alloc: Global, entries: Vec<SharedEntry>) -> Added
 }
 
 /// An item that opens these entries.
-pub fn opened(alloc: Global, entries: Vec<SharedEntry>) -> Added
+pub fn add_opened(alloc: Global, entries: Vec<SharedEntry>) -> Added
     ensures shown { result.shown.items ≡ [] }
     ensures opened { result.opened.items ≡ entries.items }
 {
@@ -65,7 +65,7 @@ pub fn append(made: &mut Vec<SharedEntry>, entries: Vec<SharedEntry>) -> Result<
 }
 
 /// The value that a `val` or an `external` declares. `Memory` is the only error.
-pub fn declared(alloc: Global, file: u32, name: &ValueName) -> Result<Vec<SharedEntry>, Memory>
+pub fn declare_value(alloc: Global, file: u32, name: &ValueName) -> Result<Vec<SharedEntry>, Memory>
     ensures { IfOk result (λ v. entries_of v.items ≡ bound file (name_sites [] true (view_name name.now))) }
 {
     let mut values = Vec::new(alloc);

@@ -65,7 +65,8 @@ pub fn param_entries(
     }
 }
 
-/// Ends the site of a parameter `()`, whose `(` is `paren`.
+/// Ends the site of a parameter `()`, whose `(` is `paren`: its shape is Opaque. The errors are `Heavy`, at this site,
+/// and `Memory`.
 pub fn no_param(alloc: Global, found: &mut Found, file: u32, paren: u32) -> Result<(), FactError>
     ensures taken { HasTaken result found.old found.new (WeighedSite (here file (suc paren)) Opaque) }
     ensures heavy { HasStopped result found.old (WeighedSite (here file (suc paren)) Opaque) }
@@ -97,7 +98,8 @@ fn seal(
     }
 }
 
-/// Seals a module, makes the functor with its parameters, and ends the site of its item.
+/// Seals a module, makes the functor with its parameters, and ends the site of its item. The errors are `Heavy`, at
+/// this site, and `Memory`.
 #[tactic(auto, using(binding_model::proofs::Takings::heavy_stays))]
 pub fn module_site(
     alloc: Global,

@@ -5,7 +5,8 @@ mod entries;
 mod functors;
 
 pub use entries::{
-    Added, append, declared, named_module, nothing, opened, shown, token_of, type_entry,
+    Added, add_nothing, add_opened, add_shown, append, declare_value, named_module, token_of,
+    type_entry,
 };
 pub use functors::{
     functor_from, functor_of, module_site, no_param, param_entries, type_at, type_start,

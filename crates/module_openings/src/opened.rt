@@ -11,7 +11,7 @@ use crate::lexemes::{begins_nest, ends_nest, is_upper, is_word};
 use crate::name_list::NameList;
 use crate::names::{Linked, Meant, Names, is_meant, push_declared, push_modules, push_types};
 use crate::opening::{Opening, Site};
-use crate::openings::{behind_head, brings, ends, opening_at, opens_outside, skipped};
+use crate::openings::{behind_head, brings, count_skipped, ends, opening_at, opens_outside};
 use crate::sources::file_number;
 use ml_trees::{FileTree, UnitTree};
 use rotor_base::{Memory, Name, Place, Token};
@@ -203,7 +203,7 @@ fn add_uses_of<'a, 'b>(
     let mut seen = NameList::new(alloc);
     let mut depth = 0;
     let mut last = token;
-    let mut number = site.at.token + 1 + skipped(site.opening, behind);
+    let mut number = site.at.token + 1 + count_skipped(site.opening, behind);
     let mut rest = behind_head(site.opening, behind);
     while let [token, behind @ ..] = rest {
         if ends(meant, &inner, site.opening, depth, last, token, behind) {

@@ -220,7 +220,7 @@ fn behind_first<'a, 'b>(tokens: &'a [Token<'b>]) -> &'a [Token<'b>]
 }
 
 /// How many tokens are between.
-pub(crate) fn skipped(opening: Opening, behind: &[Token<'_>]) -> u32
+pub(crate) fn count_skipped(opening: Opening, behind: &[Token<'_>]) -> u32
     ensures value { result ≡ skipped_of opening (view_tokens behind.now) }
     ensures within { result ≤ 2 }
 {

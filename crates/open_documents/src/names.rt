@@ -8,7 +8,7 @@ ghost use Rattle.std.specs.Cmp.Lexicographic.{slice_cmp};
 use rotor_base::Memory;
 
 /// The names of two lists, each once, in byte order.
-pub(crate) fn joined(names: Vec<String>, more: Vec<String>) -> Result<Vec<String>, Memory>
+pub(crate) fn join_names(names: Vec<String>, more: Vec<String>) -> Result<Vec<String>, Memory>
     ensures ordered { IfOk result (λ all. IsStrictlySortedBy (slice_cmp nat_cmp) (map string_bytes all.items)) }
     ensures same { IfOk result (λ all. (test : List ℕ → Bool) → list_any test (map string_bytes all.items) ≡ (list_any test (map string_bytes names.items) || list_any test (map string_bytes more.items))) }
 {

@@ -6,7 +6,7 @@ ghost use Rattle.tree_io.specs.Outside.{HasCause, HasFault, IsFront, Spoils};
 ghost use Rattle.open_documents.specs.Documents.{AreKnown, documents};
 
 use crate::documents::Documents;
-use crate::names::joined;
+use crate::names::join_names;
 use rotor_base::{Failed, Memory};
 use std::alloc::Global;
 use tree_io::{Tree, TreeError};
@@ -54,7 +54,7 @@ impl<'a, T: Tree + Drop> OpenTree<'a, T> {
     {
         let names = self.tree.list(alloc)?;
         let more = self.held.names(alloc)?;
-        Ok(joined(names, more)?)
+        Ok(join_names(names, more)?)
     }
 
     /// The first bytes of a document, or of a file that is not open.

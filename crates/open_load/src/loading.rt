@@ -43,12 +43,16 @@ pub fn load_open<T: Tree + Drop>(
     let mut tree = OpenTree::new(held, folder);
     match load(alloc, &mut tree) {
         Ok(files) => Ok(OpenFolder::Files(files)),
-        Err(error) => unloaded(alloc, error, &mut tree),
+        Err(error) => make_unloaded(alloc, error, &mut tree),
     }
 }
 
 /// What a folder is that is not loaded.
-fn unloaded<T: Tree>(alloc: Global, error: LoadError, tree: &mut T) -> Result<OpenFolder, Memory>
+fn make_unloaded<T: Tree>(
+    alloc: Global,
+    error: LoadError,
+    tree: &mut T,
+) -> Result<OpenFolder, Memory>
     ensures { IfOk result (IsUnloaded (T.content tree.old) error) }
 {
     match reason_of(error) {

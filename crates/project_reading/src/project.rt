@@ -9,7 +9,7 @@ ghost use Rattle.project_reading.specs.Sources.{AreCut};
 
 use crate::order::{link_order, units_at};
 use crate::sources::read_sources;
-use crate::units::gathered;
+use crate::units::gather_units;
 use ml_trees::Project;
 use rotor_base::{Files, Refusal, Token};
 use std::alloc::Global;
@@ -42,7 +42,7 @@ pub fn read_project<'a>(alloc: Global, files: &'a Files) -> Result<Read<'a>, Ref
         Ok(read) => read,
         Err(why) => return Err(why),
     };
-    let units = gathered(alloc, sources, trees)?;
+    let units = gather_units(alloc, sources, trees)?;
     let positions = match link_order(alloc, &units, files.manifest()) {
         Ok(positions) => positions,
         Err(why) => return Err(why),

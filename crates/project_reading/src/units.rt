@@ -76,7 +76,7 @@ fn add_tree(
 }
 
 /// The units of sources that were read as these trees, in byte order of their names.
-pub(crate) fn gathered(
+pub(crate) fn gather_units(
     alloc: Global,
     sources: &[SourceFile],
     trees: Vec<FileTree>,

@@ -8,7 +8,7 @@ ghost use Rattle.report.specs.Pieces.{join};
 ghost use Rattle.query_failures.specs.Failure.{IsFailure, IsNoted, IsSaid};
 
 use lsp_answers::{ErrorCode, Failure};
-use messages::joined;
+use messages::join_words;
 use rotor_base::Memory;
 use serde_json::Value;
 use std::alloc::Global;
@@ -18,7 +18,7 @@ use std::alloc::Global;
 pub fn plain_failure(alloc: Global, words: &[&[u8]]) -> Result<Failure, Memory>
     ensures { IfOk result (IsSaid ErrorCode.Refused (join (map (λ word. word.now) words.now))) }
 {
-    let text = joined(alloc, words)?;
+    let text = join_words(alloc, words)?;
     failure(alloc, ErrorCode::Refused, text.as_slice(), None)
 }
 

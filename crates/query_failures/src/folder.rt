@@ -6,7 +6,7 @@ ghost use Rattle.query_failures.specs.Folder.{IsFolderFailure, IsProjectFailure,
 use crate::failure::noted_failure;
 use crate::sentence::message_sentence;
 use lsp_answers::Failure;
-use messages::{Message, joined};
+use messages::{Message, join_words};
 use refusal_places::placed_message;
 use refusal_words::cut_sources;
 use report::{load_data, refusal_data};
@@ -42,7 +42,7 @@ fn folder_sentence(alloc: Global, message: &Option<Message>) -> Result<Row<u8>, 
 {
     match message {
         Some(message) => message_sentence(alloc, message),
-        None => joined(alloc, &[b"the folder of this file is refused"]),
+        None => join_words(alloc, &[b"the folder of this file is refused"]),
     }
 }
 

@@ -9,7 +9,7 @@ use crate::folder::names_of;
 use crate::sentence::message_sentence;
 use explain::explain_rename;
 use lsp_answers::Failure;
-use messages::{Kind, Message, Severity, Spot, joined};
+use messages::{Kind, Message, Severity, Spot, join_words};
 use refusal_words::{CutSource, place_spot, word_at};
 use report::refusal_data;
 use rotor_base::{Files, Memory, Place, Refusal, Row, Target};
@@ -38,7 +38,7 @@ fn first_sentence(alloc: Global, messages: &[Message]) -> Result<Row<u8>, Memory
 {
     match messages {
         [message, ..] => message_sentence(alloc, message),
-        [] => joined(alloc, &[b"this renaming is refused"]),
+        [] => join_words(alloc, &[b"this renaming is refused"]),
     }
 }
 
@@ -52,14 +52,14 @@ pub fn valueless_failure(
 ) -> Result<Failure, Memory>
     ensures { IfOk result (IsValuelessFailure (map view_cut cuts.now) place found) }
 {
-    let message = valueless(alloc, cuts, place, found)?;
+    let message = explain_valueless(alloc, cuts, place, found)?;
     let text = message_sentence(alloc, &message)?;
     let note = refusal_data(alloc, &[], &Refusal::NoTarget)?;
     noted_failure(alloc, text.as_slice(), note)
 }
 
 /// The message of such a token, or of such a byte.
-fn valueless(
+fn explain_valueless(
     alloc: Global,
     cuts: &[CutSource<'_>],
     place: Option<Place>,
@@ -107,8 +107,8 @@ fn valueless_text(alloc: Global, word: &[u8], found: ValueAt) -> Result<Row<u8>,
     ensures { IfOk result (λ text. text ≡ valueless_text word.now found) }
 {
     match found {
-        ValueAt::NoValue => joined(alloc, &[b"no value stands here"]),
-        ValueAt::Outside | ValueAt::Blurred | ValueAt::Value(_) => joined(
+        ValueAt::NoValue => join_words(alloc, &[b"no value stands here"]),
+        ValueAt::Outside | ValueAt::Blurred | ValueAt::Value(_) => join_words(
             alloc,
             &[b"`", word, b"` is no value that this folder declares"],
         ),

@@ -2,7 +2,7 @@
 ghost use Rattle.std.specs.Prelude.{◌≡◌, IfOk, None, Some};
 ghost use Rattle.query_failures.specs.Sentence.{message_sentence as message_sentence_of, sentence_at};
 
-use messages::{Message, Spot, joined, kind_text, spot_text};
+use messages::{Message, Spot, join_words, kind_text, spot_text};
 use rotor_base::{Memory, Row};
 use std::alloc::Global;
 
@@ -22,7 +22,7 @@ pub fn message_sentence(alloc: Global, message: &Message) -> Result<Row<u8>, Mem
 fn placeless_sentence(alloc: Global, text: &[u8], kind: &str) -> Result<Row<u8>, Memory>
     ensures { IfOk result (λ line. line ≡ sentence_at None text.now kind.now) }
 {
-    joined(alloc, &[text, b" [", kind.as_bytes(), b"]"])
+    join_words(alloc, &[text, b" [", kind.as_bytes(), b"]"])
 }
 
 /// A text with its place before it and its kind behind it.
@@ -30,7 +30,7 @@ fn placed_sentence(alloc: Global, spot: &Spot, text: &[u8], kind: &str) -> Resul
     ensures { IfOk result (λ line. line ≡ sentence_at (Some spot.now) text.now kind.now) }
 {
     let place = spot_text(alloc, spot)?;
-    joined(
+    join_words(
         alloc,
         &[place.as_slice(), b": ", text, b" [", kind.as_bytes(), b"]"],
     )

@@ -11,7 +11,7 @@ pub(crate) fn byte_at(bytes: &[u8], at: usize) -> u8
 }
 
 /// The bytes from a place on, none past the end.
-pub(crate) fn after(bytes: &[u8], at: usize) -> &[u8]
+pub(crate) fn skip_bytes(bytes: &[u8], at: usize) -> &[u8]
     ensures { result.now ≡ drop at bytes.now }
 {
     if at < bytes.len() { &bytes[at..] } else { &[] }

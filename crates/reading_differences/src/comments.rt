@@ -4,7 +4,7 @@ ghost use Rattle.rotor_base.specs.Limits.{max_file_bytes};
 ghost use Rattle.ml_lexer.specs.Lexed.{view_tokens};
 ghost use Rattle.reading_differences.specs.Comments.{begins_char as begins_char_of, comments_in, quote_here, quotes_in};
 
-use crate::bytes::{after, byte_at, front, is_identifier};
+use crate::bytes::{byte_at, front, is_identifier, skip_bytes};
 use crate::difference::{Difference, Parting};
 use crate::parts::{char_len, part_len};
 use rotor_base::{Memory, Place, Token};
@@ -23,7 +23,7 @@ pub(crate) fn add_comments(
     let mut number: u32 = 0;
     let mut from: u32 = 0;
     for token in tokens {
-        let rest = after(bytes, from as usize);
+        let rest = skip_bytes(bytes, from as usize);
         let gap = front(rest, token.start.saturating_sub(from) as usize);
         add_quotes(
             found,
@@ -37,7 +37,7 @@ pub(crate) fn add_comments(
         number += 1;
         from = token.end;
     }
-    let rest = after(bytes, from as usize);
+    let rest = skip_bytes(bytes, from as usize);
     add_quotes(
         found,
         Place {
@@ -63,7 +63,7 @@ fn add_quotes(found: &mut Vec<Difference>, at: Place, start: u32, gap: &[u8]) ->
         let len = part_len(rest);
         before = byte_at(rest, len - 1);
         offset += len as u32;
-        rest = after(rest, len);
+        rest = skip_bytes(rest, len);
     }
     Ok(())
 }

@@ -243,13 +243,13 @@ fn first_place(places: &[Place]) -> Option<Place>
 {
     let mut first = None;
     for place in places {
-        first = Some(earlier(first, *place));
+        first = Some(take_earlier(first, *place));
     }
     first
 }
 
 /// The earlier of a place, of which there may be none, and another.
-fn earlier(best: Option<Place>, place: Place) -> Place
+fn take_earlier(best: Option<Place>, place: Place) -> Place
     ensures { Some result ≡ earlier_of best place }
 {
     match best {

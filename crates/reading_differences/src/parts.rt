@@ -5,7 +5,7 @@ ghost use Rattle.ml_lexer.specs.Bytes.{is_quoted_word_byte};
 ghost use Rattle.ml_lexer.specs.Quotes.{char_length, closes_quoted as closes_spec, decimal_escape, fit, hexadecimal_escape, is_octal_digit, octal_escape, opens_quoted as opens_spec, plain_char, quoted_length, short_escape, text_length};
 ghost use Rattle.ml_lexer.specs.Trivia.{plain_part, size_of};
 
-use crate::bytes::{after, byte_at, front};
+use crate::bytes::{byte_at, front, skip_bytes};
 
 /// How many lower-case letters and `_` are at the front.
 fn quoted_word_len(bytes: &[u8]) -> usize
@@ -116,7 +116,7 @@ fn text_len(bytes: &[u8]) -> Option<usize>
 {
     let mut taken = false;
     let mut len = 1;
-    for byte in after(bytes, 1) {
+    for byte in skip_bytes(bytes, 1) {
         len += 1;
         if taken {
             taken = false;
@@ -138,7 +138,7 @@ fn opens_quoted(bytes: &[u8]) -> bool
     if byte_at(bytes, 0) != b'{' {
         return false;
     }
-    byte_at(bytes, 1 + quoted_word_len(after(bytes, 1))) == b'|'
+    byte_at(bytes, 1 + quoted_word_len(skip_bytes(bytes, 1))) == b'|'
 }
 
 /// Whether a Quoted of this word closes here.
@@ -149,7 +149,7 @@ fn closes_quoted(word: &[u8], bytes: &[u8]) -> bool
     ensures within { result ≡ true → length word.now + 2 ≤ length bytes.now }
 {
     byte_at(bytes, 0) == b'|'
-        && after(bytes, 1).starts_with(word)
+        && skip_bytes(bytes, 1).starts_with(word)
         && byte_at(bytes, 1 + word.len()) == b'}'
 }
 
@@ -160,16 +160,16 @@ fn quoted_len(bytes: &[u8]) -> Option<usize>
     ensures value { result ≡ quoted_length bytes.now }
     ensures within { IfSome result (λ n. (0 < n) × (n ≤ length bytes.now)) }
 {
-    let len = quoted_word_len(after(bytes, 1));
-    let word = front(after(bytes, 1), len);
+    let len = quoted_word_len(skip_bytes(bytes, 1));
+    let word = front(skip_bytes(bytes, 1), len);
     let mut read = len + 2;
-    let mut rest = after(bytes, read);
+    let mut rest = skip_bytes(bytes, read);
     while !rest.is_empty() {
         if closes_quoted(word, rest) {
             return Some(read + len + 2);
         }
         read += 1;
-        rest = after(rest, 1);
+        rest = skip_bytes(rest, 1);
     }
     None
 }

@@ -36,7 +36,7 @@ pub fn differences(alloc: Global, files: &Files, read: &Read<'_>) -> Result<Row<
         read.tokens.as_slice(),
         read.project.units.as_slice(),
     )?;
-    sorted(found)
+    sort_differences(found)
 }
 
 /// Whether a list of units gives the order of the files.
@@ -175,7 +175,7 @@ fn add_source_comments(
 }
 
 /// The differences in the order of their places.
-fn sorted(found: Vec<Difference>) -> Result<Row<Difference>, Memory>
+fn sort_differences(found: Vec<Difference>) -> Result<Row<Difference>, Memory>
     ensures { IfOk result (λ list. list ≡ in_order (λ difference. difference.at) found.items) }
 {
     let mut list = found;

@@ -14,7 +14,7 @@ pub(crate) struct Edge {
 
 impl Edge {
     /// It ends with a token.
-    pub fn plain() -> Self {
+    pub fn make_plain() -> Self {
         Edge {
             low: false,
             ends_if: false,
@@ -34,8 +34,8 @@ impl Edge {
     }
 
     /// The same, with a trait more.
-    pub fn with(self, part: Trait) -> Self {
-        let plain = self.formed(Form::Plain);
+    pub fn add_part(self, part: Trait) -> Self {
+        let plain = self.set_form(Form::Plain);
         match part {
             Trait::Low => Edge { low: true, ..plain },
             Trait::If => Edge {
@@ -54,7 +54,7 @@ impl Edge {
     }
 
     /// The same, of this form.
-    pub fn formed(self, form: Form) -> Self {
+    pub fn set_form(self, form: Form) -> Self {
         Edge { form, ..self }
     }
 }

@@ -63,7 +63,7 @@ impl<'a> Reading<'a> {
             tokens,
             spot: Spot {
                 at: 0,
-                edge: Edge::plain(),
+                edge: Edge::make_plain(),
             },
             seen: 0,
             steps: &[],
@@ -111,11 +111,11 @@ impl<'a> Reading<'a> {
                 self.go_on(edge.form == form)
             }
             Step::Mark(part) => {
-                self.spot.edge = self.spot.edge.with(part);
+                self.spot.edge = self.spot.edge.add_part(part);
                 Ok(true)
             }
             Step::Form(form) => {
-                self.spot.edge = self.spot.edge.formed(form);
+                self.spot.edge = self.spot.edge.set_form(form);
                 Ok(true)
             }
             Step::Read(rule) => {
@@ -155,7 +155,7 @@ impl<'a> Reading<'a> {
         }
         self.spot = Spot {
             at: self.spot.at.saturating_add(1),
-            edge: Edge::plain(),
+            edge: Edge::make_plain(),
         };
         Ok(true)
     }

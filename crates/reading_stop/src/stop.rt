@@ -24,7 +24,7 @@ pub fn stop_of(
     ensures behind_front { IfOk result (λ stop. front ≤ stop) }
     ensures within { IfOk result (λ stop. stop ≤ length tokens.now) }
 {
-    let last = seen(alloc, tokens, kind)?.saturating_sub(1);
+    let last = count_seen(alloc, tokens, kind)?.saturating_sub(1);
     if last < front {
         return Ok(front);
     }
@@ -35,7 +35,7 @@ pub fn stop_of(
 }
 
 /// The number of tokens up to the furthest one that the reading of a file looks at.
-fn seen(alloc: Global, tokens: &[Token<'_>], kind: FileKind) -> Result<usize, Memory> {
+fn count_seen(alloc: Global, tokens: &[Token<'_>], kind: FileKind) -> Result<usize, Memory> {
     let rule = match kind {
         FileKind::Body => Rule::Body,
         FileKind::Face => Rule::Face,
@@ -91,5 +91,5 @@ fn looks_further<'a>(
         end: 0,
         bytes,
     })?;
-    Ok(seen(alloc, &longer, kind)? > tokens.len())
+    Ok(count_seen(alloc, &longer, kind)? > tokens.len())
 }

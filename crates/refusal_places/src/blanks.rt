@@ -105,13 +105,13 @@ fn has_head(
     requires within { count ≤ length tokens.now }
     ensures { IfOk result (λ found. found ≡ has_head_of kind name.now count (view_tokens tokens.now)) }
 {
-    let blanked = blanked(alloc, tokens, name, count)?;
+    let blanked = blank_tokens(alloc, tokens, name, count)?;
     let heads = heads_of(alloc, &blanked, kind)?;
     Ok(heads.iter().any(|head| head.as_bytes() == b"".as_slice()))
 }
 
 /// Tokens without a name in the first ones.
-fn blanked<'a>(
+fn blank_tokens<'a>(
     alloc: Global,
     tokens: &[Token<'a>],
     name: &[u8],

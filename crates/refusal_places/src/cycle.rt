@@ -13,7 +13,7 @@ ghost use Rattle.refusal_places.specs.Unread.{whole_spot};
 use crate::blanks::first_head;
 use crate::heads::all_heads;
 use crate::unread::{kind_of, lexeme_spot};
-use messages::{Kind, Message, Note, Severity, Spot, joined, spot_in};
+use messages::{Kind, Message, Note, Severity, Spot, join_words, spot_in};
 use need_chains::{UnitHeads, circle};
 use refusal_words::{CutSource, on_cycle};
 use rotor_base::{Memory, Name, Row};
@@ -81,7 +81,10 @@ fn circle_message(
 fn circle_text(alloc: Global, unit: &[u8], first: &Name, rest: &[Name]) -> Result<Row<u8>, Memory>
     ensures { IfOk result (λ text. text ≡ circle_text_of unit.now (first.now ∷ rest.now)) }
 {
-    let mut text = joined(alloc, &[b"the units need each other in a circle: ", unit])?.into_vec();
+    let mut text = join_words(
+        alloc,
+        &[b"the units need each other in a circle: ", unit],
+    )?.into_vec();
     push_arrow(&mut text, first)?;
     push_arrows(&mut text, rest)?;
     Ok(Row::from_vec(text))
@@ -140,7 +143,7 @@ fn need_note(
     ensures { IfOk result (IsNeedNote (map view_cut cuts.now) unit.now name.now) }
 {
     let at = need_spot(alloc, cuts, sources, unit, name)?;
-    let text = joined(alloc, &[b"`", unit, b"` needs `", name, b"` here"])?;
+    let text = join_words(alloc, &[b"`", unit, b"` needs `", name, b"` here"])?;
     Ok(Note { at, text })
 }
 

@@ -8,7 +8,7 @@ ghost use Rattle.refusal_places.specs.Unread.{SaysUnread, advice as advice_of, b
 
 use crate::forms::form_near;
 use crate::front::front_of;
-use messages::{Kind, Message, Note, Severity, Spot, joined, spot_in};
+use messages::{Kind, Message, Note, Severity, Spot, join_words, spot_in};
 use parse_module::FileKind;
 use reading_stop::{ends_inside, stop_of};
 use refusal_words::CutSource;
@@ -132,7 +132,7 @@ fn advice(alloc: Global, cut: &CutSource<'_>, front: usize, stop: usize) -> Resu
 fn not_read(alloc: Global, form: &str) -> Result<Row<u8>, Memory>
     ensures { IfOk result (λ text. text ≡ advice_of (Some form.now)) }
 {
-    joined(alloc, &[form.as_bytes(), b" is not read"])
+    join_words(alloc, &[form.as_bytes(), b" is not read"])
 }
 
 /// What can be done if the lexemes show no form.

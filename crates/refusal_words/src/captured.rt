@@ -6,10 +6,10 @@ ghost use Rattle.refusal_words.specs.Cut.{view_cut};
 ghost use Rattle.refusal_words.specs.Captured.{article as article_of, capture as capture_of, capture_help as capture_help_of, captured as captured_of, captured_use as captured_use_of, choose_other as choose_other_of, found_place as found_place_of, goal_notes as goal_notes_of, is_declared as is_declared_of, link_text as link_text_of, meaning_text as meaning_text_of, mislink as mislink_of, of_place as of_place_of, other_use as other_use_of, own_use as own_use_of, place_notes as place_notes_of, then_text as then_text_of};
 
 use crate::cut::CutSource;
-use crate::parts::{around, help, note_at, placed, text};
+use crate::parts::{help, make_error_at, note_at, text, wrap_word};
 use crate::stretches::{place_spot, word_at};
 use crate::target::the_value;
-use messages::{Kind, Message, Note, joined, spot_text};
+use messages::{Kind, Message, Note, join_words, spot_text};
 use rotor_base::{Goal, Memory, Place, Row};
 use std::alloc::Global;
 
@@ -27,7 +27,7 @@ pub fn capture(
 {
     match own_use(decls, was, would) {
         Some((old, new)) => captured_use(alloc, cuts, at, old, new),
-        None => captured(alloc, cuts, at, was, would),
+        None => explain_captured(alloc, cuts, at, was, would),
     }
 }
 
@@ -77,7 +77,7 @@ fn captured_use(
     let name = word_at(cuts, would);
     let old = the_value(alloc, cuts, "this use of the ", was)?;
     let new = the_value(alloc, cuts, " would mean the ", would)?;
-    let text = joined(
+    let text = join_words(
         alloc,
         &[b"called `", name, b"`, ", old.as_slice(), new.as_slice()],
     )?;
@@ -86,7 +86,7 @@ fn captured_use(
     notes.push(note_at(alloc, cuts, was, "it means this now")?)?;
     notes.push(note_at(alloc, cuts, would, "it would mean this")?)?;
     let help = choose_other(alloc, name)?;
-    Ok(placed(Kind::Capture, text, spot, Row::from_vec(notes), Some(help)))
+    Ok(make_error_at(Kind::Capture, text, spot, Row::from_vec(notes), Some(help)))
 }
 
 /// The help to choose another name or to rename the other value of this name.
@@ -94,11 +94,11 @@ fn choose_other(alloc: Global, name: &[u8]) -> Result<Row<u8>, Memory>
     ensures { IfOk result (λ text. text ≡ choose_other_of name.now) }
 {
     let begin = "choose another name, or rename the other `";
-    around(alloc, begin, name, "` first")
+    wrap_word(alloc, begin, name, "` first")
 }
 
 /// The message of another use that would mean the renamed value.
-fn captured(
+fn explain_captured(
     alloc: Global,
     cuts: &[CutSource<'_>],
     at: Place,
@@ -109,7 +109,7 @@ fn captured(
 {
     let now = meaning_text(alloc, cuts, was)?;
     let then = then_text(alloc, cuts, would)?;
-    let text = joined(
+    let text = join_words(
         alloc,
         &[
             b"this `",
@@ -131,7 +131,7 @@ fn captured(
         "it would mean this",
     )?;
     let help = capture_help(alloc, was, word_at(cuts, at))?;
-    Ok(placed(Kind::Capture, text, spot, Row::from_vec(notes), help))
+    Ok(make_error_at(Kind::Capture, text, spot, Row::from_vec(notes), help))
 }
 
 /// A text, the place of a token, and a text behind it.
@@ -146,7 +146,7 @@ fn of_place<'a>(
 {
     let spot = place_spot(alloc, cuts, place)?;
     let at = spot_text(alloc, &spot)?;
-    joined(
+    join_words(
         alloc,
         &[before.as_bytes(), at.as_slice(), behind.as_bytes()],
     )
@@ -263,7 +263,7 @@ pub fn mislink(
 {
     let now = link_text(alloc, cuts, "matched with the ", was)?;
     let then = link_text(alloc, cuts, article(is_declared(decls, would)), would)?;
-    let text = joined(
+    let text = join_words(
         alloc,
         &[
             b"this `",
@@ -282,7 +282,7 @@ pub fn mislink(
         alloc,
         "choose another name, or rename the other value first",
     )?;
-    Ok(placed(Kind::Mislink, text, spot, Row::from_vec(notes), help))
+    Ok(make_error_at(Kind::Mislink, text, spot, Row::from_vec(notes), help))
 }
 
 /// What an item is matched with, without the verb. A declaration is put behind the first text.

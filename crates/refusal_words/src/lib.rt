@@ -20,7 +20,7 @@ mod unnamed;
 
 pub use captured::{capture, mislink};
 pub use commands::{
-    bad_plan, batch_line, fixed, list_line, long_batch, no_batch, no_list, other_bytes,
+    bad_plan, batch_line, explain_fixed, list_line, long_batch, no_batch, no_list, other_bytes,
     other_sources,
 };
 pub use cut::CutSource;
@@ -31,10 +31,11 @@ pub use folder::{
 pub use naming::{bad_name, same_name};
 pub use puns::pun_refused;
 pub use refused::{in_step, project_message, renaming_message};
-pub use renaming::{blurred_link, blurred_use, clash, grown, outside, source_name};
+pub use renaming::{blurred_link, blurred_use, clash, explain_grown, explain_outside, source_name};
 pub use source::{
-    duplicate, form_refused, heavy, lex_refused, long_name, on_cycle, too_deep, unmatched, unread,
+    duplicate, explain_heavy, explain_unmatched, explain_unread, form_refused, lex_refused,
+    long_name, on_cycle, too_deep,
 };
 pub use stretches::{byte_spot, place_spot, word_at};
-pub use target::{a_use, foreign_value, nameless, no_value, operator};
+pub use target::{a_use, explain_nameless, foreign_value, no_value, operator};
 pub use unnamed::{no_line, no_member, no_path, no_source, no_token, no_token_at};

@@ -4,7 +4,7 @@ ghost use Rattle.std.specs.List.{list_all};
 ghost use Rattle.rotor_base.specs.Name.{is_identifier_byte};
 ghost use Rattle.refusal_words.specs.Naming.{bad_name as bad_name_of, begins_high as begins_high_of, begins_low as begins_low_of, filled_text as filled_text_of, letters_text as letters_text_of, name_text as name_text_of, same_name as same_name_of, word_text as word_text_of};
 
-use crate::parts::{around, bare, text};
+use crate::parts::{make_error, text, wrap_word};
 use messages::{Kind, Message, shown_word};
 use rotor_base::{MAX_NAME_BYTES, Memory, Row};
 use std::alloc::Global;
@@ -15,7 +15,7 @@ pub fn bad_name(alloc: Global, name: &[u8]) -> Result<Message, Memory>
     ensures { IfOk result (λ message. message ≡ bad_name_of name.now) }
 {
     let text = name_text(alloc, name)?;
-    Ok(bare(alloc, Kind::BadName, text, None))
+    Ok(make_error(alloc, Kind::BadName, text, None))
 }
 
 /// The sentence of a new name that is no value name.
@@ -46,7 +46,7 @@ fn word_text(alloc: Global, name: &[u8]) -> Result<Row<u8>, Memory>
     ensures { IfOk result (λ text. text ≡ word_text_of name.now) }
 {
     let word = shown_word(alloc, name)?;
-    around(alloc, "`", word.as_slice(), letters_text(name))
+    wrap_word(alloc, "`", word.as_slice(), letters_text(name))
 }
 
 /// What is said of a new name by its letters.
@@ -94,6 +94,6 @@ pub fn same_name(alloc: Global, name: &[u8]) -> Result<Message, Memory>
     ensures { IfOk result (λ message. message ≡ same_name_of name.now) }
 {
     let word = shown_word(alloc, name)?;
-    let text = around(alloc, "its name is `", word.as_slice(), "` already")?;
-    Ok(bare(alloc, Kind::SameName, text, None))
+    let text = wrap_word(alloc, "its name is `", word.as_slice(), "` already")?;
+    Ok(make_error(alloc, Kind::SameName, text, None))
 }

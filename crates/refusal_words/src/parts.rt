@@ -6,12 +6,12 @@ ghost use Rattle.refusal_words.specs.Stretches.{place_spot as place_spot_of};
 
 use crate::cut::CutSource;
 use crate::stretches::place_spot;
-use messages::{Kind, Message, Note, Severity, Spot, joined};
+use messages::{Kind, Message, Note, Severity, Spot, join_words};
 use rotor_base::{Memory, Place, Row};
 use std::alloc::Global;
 
 /// An error at a stretch of a source.
-pub(crate) fn placed(
+pub(crate) fn make_error_at(
     kind: Kind,
     text: Row<u8>,
     at: Spot,
@@ -31,7 +31,7 @@ pub(crate) fn placed(
 }
 
 /// An error without a place.
-pub(crate) fn bare(alloc: Global, kind: Kind, text: Row<u8>, help: Option<Row<u8>>) -> Message
+pub(crate) fn make_error(alloc: Global, kind: Kind, text: Row<u8>, help: Option<Row<u8>>) -> Message
     ensures { result ≡ bare_of kind text help }
 {
     Message {
@@ -87,7 +87,7 @@ pub(crate) fn one_note(
 }
 
 /// A word with a text before it and one behind it.
-pub(crate) fn around<'a>(
+pub(crate) fn wrap_word<'a>(
     alloc: Global,
     before: &'a str,
     word: &'a [u8],
@@ -95,11 +95,11 @@ pub(crate) fn around<'a>(
 ) -> Result<Row<u8>, Memory>
     ensures { IfOk result (λ text. text ≡ around_of before.entry.now word.entry.now behind.entry.now) }
 {
-    joined(alloc, &[before.as_bytes(), word, behind.as_bytes()])
+    join_words(alloc, &[before.as_bytes(), word, behind.as_bytes()])
 }
 
 /// A message of a sentence at a place alone.
-pub(crate) fn simple(
+pub(crate) fn explain_place(
     alloc: Global,
     cuts: &[CutSource<'_>],
     kind: Kind,
@@ -110,11 +110,11 @@ pub(crate) fn simple(
 {
     let text = text(alloc, sentence)?;
     let at = place_spot(alloc, cuts, at)?;
-    Ok(placed(kind, text, at, Row::new(alloc), None))
+    Ok(make_error_at(kind, text, at, Row::new(alloc), None))
 }
 
 /// A message of a sentence and a help at a place.
-pub(crate) fn helped(
+pub(crate) fn explain_with_help(
     alloc: Global,
     cuts: &[CutSource<'_>],
     kind: Kind,
@@ -126,5 +126,5 @@ pub(crate) fn helped(
 {
     let at = place_spot(alloc, cuts, at)?;
     let help = help(alloc, advice)?;
-    Ok(placed(kind, sentence, at, Row::new(alloc), help))
+    Ok(make_error_at(kind, sentence, at, Row::new(alloc), help))
 }

@@ -5,9 +5,9 @@ ghost use Rattle.refusal_words.specs.Cut.{view_cut};
 ghost use Rattle.refusal_words.specs.Puns.{argument_pun as argument_pun_of, cut_pun as cut_pun_of, label_pun as label_pun_of, mark_of as mark_for, mark_text as mark_text_of, pun_refused as pun_refused_of, pun_at as pun_at_of, pun_help as pun_help_of, pun_sentence as pun_sentence_of, token_pun as token_pun_of, written_for as written_for_of};
 
 use crate::cut::CutSource;
-use crate::parts::{around, placed};
+use crate::parts::{make_error_at, wrap_word};
 use crate::stretches::{is_label, place_spot, word_at, word_before};
-use messages::{Kind, Message, joined};
+use messages::{Kind, Message, join_words};
 use rotor_base::{Memory, Place, Row, Token};
 use std::alloc::Global;
 
@@ -37,10 +37,10 @@ pub fn pun_refused(alloc: Global, cuts: &[CutSource<'_>], at: Place) -> Result<M
 {
     let kind = pun_at(cuts, at);
     let word = word_at(cuts, at);
-    let text = around(alloc, "`", word, pun_sentence(kind))?;
+    let text = wrap_word(alloc, "`", word, pun_sentence(kind))?;
     let help = pun_help(alloc, kind, word)?;
     let spot = place_spot(alloc, cuts, at)?;
-    Ok(placed(Kind::Pun, text, spot, Row::new(alloc), Some(help)))
+    Ok(make_error_at(Kind::Pun, text, spot, Row::new(alloc), Some(help)))
 }
 
 /// The pun at a place.
@@ -151,7 +151,7 @@ fn written_for<'a>(
 ) -> Result<Row<u8>, Memory>
     ensures { IfOk result (λ text. text ≡ written_for_of word.entry.now mark.entry.now between.entry.now opening.entry.now) }
 {
-    joined(
+    join_words(
         alloc,
         &[
             b"write `",

@@ -7,11 +7,12 @@ use crate::captured::{capture, mislink};
 use crate::cut::CutSource;
 use crate::naming::{bad_name, same_name};
 use crate::puns::pun_refused;
-use crate::renaming::{clash, grown, outside};
+use crate::renaming::{clash, explain_grown, explain_outside};
 use crate::source::{
-    duplicate, form_refused, heavy, lex_refused, long_name, on_cycle, too_deep, unmatched, unread,
+    duplicate, explain_heavy, explain_unmatched, explain_unread, form_refused, lex_refused,
+    long_name, on_cycle, too_deep,
 };
-use messages::{Message, joined};
+use messages::{Message, join_words};
 use report::number_text;
 use rotor_base::{Goal, Memory, Place, Refusal};
 use std::alloc::Global;
@@ -29,11 +30,11 @@ pub fn project_message(
         Refusal::LongName { file, offset } => Ok(Some(long_name(alloc, cuts, *file, *offset)?)),
         Refusal::Form { at, kind } => Ok(Some(form_refused(alloc, cuts, *at, *kind)?)),
         Refusal::Deep { at } => Ok(Some(too_deep(alloc, cuts, *at)?)),
-        Refusal::Syntax { file } => Ok(Some(unread(alloc, cuts, *file)?)),
+        Refusal::Syntax { file } => Ok(Some(explain_unread(alloc, cuts, *file)?)),
         Refusal::Cycle { unit } => Ok(Some(on_cycle(alloc, unit.as_bytes())?)),
         Refusal::Duplicate { first, again } => Ok(Some(duplicate(alloc, cuts, *first, *again)?)),
-        Refusal::Heavy { at } => Ok(Some(heavy(alloc, cuts, *at)?)),
-        Refusal::Unmatched { item } => Ok(Some(unmatched(alloc, cuts, *item)?)),
+        Refusal::Heavy { at } => Ok(Some(explain_heavy(alloc, cuts, *at)?)),
+        Refusal::Unmatched { item } => Ok(Some(explain_unmatched(alloc, cuts, *item)?)),
         _ => Ok(None),
     }
 }
@@ -52,9 +53,9 @@ pub fn renaming_message(
     match refusal {
         Refusal::BadName => Ok(Some(bad_name(alloc, name)?)),
         Refusal::SameName => Ok(Some(same_name(alloc, name)?)),
-        Refusal::Outside { at } => Ok(Some(outside(alloc, cuts, *at)?)),
+        Refusal::Outside { at } => Ok(Some(explain_outside(alloc, cuts, *at)?)),
         Refusal::Pun { at } => Ok(Some(pun_refused(alloc, cuts, *at)?)),
-        Refusal::Grown { file } => Ok(Some(grown(alloc, cuts, *file)?)),
+        Refusal::Grown { file } => Ok(Some(explain_grown(alloc, cuts, *file)?)),
         Refusal::Clash { first, again } => { Ok(Some(clash(alloc, cuts, *first, *again, name)?)) }
         Refusal::Capture { at, was, would } => {
             Ok(Some(capture(alloc, cuts, decls, *at, *was, *would)?))
@@ -73,7 +74,7 @@ pub fn in_step(alloc: Global, step: u32, message: Message) -> Result<Message, Me
     ensures { IfOk result (λ told. told ≡ in_step_of step message) }
 {
     let number = number_text(alloc, u64::from(step))?;
-    let text = joined(
+    let text = join_words(
         alloc,
         &[b"step ", number.as_slice(), b": ", message.text.as_slice()],
     )?;

@@ -6,9 +6,9 @@ ghost use Rattle.refusal_words.specs.Cut.{view_cut};
 ghost use Rattle.refusal_words.specs.Renaming.{blurred_link as blurred_link_of, blurred_use as blurred_use_of, clash as clash_of, face_alone as face_alone_of, grown as grown_of, is_face_alone as is_face_alone_of, matched_outside as matched_outside_of, outside as outside_of, source_name as source_name_of};
 
 use crate::cut::CutSource;
-use crate::parts::{around, bare, help, one_note, placed};
+use crate::parts::{help, make_error, make_error_at, one_note, wrap_word};
 use crate::stretches::{place_spot, word_at};
-use messages::{Kind, Message, joined, spot_text};
+use messages::{Kind, Message, join_words, spot_text};
 use rotor_base::{Memory, Place, Row, is_face};
 use std::alloc::Global;
 
@@ -23,7 +23,7 @@ pub fn source_name<'a>(cuts: &[CutSource<'a>], file: u32) -> &'a [u8]
 }
 
 /// The message of a declaration that is fixed from outside. The one error is want of memory.
-pub fn outside(alloc: Global, cuts: &[CutSource<'_>], at: Place) -> Result<Message, Memory>
+pub fn explain_outside(alloc: Global, cuts: &[CutSource<'_>], at: Place) -> Result<Message, Memory>
     ensures { IfOk result (λ message. message ≡ outside_of (map view_cut cuts.now) at) }
 {
     if is_face_alone(cuts, source_name(cuts, at.file)) {
@@ -53,7 +53,7 @@ fn face_alone(alloc: Global, cuts: &[CutSource<'_>], at: Place) -> Result<Messag
     ensures { IfOk result (λ message. message ≡ face_alone_of (map view_cut cuts.now) at) }
 {
     let file = source_name(cuts, at.file);
-    let text = joined(
+    let text = join_words(
         alloc,
         &[
             b"`",
@@ -65,8 +65,8 @@ fn face_alone(alloc: Global, cuts: &[CutSource<'_>], at: Place) -> Result<Messag
     )?;
     let spot = place_spot(alloc, cuts, at)?;
     let body = &file[..file.len().saturating_sub(1)];
-    let help = around(alloc, "add ", body, " to the folder, or keep the name")?;
-    Ok(placed(Kind::Outside, text, spot, Row::new(alloc), Some(help)))
+    let help = wrap_word(alloc, "add ", body, " to the folder, or keep the name")?;
+    Ok(make_error_at(Kind::Outside, text, spot, Row::new(alloc), Some(help)))
 }
 
 /// The message of a value that is matched with a module outside the folder.
@@ -75,11 +75,11 @@ fn matched_outside(alloc: Global, cuts: &[CutSource<'_>], at: Place) -> Result<M
 {
     let word = word_at(cuts, at);
     let end = "` is matched with a module or functor outside the folder, so its name stays";
-    let text = around(alloc, "`", word, end)?;
+    let text = wrap_word(alloc, "`", word, end)?;
     let spot = place_spot(alloc, cuts, at)?;
     let begin = "keep the name, or give what is outside a module of its own: `struct let ";
-    let help = around(alloc, begin, word, " = new_name end`")?;
-    Ok(placed(Kind::Outside, text, spot, Row::new(alloc), Some(help)))
+    let help = wrap_word(alloc, begin, word, " = new_name end`")?;
+    Ok(make_error_at(Kind::Outside, text, spot, Row::new(alloc), Some(help)))
 }
 
 /// The message of a use that a module opened from outside may mean too. The one error is want of memory.
@@ -93,7 +93,7 @@ pub fn blurred_use(
 {
     let by = place_spot(alloc, cuts, opened)?;
     let place = spot_text(alloc, &by)?;
-    let text = joined(
+    let text = join_words(
         alloc,
         &[
             b"this `",
@@ -109,7 +109,7 @@ pub fn blurred_use(
         alloc,
         "write the path of the module that is meant, or leave the opening out",
     )?;
-    Ok(placed(Kind::Blurred, text, spot, notes, help))
+    Ok(make_error_at(Kind::Blurred, text, spot, notes, help))
 }
 
 /// The message of a match that a module from outside may supply too. The one error is want of memory.
@@ -123,7 +123,7 @@ pub fn blurred_link(
 {
     let by = place_spot(alloc, cuts, opened)?;
     let place = spot_text(alloc, &by)?;
-    let text = joined(
+    let text = join_words(
         alloc,
         &[
             b"`",
@@ -135,16 +135,16 @@ pub fn blurred_link(
     )?;
     let spot = place_spot(alloc, cuts, at)?;
     let notes = one_note(alloc, cuts, opened, "included or opened here")?;
-    Ok(placed(Kind::Blurred, text, spot, notes, None))
+    Ok(make_error_at(Kind::Blurred, text, spot, notes, None))
 }
 
 /// The message of sources that would have too many bytes. The one error is want of memory.
-pub fn grown(alloc: Global, cuts: &[CutSource<'_>], file: u32) -> Result<Message, Memory>
+pub fn explain_grown(alloc: Global, cuts: &[CutSource<'_>], file: u32) -> Result<Message, Memory>
     ensures { IfOk result (λ message. message ≡ grown_of (map view_cut cuts.now) file) }
 {
     let end = ", or all sources up to it, would have more bytes than rotor reads";
-    let text = around(alloc, "with the new name ", source_name(cuts, file), end)?;
-    Ok(bare(alloc, Kind::Grown, text, None))
+    let text = wrap_word(alloc, "with the new name ", source_name(cuts, file), end)?;
+    Ok(make_error(alloc, Kind::Grown, text, None))
 }
 
 /// The message of a name that would be bound twice. The one error is want of memory.
@@ -158,9 +158,9 @@ pub fn clash(
     ensures { IfOk result (λ message. message ≡ clash_of (map view_cut cuts.now) first again name.now) }
 {
     let end = "` would be bound twice in one pattern or `let`";
-    let text = around(alloc, "`", name, end)?;
+    let text = wrap_word(alloc, "`", name, end)?;
     let spot = place_spot(alloc, cuts, again)?;
     let notes = one_note(alloc, cuts, first, "bound here too")?;
     let help = help(alloc, "choose another name")?;
-    Ok(placed(Kind::Clash, text, spot, notes, help))
+    Ok(make_error_at(Kind::Clash, text, spot, notes, help))
 }

@@ -6,9 +6,11 @@ ghost use Rattle.refusal_words.specs.Source.{begins_item as begins_item_of, dupl
 
 use crate::cut::CutSource;
 use crate::faults::{LexFault, rest_fault};
-use crate::parts::{around, bare, help, helped, one_note, placed, simple, text};
+use crate::parts::{
+    explain_place, explain_with_help, help, make_error, make_error_at, one_note, text, wrap_word,
+};
 use crate::stretches::{byte_spot, place_spot, rest, word_at, word_before};
-use messages::{Kind, Message, joined};
+use messages::{Kind, Message, join_words};
 use rotor_base::{FormKind, Memory, Place, Row};
 use std::alloc::Global;
 
@@ -23,7 +25,7 @@ pub fn lex_refused(
 {
     let text = text(alloc, lex_text(lex_fault(cuts, file, offset)))?;
     let at = byte_spot(alloc, cuts, file, offset)?;
-    Ok(placed(Kind::Lex, text, at, Row::new(alloc), None))
+    Ok(make_error_at(Kind::Lex, text, at, Row::new(alloc), None))
 }
 
 /// What begins at a byte at which the lexer stops.
@@ -67,7 +69,7 @@ pub fn long_name(
 {
     let text = text(alloc, "this name has more than 255 bytes")?;
     let at = byte_spot(alloc, cuts, file, offset)?;
-    Ok(placed(Kind::LongName, text, at, Row::new(alloc), None))
+    Ok(make_error_at(Kind::LongName, text, at, Row::new(alloc), None))
 }
 
 /// The message of a form that is refused. The one error is want of memory.
@@ -79,7 +81,7 @@ pub fn form_refused(
 ) -> Result<Message, Memory>
     ensures { IfOk result (λ message. message ≡ form_refused_of (map view_cut cuts.now) at form) }
 {
-    let text = joined(
+    let text = join_words(
         alloc,
         &[
             subject_of(form).as_bytes(),
@@ -88,7 +90,7 @@ pub fn form_refused(
             b")",
         ],
     )?;
-    helped(
+    explain_with_help(
         alloc,
         cuts,
         Kind::Form,
@@ -142,7 +144,7 @@ fn kind_of(form: FormKind) -> &'static str
 pub fn too_deep(alloc: Global, cuts: &[CutSource<'_>], at: Place) -> Result<Message, Memory>
     ensures { IfOk result (λ message. message ≡ too_deep_of (map view_cut cuts.now) at) }
 {
-    simple(
+    explain_place(
         alloc,
         cuts,
         Kind::Deep,
@@ -152,7 +154,7 @@ pub fn too_deep(alloc: Global, cuts: &[CutSource<'_>], at: Place) -> Result<Mess
 }
 
 /// The message of a source that no reading covers, at its first byte. The one error is want of memory.
-pub fn unread(alloc: Global, cuts: &[CutSource<'_>], file: u32) -> Result<Message, Memory>
+pub fn explain_unread(alloc: Global, cuts: &[CutSource<'_>], file: u32) -> Result<Message, Memory>
     ensures { IfOk result (λ message. message ≡ unread_of (map view_cut cuts.now) file) }
 {
     let text = text(
@@ -164,7 +166,7 @@ pub fn unread(alloc: Global, cuts: &[CutSource<'_>], file: u32) -> Result<Messag
         alloc,
         "if OCaml accepts this file, it uses a form that rotor does not read (USING, `syntax`)",
     )?;
-    Ok(placed(Kind::Syntax, text, at, Row::new(alloc), help))
+    Ok(make_error_at(Kind::Syntax, text, at, Row::new(alloc), help))
 }
 
 /// The message of a unit that needs itself through others. The one error is want of memory.
@@ -172,12 +174,12 @@ pub fn on_cycle(alloc: Global, unit: &[u8]) -> Result<Message, Memory>
     ensures { IfOk result (λ message. message ≡ on_cycle_of unit.now) }
 {
     let end = "` needs itself through other units";
-    let text = around(alloc, "the unit `", unit, end)?;
+    let text = wrap_word(alloc, "the unit `", unit, end)?;
     let help = help(
         alloc,
         "write the link order into rotor.units, one unit a line",
     )?;
-    Ok(bare(alloc, Kind::Cycle, text, help))
+    Ok(make_error(alloc, Kind::Cycle, text, help))
 }
 
 /// The message of a name that is bound twice. The one error is want of memory.
@@ -190,21 +192,21 @@ pub fn duplicate(
     ensures { IfOk result (λ message. message ≡ duplicate_of (map view_cut cuts.now) first again) }
 {
     let end = "` is bound twice in one pattern or `let`";
-    let text = around(alloc, "`", word_at(cuts, again), end)?;
+    let text = wrap_word(alloc, "`", word_at(cuts, again), end)?;
     let at = place_spot(alloc, cuts, again)?;
     let notes = one_note(alloc, cuts, first, "bound here already")?;
-    Ok(placed(Kind::Duplicate, text, at, notes, None))
+    Ok(make_error_at(Kind::Duplicate, text, at, notes, None))
 }
 
 /// The message of modules that are too large. The one error is want of memory.
-pub fn heavy(alloc: Global, cuts: &[CutSource<'_>], at: Place) -> Result<Message, Memory>
+pub fn explain_heavy(alloc: Global, cuts: &[CutSource<'_>], at: Place) -> Result<Message, Memory>
     ensures { IfOk result (λ message. message ≡ heavy_of (map view_cut cuts.now) at) }
 {
     let text = text(
         alloc,
         "the modules up to here have more parts than rotor resolves",
     )?;
-    helped(
+    explain_with_help(
         alloc,
         cuts,
         Kind::Heavy,
@@ -216,7 +218,11 @@ pub fn heavy(alloc: Global, cuts: &[CutSource<'_>], at: Place) -> Result<Message
 
 /// The message of an item without a source: a signature asks for it, or one side of an or-pattern lacks it. The one
 /// error is want of memory.
-pub fn unmatched(alloc: Global, cuts: &[CutSource<'_>], item: Place) -> Result<Message, Memory>
+pub fn explain_unmatched(
+    alloc: Global,
+    cuts: &[CutSource<'_>],
+    item: Place,
+) -> Result<Message, Memory>
     ensures { IfOk result (λ message. message ≡ unmatched_of (map view_cut cuts.now) item) }
 {
     if is_signature_item(cuts, item) {
@@ -232,8 +238,8 @@ fn unmatched_item(alloc: Global, cuts: &[CutSource<'_>], item: Place) -> Result<
 {
     let end =
         "` is asked for here, and the module that is matched with this signature has no such value";
-    let text = around(alloc, "`", word_at(cuts, item), end)?;
-    helped(
+    let text = wrap_word(alloc, "`", word_at(cuts, item), end)?;
+    explain_with_help(
         alloc,
         cuts,
         Kind::Unmatched,
@@ -248,9 +254,9 @@ fn unmatched_side(alloc: Global, cuts: &[CutSource<'_>], item: Place) -> Result<
     ensures { IfOk result (λ message. message ≡ unmatched_side_of (map view_cut cuts.now) item) }
 {
     let end = "` is not bound on each side of this or-pattern";
-    let text = around(alloc, "`", word_at(cuts, item), end)?;
+    let text = wrap_word(alloc, "`", word_at(cuts, item), end)?;
     let at = place_spot(alloc, cuts, item)?;
-    Ok(placed(Kind::Unmatched, text, at, Row::new(alloc), None))
+    Ok(make_error_at(Kind::Unmatched, text, at, Row::new(alloc), None))
 }
 
 /// Whether the token at a place is the name of an item of a signature.

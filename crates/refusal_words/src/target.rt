@@ -4,9 +4,11 @@ ghost use Rattle.refusal_words.specs.Cut.{view_cut};
 ghost use Rattle.refusal_words.specs.Target.{a_use as a_use_of, foreign_value as foreign_value_of, no_value as no_value_of, operator as operator_of, target_help as target_help_of, the_value as the_value_of, nameless as nameless_of};
 
 use crate::cut::CutSource;
-use crate::parts::{around, bare, help, helped, one_note, placed, simple, text};
+use crate::parts::{
+    explain_place, explain_with_help, help, make_error, make_error_at, one_note, text, wrap_word,
+};
 use crate::stretches::{place_spot, word_at};
-use messages::{Kind, Message, joined, spot_text};
+use messages::{Kind, Message, join_words, spot_text};
 use report::number_text;
 use rotor_base::{Memory, Place, Row};
 use std::alloc::Global;
@@ -26,7 +28,7 @@ pub(crate) fn the_value<'a>(
 {
     let spot = place_spot(alloc, cuts, place)?;
     let at = spot_text(alloc, &spot)?;
-    joined(
+    join_words(
         alloc,
         &[
             before.as_bytes(),
@@ -48,7 +50,7 @@ pub fn a_use(
     ensures { IfOk result (λ message. message ≡ a_use_of (map view_cut cuts.now) at declared) }
 {
     let begin = the_value(alloc, cuts, "this is a use of the ", declared)?;
-    let text = around(
+    let text = wrap_word(
         alloc,
         "",
         begin.as_slice(),
@@ -57,7 +59,7 @@ pub fn a_use(
     let spot = place_spot(alloc, cuts, at)?;
     let notes = one_note(alloc, cuts, declared, "declared here")?;
     let help = target_help(alloc, cuts, declared)?;
-    Ok(placed(Kind::NoTarget, text, spot, notes, Some(help)))
+    Ok(make_error_at(Kind::NoTarget, text, spot, notes, Some(help)))
 }
 
 /// The help that gives the target of a declaration.
@@ -66,7 +68,7 @@ fn target_help(alloc: Global, cuts: &[CutSource<'_>], declared: Place) -> Result
 {
     let spot = place_spot(alloc, cuts, declared)?;
     let number = number_text(alloc, u64::from(declared.token))?;
-    joined(
+    join_words(
         alloc,
         &[
             b"give the target ",
@@ -82,7 +84,7 @@ pub fn no_value(alloc: Global, cuts: &[CutSource<'_>], at: Place) -> Result<Mess
     ensures { IfOk result (λ message. message ≡ no_value_of (map view_cut cuts.now) at) }
 {
     let text = text(alloc, "no value is declared here")?;
-    helped(alloc, cuts, Kind::NoTarget, text, at, A_TARGET)
+    explain_with_help(alloc, cuts, Kind::NoTarget, text, at, A_TARGET)
 }
 
 /// The message of a use of a value that the folder does not declare. The one error is want of memory.
@@ -90,21 +92,21 @@ pub fn foreign_value(alloc: Global, cuts: &[CutSource<'_>], at: Place) -> Result
     ensures { IfOk result (λ message. message ≡ foreign_value_of (map view_cut cuts.now) at) }
 {
     let end = "` is no value that this folder declares";
-    let text = around(alloc, "this `", word_at(cuts, at), end)?;
-    helped(alloc, cuts, Kind::NoTarget, text, at, A_TARGET)
+    let text = wrap_word(alloc, "this `", word_at(cuts, at), end)?;
+    explain_with_help(alloc, cuts, Kind::NoTarget, text, at, A_TARGET)
 }
 
 /// The message of a target that names no token, of its sentence. The one error is want of memory.
-pub fn nameless(alloc: Global, sentence: Row<u8>) -> Result<Message, Memory>
+pub fn explain_nameless(alloc: Global, sentence: Row<u8>) -> Result<Message, Memory>
     ensures { IfOk result (λ message. message ≡ nameless_of sentence) }
 {
     let help = help(alloc, A_TARGET)?;
-    Ok(bare(alloc, Kind::NoTarget, sentence, help))
+    Ok(make_error(alloc, Kind::NoTarget, sentence, help))
 }
 
 /// The message of a target that declares an operator. The one error is want of memory.
 pub fn operator(alloc: Global, cuts: &[CutSource<'_>], at: Place) -> Result<Message, Memory>
     ensures { IfOk result (λ message. message ≡ operator_of (map view_cut cuts.now) at) }
 {
-    simple(alloc, cuts, Kind::Operator, "operators are not renamed", at)
+    explain_place(alloc, cuts, Kind::Operator, "operators are not renamed", at)
 }

@@ -45,7 +45,7 @@ fn run_steps(
     let mut last = None;
     let mut changes = Row::new(alloc);
     for at in 0..steps.len() {
-        let done = run_step(alloc, latest(files, &last), &steps[at], at as u32 + 1)?;
+        let done = run_step(alloc, find_latest(files, &last), &steps[at], at as u32 + 1)?;
         changes.push(Change {
             old: done.old,
             new: done.new,
@@ -53,7 +53,7 @@ fn run_steps(
         })?;
         last = Some(done.files);
     }
-    Ok((left(alloc, files, last)?, changes))
+    Ok((take_latest(alloc, files, last)?, changes))
 }
 
 /// Does the step of this number in some files.
@@ -64,12 +64,12 @@ fn run_step(alloc: Global, files: &Files, step: &Step, number: u32) -> Result<Re
 {
     match rename(alloc, files, &step.target, step.name.as_bytes()) {
         Ok(done) => Ok(done),
-        Err(refusal) => Err(failed(number, refusal)),
+        Err(refusal) => Err(make_step_error(number, refusal)),
     }
 }
 
 /// The error of a step of this number that has this refusal.
-fn failed(step: u32, refusal: Refusal) -> BatchError
+fn make_step_error(step: u32, refusal: Refusal) -> BatchError
     ensures { IsErrorOf step refusal result }
 {
     match refusal {
@@ -79,7 +79,7 @@ fn failed(step: u32, refusal: Refusal) -> BatchError
 }
 
 /// The files that the last step left, or the first ones before any step.
-fn latest<'a>(first: &'a Files, last: &'a Option<Files>) -> &'a Files
+fn find_latest<'a>(first: &'a Files, last: &'a Option<Files>) -> &'a Files
     ensures { result.now ≡ unwrap_or last.now first.now }
 {
     match last {
@@ -89,7 +89,7 @@ fn latest<'a>(first: &'a Files, last: &'a Option<Files>) -> &'a Files
 }
 
 /// The files that the last step left; if there is no step, a copy of the first ones.
-fn left(alloc: Global, first: &Files, last: Option<Files>) -> Result<Files, Memory>
+fn take_latest(alloc: Global, first: &Files, last: Option<Files>) -> Result<Files, Memory>
     ensures { IfOk result (λ files. files ≡ unwrap_or last first.now) }
 {
     match last {

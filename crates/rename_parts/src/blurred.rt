@@ -4,7 +4,7 @@ ghost use Rattle.std.specs.Prelude.{◌≡◌, ◌⊎◌};
 ghost use Rattle.rename_parts.specs.Blurs.{in_set, behind_in, blurred_ref, blurred_item, BlursRef, BlursLink, earlier_of};
 ghost use Rattle.rename_parts.specs.Leasts.{IsLeastOrNone};
 
-use crate::leasts::earlier;
+use crate::leasts::take_earlier;
 use rotor_base::{Goal, Link, Place, Ref};
 use std::collections::BTreeSet;
 
@@ -29,7 +29,7 @@ fn earlier_of(best: Option<Place>, found: Option<Place>) -> Option<Place>
     ensures { result ≡ earlier_of best found }
 {
     match found {
-        Some(place) => Some(earlier(best, place)),
+        Some(place) => Some(take_earlier(best, place)),
         None => best,
     }
 }

@@ -17,7 +17,8 @@ use rotor_base::{Class, MAX_FILE_BYTES, MAX_TOTAL_BYTES, Memory, Name, Place, So
 use std::alloc::Global;
 use std::collections::BTreeSet;
 
-/// The bytes of a source whose lower-case words at the places of a set take a new word.
+/// The bytes of a source after its lower-case words at the places of a set have taken a new word. `Memory` is the only
+/// error.
 pub fn new_bytes(
     alloc: Global,
     source: &[u8],

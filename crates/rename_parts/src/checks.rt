@@ -7,7 +7,7 @@ ghost use Rattle.rename_parts.specs.Hits.{all_hits, hit_at};
 ghost use Rattle.rename_parts.specs.Leasts.{IsLeastOrNone};
 ghost use Rattle.rename_parts.specs.declared.checks.Hit.{Hit};
 
-use crate::leasts::earlier;
+use crate::leasts::take_earlier;
 use rotor_base::{Memory, Place};
 use std::alloc::Global;
 use value_places::PlacedProject;
@@ -20,7 +20,7 @@ pub struct Hit {
     pub operator: bool,
 }
 
-/// What is at some places, in order. A place of no value has nothing.
+/// What is at each of some places, in order. A place without a value has no mark. `Memory` is the only error.
 pub fn hit_marks(
     alloc: Global,
     placed: &PlacedProject<'_>,
@@ -49,7 +49,7 @@ fn add_hit(list: &mut Vec<Hit>, placed: &PlacedProject<'_>, place: Place) -> Res
     Ok(())
 }
 
-/// Whether an operator is among them.
+/// Whether the word at one of these places is an operator.
 pub fn has_operator(marks: &[Hit]) -> bool
     ensures { result ≡ list_any (λ h. h.operator) marks.now }
 {
@@ -72,7 +72,7 @@ fn with_pun(best: Option<Place>, mark: Hit) -> Option<Place>
     ensures { result ≡ (if mark.pun then earlier best mark.place else best) }
 {
     if mark.pun {
-        Some(earlier(best, mark.place))
+        Some(take_earlier(best, mark.place))
     } else {
         best
     }

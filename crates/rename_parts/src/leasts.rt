@@ -7,7 +7,7 @@ use capture_check::is_before;
 use rotor_base::Place;
 
 /// The earlier of two places, of which there may be but one.
-pub fn earlier(best: Option<Place>, place: Place) -> Place
+pub fn take_earlier(best: Option<Place>, place: Place) -> Place
     ensures { Some result ≡ earlier best place }
 {
     match best {

@@ -16,4 +16,4 @@ pub use bytes::{first_over, new_bytes};
 pub use checks::{Hit, has_operator, hit_marks, least_pun};
 pub use links::least_unmatched;
 pub use members::{count_refs, files_of, hit_places};
-pub use targets::{dotted, number_of, token_at};
+pub use targets::{find_dotted, number_of, token_at};

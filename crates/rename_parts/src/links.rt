@@ -3,7 +3,7 @@
 ghost use Rattle.std.specs.Prelude.{◌≡◌, Some};
 ghost use Rattle.binding_model.specs.Facts.{least, unmatched_items};
 
-use crate::leasts::earlier;
+use crate::leasts::take_earlier;
 use rotor_base::{Goal, Link, Place};
 
 /// The least item of a link that lacks its source.
@@ -19,7 +19,7 @@ pub fn least_unmatched(links: &[Link]) -> Option<Place>
             source: Goal::Missing,
         } = links[left]
         {
-            least = Some(earlier(least, item));
+            least = Some(take_earlier(least, item));
         }
     }
     least

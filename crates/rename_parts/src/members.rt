@@ -13,7 +13,8 @@ use shape_core::is_among;
 use std::alloc::Global;
 use std::collections::BTreeSet;
 
-/// The places that take the new word: the members of a footprint, and the references to them.
+/// The places that take the new word: the members of a footprint, and the references to them. `Memory` is the only
+/// error.
 pub fn hit_places(
     alloc: Global,
     refs: &[Ref],

@@ -11,7 +11,7 @@ ghost use Rattle.rename_model.specs.Target.{number_of, offset_of, lexeme_over, t
 use rotor_base::{Goal, Name, Place, SourceFile, Token};
 use shape_core::{Scope, Shared, mod_in, mod_of, mty_in, mty_of, val_in, val_of};
 
-/// The number of the source of a name.
+/// The position of the source of this name in the list, or none if the list lacks it.
 pub fn number_of(files: &[SourceFile], name: &[u8]) -> Option<u32>
     requires { length files.now ≤ max_sources }
     ensures found { result ≡ number_of files.now name.now }
@@ -76,7 +76,7 @@ fn lexeme_over(tokens: &[Token], offset: u32) -> Option<u32>
 }
 
 /// The declaration that a dotted path names, walked from a scope.
-pub fn dotted(top: &Scope, path: &[Name]) -> Option<Place>
+pub fn find_dotted(top: &Scope, path: &[Name]) -> Option<Place>
     ensures { result ≡ dotted (entries_of top.now) path.now }
 {
     let (first, rest) = path.split_first()?;

@@ -16,7 +16,7 @@ ghost use Rattle.rename_parts.specs.Binders.{IsMarkAt};
 ghost use Rattle.rename_project.specs.Steps.{IsRefusedFor};
 
 use project_reading::Read;
-use rename_parts::{dotted, number_of, placed_binder, token_at};
+use rename_parts::{find_dotted, number_of, placed_binder, token_at};
 use rotor_base::{Files, Name, Place, Refusal, Target};
 use shape_core::Scope;
 use std::alloc::Global;
@@ -51,7 +51,7 @@ pub fn find_aim(
     ensures mark { IfOk result (λ aim. IsMarkAt (view_project read.now.project) aim.place (Some aim.mark)) }
     ensures refused { IfErr result (IsRefusedFor (HasNoTarget files.now (view_project read.now.project) target.now)) }
 {
-    let Some(place) = named(files, read, top, target) else {
+    let Some(place) = find_named(files, read, top, target) else {
         return Err(Refusal::NoTarget);
     };
     match placed_binder(alloc, placed, place)? {
@@ -61,7 +61,7 @@ pub fn find_aim(
 }
 
 /// The place that a target names.
-fn named(files: &Files, read: &Read, top: &Scope, target: &Target) -> Option<Place>
+fn find_named(files: &Files, read: &Read, top: &Scope, target: &Target) -> Option<Place>
     requires cut { AreCut files.now.entries (map (λ list. view_tokens list.items) read.now.tokens.items) }
     requires top { entries_of top.now ≡ after_units none (view_project read.now.project) }
     ensures found { IfSome result (Names files.now (view_project read.now.project) target.now) }
@@ -70,7 +70,7 @@ fn named(files: &Files, read: &Read, top: &Scope, target: &Target) -> Option<Pla
     match target {
         Target::At { file, token } => token_of(files, file, *token),
         Target::Spot { file, line, column } => spot_of(files, read, file, *line, *column),
-        Target::Dotted(path) => dotted(top, path.as_slice()),
+        Target::Dotted(path) => find_dotted(top, path.as_slice()),
     }
 }
 

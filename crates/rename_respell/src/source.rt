@@ -34,7 +34,7 @@ pub fn respell_source(
             token: number,
         };
         bytes.extend_from_slice(&source[from..token.start as usize])?;
-        add_text(&mut bytes, token, words.at(place))?;
+        add_text(&mut bytes, token, words.find_word(place))?;
         from = token.end as usize;
         number += 1;
     }

@@ -30,7 +30,7 @@ pub struct NewWords<'m> {
 
 impl<'m> NewWords<'m> {
     /// The new word of a place, if it takes one.
-    pub fn at(&self, place: Place) -> Option<&'m [u8]>
+    pub fn find_word(&self, place: Place) -> Option<&'m [u8]>
         ensures { option_copied result ≡ word_in self.now.names self.now.goals place }
     {
         let binder = match self.goals.get(&place) {
@@ -42,7 +42,8 @@ impl<'m> NewWords<'m> {
     }
 }
 
-/// The entries of a map that give a binder another name than its own.
+/// The entries of a map that give a binder another name than its own, as a table. If a place has several, the first
+/// counts. `Memory` is the only error.
 pub fn new_names<'m>(
     alloc: Global,
     placed: &PlacedProject<'_>,
@@ -76,7 +77,7 @@ fn add_name<'m>(names: &mut NewNames<'m>, place: Place, name: &'m Name) -> Resul
     Ok(())
 }
 
-/// The goal of each reference, by its place.
+/// The goal of each reference, by its place. If a place has several, the first counts. `Memory` is the only error.
 pub fn goal_table(alloc: Global, refs: &[Ref]) -> Result<Goals, Memory>
     ensures { IfOk result (λ goals. (p : Place) → get place_cmp goals p ≡ goal_at refs.now p) }
 {

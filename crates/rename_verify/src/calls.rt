@@ -77,7 +77,7 @@ fn judge(
     if let Some(at) = least_fixed(alloc, placed, facts, &found.changes)? {
         return Ok(Verdict::No(Why::Fixed { at }));
     }
-    match broken(alloc, new, facts)? {
+    match find_fault(alloc, new, facts)? {
         Some(fault) => Ok(Verdict::No(Why::Broken(fault))),
         None => Ok(Verdict::Yes(found.changes)),
     }
@@ -106,7 +106,7 @@ fn other_byte(
 
 /// The first fault of the project that new files are read as, against the facts of the old one. `Memory` is the only
 /// error.
-fn broken(alloc: Global, new: &Files, facts: &Facts) -> Result<Option<Fault>, Refusal>
+fn find_fault(alloc: Global, new: &Files, facts: &Facts) -> Result<Option<Fault>, Refusal>
     requires read { (us : List UnitTree) × Reads new.now us }
     requires same { (us : List UnitTree) → Reads new.now us → IsSameShape facts.now us }
     ensures fault { IfOk result (HasFirstFault new.now facts.now) }

@@ -3,8 +3,8 @@ ghost use Rattle.std.specs.Prelude.{◌≡◌, IfOk, map, string_bytes};
 ghost use Rattle.report.specs.Batch.{bad_batch_text as bad_batch_text_of, batch_line as batch_line_of, step_line as step_line_of, stopped_text as stopped_text_of};
 
 use crate::lines::{number_line, rename_line};
-use crate::notice::{numbered, refusal_notice};
-use crate::pieces::{joined, number_text, place_text};
+use crate::notice::{make_numbered, refusal_notice};
+use crate::pieces::{join_words, number_text, place_text};
 use crate::plain::notice_text;
 use rotor_base::{Memory, Name, Place, Refusal, Row};
 use std::alloc::Global;
@@ -29,7 +29,7 @@ pub fn step_line(
 {
     let rename = rename_line(alloc, old, new)?;
     let at = place_text(alloc, names, at)?;
-    joined(alloc, &[rename.as_slice(), b" ", at.as_slice()])
+    join_words(alloc, &[rename.as_slice(), b" ", at.as_slice()])
 }
 
 /// The text of a batch with a step that is refused: `step K ` and the line of the refusal. Steps count from 1. `names` are
@@ -45,7 +45,7 @@ pub fn stopped_text(
     let number = number_text(alloc, u64::from(step))?;
     let notice = refusal_notice(alloc, names, refusal)?;
     let refused = notice_text(alloc, notice)?;
-    let text = joined(
+    let text = join_words(
         alloc,
         &[b"step ", number.as_slice(), b" ", refused.as_slice()],
     )?;
@@ -57,6 +57,6 @@ pub fn stopped_text(
 pub fn bad_batch_text(alloc: Global, number: u32) -> Result<Vec<u8>, Memory>
     ensures { IfOk result (λ text. text.items ≡ bad_batch_text_of number) }
 {
-    let notice = numbered(alloc, "badbatch", u64::from(number))?;
+    let notice = make_numbered(alloc, "badbatch", u64::from(number))?;
     notice_text(alloc, notice)
 }

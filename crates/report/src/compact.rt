@@ -10,7 +10,7 @@ ghost use Rattle.report.specs.Json.{data_of, done_data, done_members, json_of, l
 
 use crate::lines::lines;
 use crate::notice::{Notice, Part, load_notice, refusal_notice};
-use crate::pieces::{file_name, joined, place_text};
+use crate::pieces::{file_name, join_words, place_text};
 use rotor_base::{LoadError, Memory, Outcome, Place, Refusal, Renamed, Row};
 use serde_json::{Map, Value, json};
 use std::alloc::{AllocError, Global};
@@ -145,7 +145,7 @@ fn object(alloc: Global, key: &str, value: Value) -> Result<Value, Memory>
 fn pair(alloc: Global, first: &[u8], second: &[u8]) -> Result<Value, Memory>
     ensures { IfOk result (λ value. view value ≡ texts_of (first.now ∷ second.now ∷ [])) }
 {
-    let words = vec![in alloc; joined(alloc, &[first])?, joined(alloc, &[second])?]?;
+    let words = vec![in alloc; join_words(alloc, &[first])?, join_words(alloc, &[second])?]?;
     texts(alloc, &words)
 }
 
@@ -166,7 +166,7 @@ fn values(alloc: Global, parts: &[Part]) -> Result<Row<Row<u8>>, Memory>
 {
     let mut values = Row::new(alloc);
     for part in parts {
-        values.push(joined(alloc, &[part.value()])?)?;
+        values.push(join_words(alloc, &[part.value()])?)?;
     }
     Ok(values)
 }
@@ -177,7 +177,7 @@ fn files(alloc: Global, names: &[String], files: &[u32]) -> Result<Row<Row<u8>>,
 {
     let mut told = Row::new(alloc);
     for file in files {
-        told.push(joined(alloc, &[file_name(names, *file)])?)?;
+        told.push(join_words(alloc, &[file_name(names, *file)])?)?;
     }
     Ok(told)
 }

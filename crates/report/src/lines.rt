@@ -3,7 +3,7 @@ ghost use Rattle.std.specs.Prelude.{◌≡◌, ◌++◌, [], ◌∷◌, IfOk, On
 ghost use Rattle.report.specs.Lines.{checked_lines as checked_lines_of, declaration_line as declaration_line_of, declaration_lines, done_lines as done_lines_of, files_line as files_line_of, lines_of, notice_lines as notice_lines_of, number_line as number_line_of, outside_line as outside_line_of, rename_line as rename_line_of, undo_line as undo_line_of, footprint_line as footprint_line_of, sampled_line as sampled_line_of, shown_lines as shown_lines_of, undone_text};
 
 use crate::notice::{Notice, load_notice, refusal_notice};
-use crate::pieces::{joined, number_text, place_text, placed_name};
+use crate::pieces::{join_words, number_text, place_text, placed_name};
 use rotor_base::{
     Counts, Foot, FootReport, Memory, Name, Outcome, Place, Renamed, Row, SampleReport,
 };
@@ -34,7 +34,7 @@ pub(crate) fn lines(
             let notice = load_notice(alloc, error)?;
             notice_lines(alloc, notice)
         }
-        Outcome::BadWords => one(alloc, joined(alloc, &[USAGE.as_bytes()])?),
+        Outcome::BadWords => list_one(alloc, join_words(alloc, &[USAGE.as_bytes()])?),
     }
 }
 
@@ -43,7 +43,7 @@ fn done_lines(alloc: Global, names: &[String], done: &Renamed) -> Result<Row<Row
     ensures { IfOk result (λ lines. lines ≡ done_lines_of (map string_bytes names.now) done.now) }
 {
     let changed = done.changed.as_slice().len() as u64;
-    let mut lines = one(alloc, rename_line(alloc, &done.old, &done.new)?)?;
+    let mut lines = list_one(alloc, rename_line(alloc, &done.old, &done.new)?)?;
     add_declarations(alloc, names, &done.foot, &mut lines)?;
     lines.push(number_line(alloc, "references", done.refs)?)?;
     lines.push(files_line(alloc, changed)?)?;
@@ -55,7 +55,7 @@ fn done_lines(alloc: Global, names: &[String], done: &Renamed) -> Result<Row<Row
 pub(crate) fn rename_line(alloc: Global, old: &Name, new: &Name) -> Result<Row<u8>, Memory>
     ensures { IfOk result (λ line. line ≡ rename_line_of old.now new.now) }
 {
-    joined(
+    join_words(
         alloc,
         &[b"rename ", old.as_bytes(), b" to ", new.as_bytes()],
     )
@@ -67,7 +67,7 @@ pub fn undo_line(alloc: Global, names: &[String], at: Place, old: &Name) -> Resu
     ensures { IfOk result (λ line. line ≡ undo_line_of (map string_bytes names.now) at old.now) }
 {
     let words = placed_name(alloc, names, at, old)?;
-    joined(alloc, &[b"undo ", words.as_slice()])
+    join_words(alloc, &[b"undo ", words.as_slice()])
 }
 
 /// The line of the number of changed files, `files N`. The one error is want of memory.
@@ -81,7 +81,7 @@ pub fn files_line(alloc: Global, count: u64) -> Result<Row<u8>, Memory>
 fn checked_lines(alloc: Global, counts: &Counts) -> Result<Row<Row<u8>>, Memory>
     ensures { IfOk result (λ lines. lines ≡ checked_lines_of counts.now) }
 {
-    let mut lines = one(alloc, files_line(alloc, counts.files)?)?;
+    let mut lines = list_one(alloc, files_line(alloc, counts.files)?)?;
     lines.push(number_line(alloc, "units", counts.units)?)?;
     lines.push(number_line(alloc, "declarations", counts.declarations)?)?;
     lines.push(number_line(alloc, "references", counts.references)?)?;
@@ -93,7 +93,7 @@ fn checked_lines(alloc: Global, counts: &Counts) -> Result<Row<Row<u8>>, Memory>
 fn shown_lines(alloc: Global, names: &[String], shown: &FootReport) -> Result<Row<Row<u8>>, Memory>
     ensures { IfOk result (λ lines. lines ≡ shown_lines_of (map string_bytes names.now) shown.now) }
 {
-    let mut lines = one(alloc, footprint_line(alloc, shown)?)?;
+    let mut lines = list_one(alloc, footprint_line(alloc, shown)?)?;
     add_declarations(alloc, names, &shown.foot, &mut lines)?;
     lines.push(number_line(alloc, "references", shown.refs)?)?;
     lines.push(outside_line(alloc, names, shown.foot.outside)?)?;
@@ -104,7 +104,7 @@ fn shown_lines(alloc: Global, names: &[String], shown: &FootReport) -> Result<Ro
 fn footprint_line(alloc: Global, shown: &FootReport) -> Result<Row<u8>, Memory>
     ensures { IfOk result (λ line. line ≡ footprint_line_of shown.now) }
 {
-    joined(alloc, &[b"footprint ", shown.old.as_bytes()])
+    join_words(alloc, &[b"footprint ", shown.old.as_bytes()])
 }
 
 /// The line of the place that is linked with the outside.
@@ -114,9 +114,9 @@ fn outside_line(alloc: Global, names: &[String], at: Option<Place>) -> Result<Ro
     match at {
         Some(at) => {
             let at = place_text(alloc, names, at)?;
-            joined(alloc, &[b"outside ", at.as_slice()])
+            join_words(alloc, &[b"outside ", at.as_slice()])
         }
-        None => joined(alloc, &[b"outside ", b"none"]),
+        None => join_words(alloc, &[b"outside ", b"none"]),
     }
 }
 
@@ -127,7 +127,7 @@ fn sampled_lines(alloc: Global, sampled: &SampleReport) -> Result<Row<Row<u8>>, 
     let units = number_text(alloc, u64::from(sampled.units))?;
     let footprint = number_text(alloc, sampled.footprint)?;
     let references = number_text(alloc, sampled.references)?;
-    let line = joined(
+    let line = join_words(
         alloc,
         &[
             b"units ",
@@ -140,7 +140,7 @@ fn sampled_lines(alloc: Global, sampled: &SampleReport) -> Result<Row<Row<u8>>, 
             yes_or_no(sampled.undone).as_bytes(),
         ],
     )?;
-    one(alloc, line)
+    list_one(alloc, line)
 }
 
 /// Whether all was undone.
@@ -155,7 +155,7 @@ pub(crate) fn notice_lines(alloc: Global, notice: Option<Notice>) -> Result<Row<
     ensures { IfOk result (λ lines. lines ≡ notice_lines_of notice) }
 {
     match notice {
-        Some(notice) => one(alloc, notice.line(alloc)?),
+        Some(notice) => list_one(alloc, notice.line(alloc)?),
         None => Ok(Row::new(alloc)),
     }
 }
@@ -165,7 +165,7 @@ pub(crate) fn number_line(alloc: Global, word: &str, number: u64) -> Result<Row<
     ensures { IfOk result (λ line. line ≡ number_line_of word.now number) }
 {
     let number = number_text(alloc, number)?;
-    joined(alloc, &[word.as_bytes(), b" ", number.as_slice()])
+    join_words(alloc, &[word.as_bytes(), b" ", number.as_slice()])
 }
 
 /// Adds a line for each declaration.
@@ -189,11 +189,11 @@ fn declaration_line(alloc: Global, names: &[String], at: Place) -> Result<Row<u8
     ensures { IfOk result (λ line. line ≡ declaration_line_of (map string_bytes names.now) at) }
 {
     let at = place_text(alloc, names, at)?;
-    joined(alloc, &[b"declaration ", at.as_slice()])
+    join_words(alloc, &[b"declaration ", at.as_slice()])
 }
 
 /// One line.
-fn one(alloc: Global, line: Row<u8>) -> Result<Row<Row<u8>>, Memory>
+fn list_one(alloc: Global, line: Row<u8>) -> Result<Row<Row<u8>>, Memory>
     ensures { IfOk result (λ lines. lines ≡ line ∷ []) }
 {
     let mut lines = Row::new(alloc);

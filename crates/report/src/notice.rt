@@ -5,7 +5,7 @@ ghost use Rattle.report.specs.Pieces.{file_of, goal_text as goal_text_of, kind_t
 ghost use Rattle.report.specs.Notice.{change_parts, load_notice as load_notice_of, notice_at, place_part as place_part_of, project, refusal_notice as refusal_notice_of, refused};
 
 use crate::pieces::{
-    file_name, goal_text, joined, kind_text, number_text, offset_text, place_text,
+    file_name, goal_text, join_words, kind_text, number_text, offset_text, place_text,
 };
 use rotor_base::{FormKind, Goal, LoadError, Memory, Name, Place, Refusal, Row};
 use std::alloc::Global;
@@ -37,10 +37,10 @@ pub(crate) fn load_notice(alloc: Global, error: &LoadError) -> Result<Option<Not
     ensures { IfOk result (λ notice. notice ≡ load_notice_of error.now) }
 {
     match error {
-        LoadError::TooMany { count } => numbered(alloc, "toomany", *count),
-        LoadError::TooLarge { file } => named(alloc, "toolarge", file),
-        LoadError::DoubleUnit { unit } => named(alloc, "doubleunit", unit),
-        LoadError::BadManifest { line } => numbered(alloc, "badmanifest", u64::from(*line)),
+        LoadError::TooMany { count } => make_numbered(alloc, "toomany", *count),
+        LoadError::TooLarge { file } => make_named(alloc, "toolarge", file),
+        LoadError::DoubleUnit { unit } => make_named(alloc, "doubleunit", unit),
+        LoadError::BadManifest { line } => make_numbered(alloc, "badmanifest", u64::from(*line)),
         LoadError::Read | LoadError::Memory => Ok(None),
     }
 }
@@ -59,16 +59,16 @@ pub(crate) fn refusal_notice(
         Refusal::Form { at, kind } => form(alloc, names, *at, *kind),
         Refusal::Deep { at } => place(alloc, names, Subject::Project, "deep", *at),
         Refusal::Syntax { file } => source(alloc, names, Subject::Project, "syntax", *file),
-        Refusal::Cycle { unit } => named(alloc, "cycle", unit),
+        Refusal::Cycle { unit } => make_named(alloc, "cycle", unit),
         Refusal::Duplicate { first, again } => {
             places(alloc, names, Subject::Project, "duplicate", *first, *again)
         }
         Refusal::Heavy { at } => place(alloc, names, Subject::Project, "heavy", *at),
         Refusal::Unmatched { item } => place(alloc, names, Subject::Project, "unmatched", *item),
-        Refusal::NoTarget => alone(alloc, "notarget"),
-        Refusal::Operator => alone(alloc, "operator"),
-        Refusal::BadName => alone(alloc, "badname"),
-        Refusal::SameName => alone(alloc, "samename"),
+        Refusal::NoTarget => make_bare_notice(alloc, "notarget"),
+        Refusal::Operator => make_bare_notice(alloc, "operator"),
+        Refusal::BadName => make_bare_notice(alloc, "badname"),
+        Refusal::SameName => make_bare_notice(alloc, "samename"),
         Refusal::Outside { at } => place(alloc, names, Subject::Renaming, "outside", *at),
         Refusal::Pun { at } => place(alloc, names, Subject::Renaming, "pun", *at),
         Refusal::Blurred { at } => place(alloc, names, Subject::Renaming, "blurred", *at),
@@ -87,26 +87,30 @@ pub(crate) fn refusal_notice(
 }
 
 /// A notice with the kind alone.
-fn alone(alloc: Global, kind: &str) -> Result<Option<Notice>, Memory>
+fn make_bare_notice(alloc: Global, kind: &str) -> Result<Option<Notice>, Memory>
     ensures { IfOk result (λ notice. notice ≡ refused kind.now []) }
 {
-    made(alloc, Subject::Renaming, kind, Vec::new(alloc))
+    make_notice(alloc, Subject::Renaming, kind, Vec::new(alloc))
 }
 
 /// A notice with a number.
-pub(crate) fn numbered(alloc: Global, kind: &str, number: u64) -> Result<Option<Notice>, Memory>
+pub(crate) fn make_numbered(
+    alloc: Global,
+    kind: &str,
+    number: u64,
+) -> Result<Option<Notice>, Memory>
     ensures { IfOk result (λ notice. notice ≡ project kind.now (Part.Plain (decimal number) ∷ [])) }
 {
     let number = Part::Plain(number_text(alloc, number)?);
-    made(alloc, Subject::Project, kind, vec![in alloc; number]?)
+    make_notice(alloc, Subject::Project, kind, vec![in alloc; number]?)
 }
 
 /// A notice with a name.
-fn named(alloc: Global, kind: &str, name: &Name) -> Result<Option<Notice>, Memory>
+fn make_named(alloc: Global, kind: &str, name: &Name) -> Result<Option<Notice>, Memory>
     ensures { IfOk result (λ notice. notice ≡ project kind.now (Part.Plain name.now ∷ [])) }
 {
-    let name = Part::Plain(joined(alloc, &[name.as_bytes()])?);
-    made(alloc, Subject::Project, kind, vec![in alloc; name]?)
+    let name = Part::Plain(join_words(alloc, &[name.as_bytes()])?);
+    make_notice(alloc, Subject::Project, kind, vec![in alloc; name]?)
 }
 
 /// A notice with a byte of a source.
@@ -120,7 +124,7 @@ fn byte(
     ensures { IfOk result (λ notice. notice ≡ project kind.now (Part.Plain (offset_text_of (map string_bytes names.now) file offset) ∷ [])) }
 {
     let at = Part::Plain(offset_text(alloc, names, file, offset)?);
-    made(alloc, Subject::Project, kind, vec![in alloc; at]?)
+    make_notice(alloc, Subject::Project, kind, vec![in alloc; at]?)
 }
 
 /// A notice with a source.
@@ -133,8 +137,8 @@ fn source(
 ) -> Result<Option<Notice>, Memory>
     ensures { IfOk result (λ notice. notice ≡ Some (notice_at subject kind.now (Part.Plain (file_of (map string_bytes names.now) file) ∷ []))) }
 {
-    let file = Part::Plain(joined(alloc, &[file_name(names, file)])?);
-    made(alloc, subject, kind, vec![in alloc; file]?)
+    let file = Part::Plain(join_words(alloc, &[file_name(names, file)])?);
+    make_notice(alloc, subject, kind, vec![in alloc; file]?)
 }
 
 /// The notice of a form that is refused.
@@ -147,8 +151,8 @@ fn form(
     ensures { IfOk result (λ notice. notice ≡ project (codes "form") (place_part_of (map string_bytes names.now) at ∷ Part.Plain (kind_text_of kind) ∷ [])) }
 {
     let at = place_part(alloc, names, at)?;
-    let kind = Part::Plain(joined(alloc, &[kind_text(kind).as_bytes()])?);
-    made(alloc, Subject::Project, "form", vec![in alloc; at, kind]?)
+    let kind = Part::Plain(join_words(alloc, &[kind_text(kind).as_bytes()])?);
+    make_notice(alloc, Subject::Project, "form", vec![in alloc; at, kind]?)
 }
 
 /// A notice with a place.
@@ -162,7 +166,7 @@ pub(crate) fn place(
     ensures { IfOk result (λ notice. notice ≡ Some (notice_at subject kind.now (place_part_of (map string_bytes names.now) at ∷ []))) }
 {
     let at = place_part(alloc, names, at)?;
-    made(alloc, subject, kind, vec![in alloc; at]?)
+    make_notice(alloc, subject, kind, vec![in alloc; at]?)
 }
 
 /// A notice with two places.
@@ -178,7 +182,7 @@ fn places(
 {
     let first = place_part(alloc, names, first)?;
     let again = place_part(alloc, names, again)?;
-    made(alloc, subject, kind, vec![in alloc; first, again]?)
+    make_notice(alloc, subject, kind, vec![in alloc; first, again]?)
 }
 
 /// A notice with what would change, and the goals that it had and would have.
@@ -195,7 +199,7 @@ fn change(
     let item = Part::Plain(goal_text(alloc, names, item)?);
     let was = Part::Was(goal_text(alloc, names, was)?);
     let would = Part::Would(goal_text(alloc, names, would)?);
-    made(
+    make_notice(
         alloc,
         Subject::Renaming,
         kind,
@@ -211,7 +215,7 @@ fn place_part(alloc: Global, names: &[String], at: Place) -> Result<Part, Memory
 }
 
 /// The notice of a kind with these values.
-pub(crate) fn made(
+pub(crate) fn make_notice(
     alloc: Global,
     subject: Subject,
     kind: &str,
@@ -220,7 +224,7 @@ pub(crate) fn made(
     ensures { IfOk result (λ notice. notice ≡ Some (notice_at subject kind.now values.items)) }
 {
     let mut parts = values;
-    parts.insert(0, Part::Plain(joined(alloc, &[kind.as_bytes()])?))?;
+    parts.insert(0, Part::Plain(join_words(alloc, &[kind.as_bytes()])?))?;
     let parts = Row::from_vec(parts);
     Ok(Some(Notice { subject, parts }))
 }
@@ -233,7 +237,7 @@ impl Notice {
     pub(crate) fn line(&self, alloc: Global) -> Result<Row<u8>, Memory>
         ensures { IfOk result (λ line. line ≡ notice_line self.now) }
     {
-        let front = joined(alloc, &[self.subject().as_bytes(), b":"])?;
+        let front = join_words(alloc, &[self.subject().as_bytes(), b":"])?;
         let mut line = front.into_vec();
         let parts = self.parts.as_slice();
         for part in parts {

@@ -8,7 +8,7 @@ use rotor_base::{FormKind, Goal, Memory, Name, Place, Row};
 use std::alloc::Global;
 
 /// Some words, one directly behind the other.
-pub(crate) fn joined(alloc: Global, words: &[&[u8]]) -> Result<Row<u8>, Memory>
+pub(crate) fn join_words(alloc: Global, words: &[&[u8]]) -> Result<Row<u8>, Memory>
     ensures { IfOk result (λ bytes. bytes ≡ join (map (λ word. word.now) words.now)) }
 {
     let mut bytes = Vec::new(alloc);
@@ -44,7 +44,7 @@ pub fn number_text(alloc: Global, number: u64) -> Result<Row<u8>, Memory>
     ensures { IfOk result (λ text. text ≡ decimal number) }
 {
     let digits = format!(in alloc; "{number}")?;
-    joined(alloc, &[digits.as_bytes()])
+    join_words(alloc, &[digits.as_bytes()])
 }
 
 /// A place, `FILE#N`.
@@ -52,7 +52,7 @@ pub(crate) fn place_text(alloc: Global, names: &[String], place: Place) -> Resul
     ensures { IfOk result (λ text. text ≡ place_text_of (map string_bytes names.now) place) }
 {
     let number = number_text(alloc, u64::from(place.token))?;
-    joined(
+    join_words(
         alloc,
         &[file_name(names, place.file), b"#", number.as_slice()],
     )
@@ -68,7 +68,7 @@ pub(crate) fn placed_name(
     ensures { IfOk result (λ text. text ≡ placed_name_of (map string_bytes names.now) at name.now) }
 {
     let at = place_text(alloc, names, at)?;
-    joined(alloc, &[at.as_slice(), b" ", name.as_bytes()])
+    join_words(alloc, &[at.as_slice(), b" ", name.as_bytes()])
 }
 
 /// A byte of a source, `FILE@OFFSET`.
@@ -81,7 +81,7 @@ pub(crate) fn offset_text(
     ensures { IfOk result (λ text. text ≡ offset_text_of (map string_bytes names.now) file offset) }
 {
     let number = number_text(alloc, u64::from(offset))?;
-    joined(alloc, &[file_name(names, file), b"@", number.as_slice()])
+    join_words(alloc, &[file_name(names, file), b"@", number.as_slice()])
 }
 
 /// A goal: a place or a word.
@@ -90,13 +90,13 @@ pub(crate) fn goal_text(alloc: Global, names: &[String], goal: Goal) -> Result<R
 {
     match goal {
         Goal::Decl(place) => place_text(alloc, names, place),
-        Goal::Outside => joined(alloc, &[b"outside"]),
-        Goal::Missing => joined(alloc, &[b"missing"]),
-        Goal::Hidden => joined(alloc, &[b"hidden"]),
+        Goal::Outside => join_words(alloc, &[b"outside"]),
+        Goal::Missing => join_words(alloc, &[b"missing"]),
+        Goal::Hidden => join_words(alloc, &[b"hidden"]),
         Goal::Blur { by, behind, .. } => {
             let by = place_text(alloc, names, by)?;
             let behind = behind_text(alloc, names, behind)?;
-            joined(alloc, &[b"blur:", by.as_slice(), b":", behind.as_slice()])
+            join_words(alloc, &[b"blur:", by.as_slice(), b":", behind.as_slice()])
         }
     }
 }
@@ -107,7 +107,7 @@ fn behind_text(alloc: Global, names: &[String], behind: Option<Place>) -> Result
 {
     match behind {
         Some(place) => place_text(alloc, names, place),
-        None => joined(alloc, &[b"outside"]),
+        None => join_words(alloc, &[b"outside"]),
     }
 }
 

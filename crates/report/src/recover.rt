@@ -4,7 +4,7 @@ ghost use Rattle.report.specs.Recover.{bad_plan_text as bad_plan_text_of, nothin
 
 use crate::compact::notice_json;
 use crate::lines::number_line;
-use crate::notice::{Subject, made};
+use crate::notice::{Subject, make_notice};
 use crate::plain::{line_text, notice_text};
 use rotor_base::Memory;
 use std::alloc::Global;
@@ -28,7 +28,7 @@ pub fn nothing_text(alloc: Global) -> Result<Vec<u8>, Memory>
 pub fn bad_plan_text(alloc: Global) -> Result<Vec<u8>, Memory>
     ensures { IfOk result (λ text. text.items ≡ bad_plan_text_of) }
 {
-    let notice = made(alloc, Subject::Project, "badplan", Vec::new(alloc))?;
+    let notice = make_notice(alloc, Subject::Project, "badplan", Vec::new(alloc))?;
     notice_text(alloc, notice)
 }
 
@@ -37,7 +37,7 @@ pub fn bad_plan_text(alloc: Global) -> Result<Vec<u8>, Memory>
 pub fn pending_text(alloc: Global, as_json: bool) -> Result<Vec<u8>, Memory>
     ensures { IfOk result (λ text. text.items ≡ pending_text_of as_json) }
 {
-    let notice = made(alloc, Subject::Project, "pending", Vec::new(alloc))?;
+    let notice = make_notice(alloc, Subject::Project, "pending", Vec::new(alloc))?;
     if as_json {
         notice_json(alloc, notice)
     } else {

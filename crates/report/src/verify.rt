@@ -3,8 +3,8 @@ ghost use Rattle.std.specs.Prelude.{◌≡◌, IfOk, map, string_bytes};
 ghost use Rattle.report.specs.Verify.{bad_list_text as bad_list_text_of, changed_line as changed_line_of, fixed_text as fixed_text_of, other_byte_text as other_byte_text_of, other_sources_text as other_sources_text_of, verified_line as verified_line_of};
 
 use crate::lines::number_line;
-use crate::notice::{Part, Subject, made, place};
-use crate::pieces::{joined, number_text, offset_text, placed_name};
+use crate::notice::{Part, Subject, make_notice, place};
+use crate::pieces::{join_words, number_text, offset_text, placed_name};
 use crate::plain::{line_text, notice_text};
 use rotor_base::{Memory, Name, Place, Row};
 use std::alloc::Global;
@@ -28,7 +28,7 @@ pub fn changed_line(
     ensures { IfOk result (λ line. line ≡ changed_line_of (map string_bytes names.now) at old.now new.now) }
 {
     let old = placed_name(alloc, names, at, old)?;
-    joined(alloc, &[old.as_slice(), b" ", new.as_bytes()])
+    join_words(alloc, &[old.as_slice(), b" ", new.as_bytes()])
 }
 
 /// The text of two lists of other sources, `different sources NAME`. The one error is want of memory.
@@ -66,9 +66,9 @@ pub fn fixed_text(alloc: Global, names: &[String], at: Place) -> Result<Vec<u8>,
 pub fn bad_list_text(alloc: Global, list: &str, number: u32) -> Result<Vec<u8>, Memory>
     ensures { IfOk result (λ text. text.items ≡ bad_list_text_of list.now number) }
 {
-    let list = Part::Plain(joined(alloc, &[list.as_bytes()])?);
+    let list = Part::Plain(join_words(alloc, &[list.as_bytes()])?);
     let number = Part::Plain(number_text(alloc, u64::from(number))?);
     let values = vec![in alloc; list, number]?;
-    let notice = made(alloc, Subject::Project, "badlist", values)?;
+    let notice = make_notice(alloc, Subject::Project, "badlist", values)?;
     notice_text(alloc, notice)
 }

@@ -46,14 +46,14 @@ pub(crate) fn notification_of<'a>(method: &str, message: &'a Value) -> Notificat
 {
     match method {
         "exit" => Notification::Exit,
-        "textDocument/didOpen" => opened(message).unwrap_or(Notification::Other),
-        "textDocument/didChange" => changed(message).unwrap_or(Notification::Other),
-        "textDocument/didClose" => closed(message).unwrap_or(Notification::Other),
+        "textDocument/didOpen" => read_opened(message).unwrap_or(Notification::Other),
+        "textDocument/didChange" => read_changed(message).unwrap_or(Notification::Other),
+        "textDocument/didClose" => read_closed(message).unwrap_or(Notification::Other),
         _ => Notification::Other,
     }
 }
 
-fn opened(message: &Value) -> Option<Notification<&str>>
+fn read_opened(message: &Value) -> Option<Notification<&str>>
     ensures { option_map notification_words result ≡ opened (view message.now) }
 {
     let params = message.get("params")?;
@@ -63,7 +63,7 @@ fn opened(message: &Value) -> Option<Notification<&str>>
     Some(Notification::Open { uri, version, text })
 }
 
-fn changed(message: &Value) -> Option<Notification<&str>>
+fn read_changed(message: &Value) -> Option<Notification<&str>>
     ensures { option_map notification_words result ≡ changed (view message.now) }
 {
     let params = message.get("params")?;
@@ -73,7 +73,7 @@ fn changed(message: &Value) -> Option<Notification<&str>>
     Some(Notification::Change { uri, version, last })
 }
 
-fn closed(message: &Value) -> Option<Notification<&str>>
+fn read_closed(message: &Value) -> Option<Notification<&str>>
     ensures { option_map notification_words result ≡ closed (view message.now) }
 {
     let uri = uri_of(message.get("params")?)?;

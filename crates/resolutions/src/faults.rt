@@ -54,7 +54,7 @@ pub fn faults_object(
         found.binder,
     )?;
     let renamed = renamed_files(alloc, files, &weighed.set, name.as_bytes())?;
-    let first = compared(alloc, &found.facts, &renamed)?;
+    let first = compare_facts(alloc, &found.facts, &renamed)?;
     let first = fault_text(alloc, files.entries(), first)?;
     let local = fault_text(alloc, files.entries(), weighed.fault)?;
     let mut object = Object::new(alloc);
@@ -93,7 +93,7 @@ fn weigh(
 }
 
 /// The first fault between the facts of a project and those of the renamed files.
-fn compared(alloc: Global, old: &Facts, renamed: &Files) -> Result<Option<Fault>, Refusal> {
+fn compare_facts(alloc: Global, old: &Facts, renamed: &Files) -> Result<Option<Fault>, Refusal> {
     let read = read_project(alloc, renamed)?;
     let resolved = resolve_facts(alloc, &read.project)?;
     let new = &resolved.facts;

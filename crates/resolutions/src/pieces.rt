@@ -37,7 +37,7 @@ pub fn place(alloc: Global, sources: &[SourceFile], place: Place) -> Result<Stri
 }
 
 /// A text of ASCII, quoted. Of the bytes that JSON escapes it has the quote, the backslash and the line feed alone.
-pub fn quoted(alloc: Global, bytes: &[u8]) -> Result<String, AllocError> {
+pub fn quote(alloc: Global, bytes: &[u8]) -> Result<String, AllocError> {
     let mut text = String::from_str(alloc, "\"")?;
     for byte in bytes {
         match byte {
@@ -138,7 +138,11 @@ pub fn line(alloc: Global, sources: &[SourceFile], outcome: &Outcome) -> Result<
 }
 
 /// The object of a refusal, if a request is refused.
-pub fn stopped(alloc: Global, sources: &[SourceFile], outcome: &Outcome) -> Result<String, Memory> {
+pub fn make_stopped(
+    alloc: Global,
+    sources: &[SourceFile],
+    outcome: &Outcome,
+) -> Result<String, Memory> {
     let line = line(alloc, sources, outcome)?;
     let mut object = Object::new(alloc);
     object.add("stopped", line.as_str())?;

@@ -4,7 +4,7 @@ use crate::facts::facts_object;
 use crate::faults::faults_object;
 use crate::folder::Folder;
 use crate::looks::looks_object;
-use crate::pieces::stopped;
+use crate::pieces::make_stopped;
 use crate::respelled::respelled_object;
 use cli_words::read_target;
 use rotor_base::{Files, LoadError, Memory, Outcome, Refusal};
@@ -54,7 +54,7 @@ fn answer_in(alloc: Global, folder: &Folder, request: Request) -> Result<String,
     match folder.load(alloc) {
         Ok(files) => answer_over(alloc, &files, request),
         Err(LoadError::Memory) => Err(Memory),
-        Err(error) => stopped(alloc, &[], &Outcome::NotLoaded(error)),
+        Err(error) => make_stopped(alloc, &[], &Outcome::NotLoaded(error)),
     }
 }
 
@@ -62,7 +62,7 @@ fn answer_over(alloc: Global, files: &Files, request: Request) -> Result<String,
     match object_of(alloc, files, request) {
         Ok(text) => Ok(text),
         Err(Refusal::Memory) => Err(Memory),
-        Err(why) => stopped(alloc, files.entries(), &Outcome::Refused(why)),
+        Err(why) => make_stopped(alloc, files.entries(), &Outcome::Refused(why)),
     }
 }
 

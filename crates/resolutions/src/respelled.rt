@@ -2,7 +2,7 @@
 
 ghost use Rattle.std.specs.Prelude.{◌≡◌, IfOk, map};
 
-use crate::pieces::{Object, list, place, quoted};
+use crate::pieces::{Object, list, place, quote};
 use rename_respell::respell;
 use rename_survey::{Binder, listed_are_binders, survey};
 use rotor_base::{Files, Memory, Name, Place, Refusal, SourceFile};
@@ -40,7 +40,7 @@ fn object(
     }
     let mut texts = Vec::new(alloc);
     for source in sources {
-        texts.push(quoted(alloc, source)?)?;
+        texts.push(quote(alloc, source)?)?;
     }
     let binders = list(alloc, &lists)?;
     let sources = list(alloc, &texts)?;
@@ -57,6 +57,6 @@ fn binder_text(
     binder: &Binder,
 ) -> Result<String, AllocError> {
     let at = place(alloc, entries, binder.at)?;
-    let name = quoted(alloc, binder.name.as_bytes())?;
+    let name = quote(alloc, binder.name.as_bytes())?;
     format!(in alloc; "[{at}, {name}, {}, {}]", binder.operator, binder.pun)
 }

@@ -14,7 +14,7 @@ pub struct Ended<T> {
 
 impl<T> Ended<T> {
     /// A run that ended before the command ran.
-    pub(crate) fn unseen(error: TreeError, folder: T) -> Self
+    pub(crate) fn make_unseen(error: TreeError, folder: T) -> Self
         ensures status { IsUnseen result.status }
         ensures folder { result.folder ≡ folder }
     {

@@ -34,15 +34,15 @@ pub(crate) fn see<T: Outer + Drop>(
     let mut tree = tree;
     let seen = match see_names(alloc, &mut tree) {
         Ok(seen) => seen,
-        Err(error) => return Err(Ended::unseen(error, tree)),
+        Err(error) => return Err(Ended::make_unseen(error, tree)),
     };
     let mut seeing = Seeing::new(tree, seen);
     if let Err(error) = see_asked(alloc, command, &mut seeing, loaded) {
-        return Err(Ended::unseen(error, seeing.into_tree()));
+        return Err(Ended::make_unseen(error, seeing.into_tree()));
     }
     match seeing.into_known(alloc) {
         Ok(known) => Ok(known),
-        Err(tree) => Err(Ended::unseen(TreeError::Memory, tree)),
+        Err(tree) => Err(Ended::make_unseen(TreeError::Memory, tree)),
     }
 }
 

@@ -42,8 +42,8 @@ pub fn run_command<T: Outer + Drop, S: Sink>(
     ensures quiet { (result.status ≡ Status.TreeFault) ⊎ (result.status ≡ Status.Memory) → out.new ≡ out.old }
 {
     let mut loaded = Vec::new(alloc);
-    match asking(alloc, words) {
-        Err(Memory) => Ended::unseen(TreeError::Memory, tree),
+    match read_asking(alloc, words) {
+        Err(Memory) => Ended::make_unseen(TreeError::Memory, tree),
         Ok(None) => run_alone(alloc, words, tree, out),
         Ok(Some(command)) => match see(alloc, &command, tree, &mut loaded) {
             Err(ended) => ended,
@@ -75,7 +75,7 @@ fn run_known<T: Outer + Drop, S: Sink>(
 }
 
 /// The command of the words, if it asks the folder.
-fn asking(alloc: Global, words: &[String]) -> Result<Option<Command>, Memory>
+fn read_asking(alloc: Global, words: &[String]) -> Result<Option<Command>, Memory>
     ensures { IfOk result (λ asked. IfNone asked (AsksNothing (command_of (map string_bytes words.now)))) }
 {
     match read_words(alloc, words) {

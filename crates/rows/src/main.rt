@@ -15,12 +15,12 @@ fn main(rt: HostRuntime) -> io::Result<()> {
         let line = line?;
         match line.as_str() {
             "run" => {
-                print!(rt; "{}", ended(alloc, &row)?)?;
+                print!(rt; "{}", run_row(alloc, &row)?)?;
                 row = Row::new(alloc);
             }
             "cuts" => {
                 for len in 0..row.last_len() {
-                    print!(rt; "{}", ended(alloc, &row.cut(alloc, len)?)?)?;
+                    print!(rt; "{}", run_row(alloc, &row.cut(alloc, len)?)?)?;
                 }
                 row = Row::new(alloc);
             }
@@ -31,7 +31,7 @@ fn main(rt: HostRuntime) -> io::Result<()> {
 }
 
 /// How a row ends.
-fn ended(alloc: Global, row: &Row) -> Result<String, AllocError> {
+fn run_row(alloc: Global, row: &Row) -> Result<String, AllocError> {
     match row.run(alloc) {
         Ok(ended) => Ok(ended),
         Err(_) => String::from_str(alloc, "no memory\n"),

@@ -36,7 +36,7 @@ pub fn ranges_of(
 {
     let offsets = ends_of(alloc, spans)?;
     let positions = positions_of(alloc, counting, source, &offsets)?;
-    paired(alloc, &positions)
+    pair_positions(alloc, &positions)
 }
 
 /// The offsets at which the spans begin and end, one after the other.
@@ -52,7 +52,7 @@ fn ends_of(alloc: Global, spans: &[Span]) -> Result<Vec<u32>, Memory>
 }
 
 /// The ranges from each first of two positions up to the second.
-fn paired(alloc: Global, positions: &[Position]) -> Result<Vec<TextRange>, Memory>
+fn pair_positions(alloc: Global, positions: &[Position]) -> Result<Vec<TextRange>, Memory>
     ensures { IfOk result (λ ranges. ranges.items ≡ paired positions.now) }
 {
     let mut ranges = Vec::new(alloc);

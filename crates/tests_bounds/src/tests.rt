@@ -7,7 +7,7 @@ use std::alloc::{AllocError, Global};
 use std::test::Fail;
 
 /// So many times what opens, an `x`, and so many times what closes.
-fn nested(alloc: Global, open: &str, close: &str, count: u32) -> Result<String, AllocError> {
+fn make_nested(alloc: Global, open: &str, close: &str, count: u32) -> Result<String, AllocError> {
     let mut text = String::new(alloc);
     for _ in 0..count {
         text.push_str(open)?;
@@ -68,7 +68,7 @@ fn deep_expressions(rt: HostRuntime) -> Result<(), Fail> {
         ("( ", row, 1_000, Err(ParseError::Memory)),
     ];
     for (open, close, count, answer) in rows {
-        let source = nested(rt.alloc(), open, close, count)?;
+        let source = make_nested(rt.alloc(), open, close, count)?;
         assert_eq!(rt; read(rt.alloc(), source.as_bytes()), answer);
     }
     Ok(())

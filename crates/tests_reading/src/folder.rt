@@ -34,7 +34,7 @@ pub fn read_pair(
     let files = make_files(alloc, vec![in alloc; a, b]?, manifest)?;
     match read_project(alloc, &files) {
         Ok(read) => units(alloc, &read),
-        Err(why) => told(alloc, &why),
+        Err(why) => describe_refusal(alloc, &why),
     }
 }
 
@@ -60,7 +60,7 @@ fn add_word(text: &mut String, word: &Name) -> Result<(), Fail> {
 }
 
 /// A refusal by its kind and its places.
-pub fn told(alloc: Global, why: &Refusal) -> Result<String, Fail> {
+pub fn describe_refusal(alloc: Global, why: &Refusal) -> Result<String, Fail> {
     let mut text = String::new(alloc);
     match why {
         Refusal::Lex { file, offset } => write!(text, "lex {file}@{offset}")?,

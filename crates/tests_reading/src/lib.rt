@@ -5,7 +5,7 @@
 mod folder;
 
 #[cfg(test)]
-pub use folder::{read_pair, told};
+pub use folder::{describe_refusal, read_pair};
 
 #[cfg(test)]
 mod tests;

@@ -4,7 +4,7 @@ use std::alloc::{AllocError, Global};
 use std::test::Fail;
 
 /// A word so often.
-fn repeated(alloc: Global, word: &str, count: usize) -> Result<String, AllocError> {
+fn repeat_word(alloc: Global, word: &str, count: usize) -> Result<String, AllocError> {
     let mut text = String::new(alloc);
     for _ in 0..count {
         text.push_str(word)?;
@@ -13,11 +13,11 @@ fn repeated(alloc: Global, word: &str, count: usize) -> Result<String, AllocErro
 }
 
 /// A `let` of 1 in so many parentheses.
-fn nested(alloc: Global, count: usize) -> Result<String, AllocError> {
+fn make_nested(alloc: Global, count: usize) -> Result<String, AllocError> {
     let mut text = String::from_str(alloc, "let x = ")?;
-    text.push_str(repeated(alloc, "(", count)?.as_str())?;
+    text.push_str(repeat_word(alloc, "(", count)?.as_str())?;
     text.push_str("1")?;
-    text.push_str(repeated(alloc, ")", count)?.as_str())?;
+    text.push_str(repeat_word(alloc, ")", count)?.as_str())?;
     Ok(text)
 }
 
@@ -51,17 +51,17 @@ fn the_first_source_that_is_not_read_is_told(rt: HostRuntime) -> Result<(), Fail
 fn long_names_and_deep_nesting_are_told(rt: HostRuntime) -> Result<(), Fail> {
     let alloc = rt.alloc();
     let mut long = String::from_str(alloc, "let ")?;
-    long.push_str(repeated(alloc, "x", 256)?.as_str())?;
+    long.push_str(repeat_word(alloc, "x", 256)?.as_str())?;
     assert_eq!(rt;
         read_pair(alloc, long.as_str(), "let y = 1", None)?.as_str(),
         "longname 0@4"
     );
-    let deep = nested(alloc, 257)?;
+    let deep = make_nested(alloc, 257)?;
     assert_eq!(rt;
         read_pair(alloc, deep.as_str(), "let y = 1", None)?.as_str(),
         "deep 0#260"
     );
-    let shallow = nested(alloc, 255)?;
+    let shallow = make_nested(alloc, 255)?;
     assert_eq!(rt;
         read_pair(alloc, shallow.as_str(), "let y = 1", None)?.as_str(),
         "A B | 514 4"

@@ -5,7 +5,7 @@
 mod sketch;
 
 #[cfg(test)]
-pub use sketch::{Piece, Sketch, decl, entries, place, plain};
+pub use sketch::{Piece, Sketch, decl, entries, make_plain, place};
 
 #[cfg(test)]
 mod tests;

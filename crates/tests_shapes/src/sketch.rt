@@ -41,15 +41,15 @@ pub fn decl(token: u32) -> Goal {
 
 /// The shape of a sketch.
 #[cycle(drawing)]
-pub fn plain(alloc: Global, sketch: &Sketch) -> Result<Shape, Memory> {
+pub fn make_plain(alloc: Global, sketch: &Sketch) -> Result<Shape, Memory> {
     match sketch {
         Sketch::Struct(pieces) => Ok(Shape::Struct(entries(alloc, pieces)?)),
         Sketch::Functor(p, r) => {
-            let p = Box::new(alloc, plain(alloc, p)?)?;
-            let r = Box::new(alloc, plain(alloc, r)?)?;
+            let p = Box::new(alloc, make_plain(alloc, p)?)?;
+            let r = Box::new(alloc, make_plain(alloc, r)?)?;
             Ok(Shape::Functor(p, r))
         }
-        Sketch::Unitary(r) => Ok(Shape::Unitary(Box::new(alloc, plain(alloc, r)?)?)),
+        Sketch::Unitary(r) => Ok(Shape::Unitary(Box::new(alloc, make_plain(alloc, r)?)?)),
         Sketch::Opaque => Ok(Shape::Opaque),
     }
 }
@@ -69,11 +69,11 @@ fn entry(alloc: Global, piece: &Piece) -> Result<Entry, Memory> {
     match piece {
         Piece::Val(x, token) => Ok(Entry::Val(Name::new(alloc, x.as_bytes())?, decl(*token))),
         Piece::Mod(x, shape) => {
-            let shape = plain(alloc, shape)?;
+            let shape = make_plain(alloc, shape)?;
             Ok(Entry::Mod(Name::new(alloc, x.as_bytes())?, shape))
         }
         Piece::Mty(x, shape) => {
-            let shape = plain(alloc, shape)?;
+            let shape = make_plain(alloc, shape)?;
             Ok(Entry::Mty(Name::new(alloc, x.as_bytes())?, shape))
         }
         Piece::Dark(token) => Ok(Entry::Dark(place(*token))),

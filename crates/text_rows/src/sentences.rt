@@ -27,14 +27,14 @@ pub fn answer(alloc: Global, row: &[&str]) -> Result<String, Memory> {
         return Ok(String::from_str(alloc, "too long\n")?);
     }
     let row = Row::new(alloc, places, words)?;
-    match told(alloc, name, &source, &row)? {
+    match find_message(alloc, name, &source, &row)? {
         Some(message) => message_answer(alloc, message),
         None => Ok(String::from_str(alloc, "no message\n")?),
     }
 }
 
 /// The message of a name over a source.
-fn told(
+fn find_message(
     alloc: Global,
     name: &str,
     source: &SourceFile,

@@ -32,13 +32,13 @@ impl<'a, R: Files<File = File> + AllocGlobal> HostTree<HostDisk<'a, R>> {
     pub fn new(rt: &'a R) -> Self
         ensures { tree_faults result ≡ 0 }
     {
-        HostTree::over(rt.alloc(), HostDisk::new(rt))
+        HostTree::from_disk(rt.alloc(), HostDisk::new(rt))
     }
 }
 
 impl<D: Disk> HostTree<D> {
     /// The folder of a disk, with no fault counted. It takes no memory.
-    pub fn over(alloc: Global, disk: D) -> Self
+    pub fn from_disk(alloc: Global, disk: D) -> Self
         ensures faults { tree_faults result ≡ 0 }
         ensures disk { tree_disk result ≡ disk }
         ensures open { is_blocked result ≡ false }

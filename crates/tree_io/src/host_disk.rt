@@ -82,11 +82,11 @@ impl<'a, R: Files<File = File>> Disk for HostDisk<'a, R> {
     }
 
     fn look(&mut self, name: &str) -> io::Result<Found> {
-        found(self.rt.symlink_metadata(name))
+        read_metadata(self.rt.symlink_metadata(name))
     }
 
     fn follow(&mut self, name: &str) -> io::Result<Found> {
-        found(self.rt.metadata(name))
+        read_metadata(self.rt.metadata(name))
     }
 
     fn open(&mut self, name: &str) -> io::Result<File> {
@@ -102,7 +102,7 @@ impl<'a, R: Files<File = File>> Disk for HostDisk<'a, R> {
     }
 
     fn look_at(&mut self, file: &File) -> io::Result<Found> {
-        found(file.metadata())
+        read_metadata(file.metadata())
     }
 
     fn put(&mut self, file: &mut File, bytes: &[u8], at: u64) -> io::Result<usize> {
@@ -126,7 +126,7 @@ impl<'a, R: Files<File = File>> Disk for HostDisk<'a, R> {
 }
 
 /// What the system's answer says of a name.
-fn found(answer: io::Result<Metadata>) -> io::Result<Found> {
+fn read_metadata(answer: io::Result<Metadata>) -> io::Result<Found> {
     match answer {
         Ok(metadata) => Ok(kind_of(&metadata)),
         Err(error) if error.kind() == ErrorKind::NotFound => Ok(Found::Missing),

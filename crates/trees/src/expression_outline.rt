@@ -168,13 +168,18 @@ fn operation(out: &mut Outline, e: &Expr) {
             expressions(out, rest);
             out.close();
         }
-        Expr::Minus { sign, operand } => inside(out, "minus", sign.token, operand),
-        Expr::Prefixed { operator, operand } => inside(out, "prefixed", operator.token, operand),
-        Expr::TagApply { tag, argument } => inside(out, "tag", tag.token, argument),
-        Expr::Assert { at, argument } => inside(out, "assert", *at, argument),
-        Expr::Lazy { at, argument } => inside(out, "lazy", *at, argument),
-        Expr::Paren { at, body } => inside(out, "parentheses", *at, body),
-        Expr::Begin { at, body } => inside(out, "begin", *at, body),
+        Expr::Minus { sign, operand } => add_inside(out, "minus", sign.token, operand),
+        Expr::Prefixed { operator, operand } => add_inside(
+            out,
+            "prefixed",
+            operator.token,
+            operand,
+        ),
+        Expr::TagApply { tag, argument } => add_inside(out, "tag", tag.token, argument),
+        Expr::Assert { at, argument } => add_inside(out, "assert", *at, argument),
+        Expr::Lazy { at, argument } => add_inside(out, "lazy", *at, argument),
+        Expr::Paren { at, body } => add_inside(out, "parentheses", *at, body),
+        Expr::Begin { at, body } => add_inside(out, "begin", *at, body),
         Expr::Apply {
             function,
             arguments,
@@ -213,13 +218,13 @@ fn operation(out: &mut Outline, e: &Expr) {
             expression(out, body);
             out.close();
         }
-        further => bracketed(out, further),
+        further => add_bracketed(out, further),
     }
 }
 
 /// Adds an expression in brackets or with types.
 #[cycle(expression_outline)]
-fn bracketed(out: &mut Outline, e: &Expr) {
+fn add_bracketed(out: &mut Outline, e: &Expr) {
     match e {
         Expr::Typed { at, body, run } => {
             out.open("typed");
@@ -339,7 +344,7 @@ fn links(out: &mut Outline, rest: &[(Word, Expr)]) {
 
 /// Adds a production with a token and one part.
 #[cycle(expression_outline)]
-fn inside(out: &mut Outline, name: &str, at: u32, e: &Expr) {
+fn add_inside(out: &mut Outline, name: &str, at: u32, e: &Expr) {
     out.open(name);
     out.token(at);
     expression(out, e);
@@ -419,7 +424,7 @@ fn argument(out: &mut Outline, part: &Argument) {
     match part {
         Argument::Positional(value) => expression(out, value),
         Argument::LabelPun(label) => out.leaf("pun", &[label.token]),
-        Argument::Labelled { label, value } => inside(out, "labelled", label.token, value),
+        Argument::Labelled { label, value } => add_inside(out, "labelled", label.token, value),
     }
 }
 
@@ -508,8 +513,8 @@ fn part(out: &mut Outline, piece: &Part) {
             out.token(label.token);
             out.close();
         }
-        Part::Index { open, index } => inside(out, "index", *open, index),
-        Part::CharIndex { open, index } => inside(out, "char", *open, index),
+        Part::Index { open, index } => add_inside(out, "index", *open, index),
+        Part::CharIndex { open, index } => add_inside(out, "char", *open, index),
     }
 }
 

@@ -15,12 +15,12 @@ pub fn expression_text(alloc: Global, expr: &Expr, end: usize) -> Result<String,
 /// The production of an expression, and how many further parts it has.
 fn production(expr: &Expr) -> (&'static str, usize) {
     match expr {
-        Expr::Seq { rest, last, .. } => (either(*last, "seq;", "seq"), rest.len()),
+        Expr::Seq { rest, last, .. } => (choose(*last, "seq;", "seq"), rest.len()),
         Expr::Let {
             recursive,
             rest,
             ..
-        } => (either(*recursive, "let rec", "let"), rest.len()),
+        } => (choose(*recursive, "let rec", "let"), rest.len()),
         Expr::LetOpen { path, .. } => ("let open", path.words.len()),
         Expr::LetModule { value, .. } => ("let module", value.arguments.len()),
         Expr::Fun { params, .. } => ("fun", params.len()),
@@ -31,7 +31,7 @@ fn production(expr: &Expr) -> (&'static str, usize) {
             more,
             otherwise,
             ..
-        } => (either(otherwise.is_some(), "if else", "if"), more.len()),
+        } => (choose(otherwise.is_some(), "if else", "if"), more.len()),
         Expr::Assign { rest, .. } => ("assign", rest.len()),
         Expr::Tuple { rest, .. } => ("tuple", rest.len()),
         Expr::Minus { .. } => ("minus", 0),
@@ -56,21 +56,21 @@ fn atom_production(atom: &Expr) -> (&'static str, usize) {
         Expr::Unit { .. } => ("unit", 0),
         Expr::Paren { .. } => ("parentheses", 0),
         Expr::Typed { .. } => ("typed", 0),
-        Expr::Coerced { from, .. } => (either(from.is_some(), "typed and coerced", "coerced"), 0),
+        Expr::Coerced { from, .. } => (choose(from.is_some(), "typed and coerced", "coerced"), 0),
         Expr::EmptyBegin { .. } => ("empty begin", 0),
         Expr::Begin { .. } => ("begin", 0),
         Expr::Empty { .. } => ("empty", 0),
-        Expr::List { rest, last, .. } => (either(*last, "list;", "list"), rest.len()),
+        Expr::List { rest, last, .. } => (choose(*last, "list;", "list"), rest.len()),
         Expr::Record { base, rest, .. } => {
-            (either(base.is_some(), "record with", "record"), rest.len())
+            (choose(base.is_some(), "record with", "record"), rest.len())
         }
         Expr::Opened { path, .. } => ("opened", path.words.len()),
         Expr::While { .. } => ("while", 0),
-        Expr::For { down, .. } => (either(*down, "for downto", "for to"), 0),
+        Expr::For { down, .. } => (choose(*down, "for downto", "for to"), 0),
         _ => ("no atom", 0),
     }
 }
 
-fn either(holds: bool, yes: &'static str, no: &'static str) -> &'static str {
+fn choose(holds: bool, yes: &'static str, no: &'static str) -> &'static str {
     if holds { yes } else { no }
 }

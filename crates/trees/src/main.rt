@@ -24,13 +24,13 @@ fn main(rt: HostRuntime) -> io::Result<()> {
     let mut text = Vec::new(alloc);
     for line in rt.lines(alloc) {
         let line = line?;
-        print!(rt; "{}", printed(alloc, &mut text, line.as_str())?)?;
+        print!(rt; "{}", answer_row(alloc, &mut text, line.as_str())?)?;
     }
     Ok(())
 }
 
 /// What a line prints: nothing, if it adds to the text alone.
-fn printed(alloc: Global, text: &mut Vec<u8>, line: &str) -> Result<String, AllocError> {
+fn answer_row(alloc: Global, text: &mut Vec<u8>, line: &str) -> Result<String, AllocError> {
     if let Some(piece) = line.strip_prefix('>') {
         text.extend_from_slice(piece.as_bytes())?;
         return Ok(String::new(alloc));
@@ -45,9 +45,9 @@ fn printed(alloc: Global, text: &mut Vec<u8>, line: &str) -> Result<String, Allo
         Some(("byte", number)) => text.push(number.parse::<u8>().unwrap_or(0))?,
         Some((kind, rest)) => {
             text.extend_from_slice(rest.as_bytes())?;
-            return requested(alloc, text, kind);
+            return answer_request(alloc, text, kind);
         }
-        None => return requested(alloc, text, line),
+        None => return answer_request(alloc, text, line),
     }
     Ok(String::new(alloc))
 }
@@ -63,7 +63,7 @@ fn add_times(text: &mut Vec<u8>, rest: &str) -> Result<(), AllocError> {
 }
 
 /// The line that answers a request. It leaves the text empty.
-fn requested(alloc: Global, text: &mut Vec<u8>, kind: &str) -> Result<String, AllocError> {
+fn answer_request(alloc: Global, text: &mut Vec<u8>, kind: &str) -> Result<String, AllocError> {
     let mut answer = answer(alloc, kind, text.as_slice())?;
     answer.push('\n')?;
     text.clear();

@@ -40,7 +40,7 @@ fn item(out: &mut Outline, part: &Item) {
             bindings(out, rest);
             out.close();
         }
-        Item::External(part) => external(out, part),
+        Item::External(part) => add_external(out, part),
         Item::Type(run) => out.run(run),
         Item::Exception { at, run } => {
             out.open("exception");
@@ -110,7 +110,7 @@ fn signature_item(out: &mut Outline, part: &SigItem) {
             out.run(run);
             out.close();
         }
-        SigItem::SigExternal(part) => external(out, part),
+        SigItem::SigExternal(part) => add_external(out, part),
         SigItem::SigType(run) => out.run(run),
         SigItem::SigException { at, run } => {
             out.open("exception");
@@ -167,7 +167,7 @@ fn signature_item(out: &mut Outline, part: &SigItem) {
     }
 }
 
-fn external(out: &mut Outline, part: &External) {
+fn add_external(out: &mut Outline, part: &External) {
     out.open("external");
     out.name(&part.name);
     out.run(&part.run);

@@ -39,10 +39,10 @@ pub fn pattern(out: &mut Outline, pat: &Pat) {
             pattern(out, argument);
             out.close();
         }
-        Pat::TagApply { tag, argument } => inside(out, "tag", tag.token, argument),
-        Pat::Lazy { at, pat } => inside(out, "lazy", *at, pat),
-        Pat::Exception { at, pat } => inside(out, "exception", *at, pat),
-        Pat::Paren { at, pat } => inside(out, "parentheses", *at, pat),
+        Pat::TagApply { tag, argument } => add_inside(out, "tag", tag.token, argument),
+        Pat::Lazy { at, pat } => add_inside(out, "lazy", *at, pat),
+        Pat::Exception { at, pat } => add_inside(out, "exception", *at, pat),
+        Pat::Paren { at, pat } => add_inside(out, "parentheses", *at, pat),
         Pat::Typed { at, pat, run } => {
             out.open("typed");
             out.token(*at);
@@ -128,7 +128,7 @@ fn leaf(out: &mut Outline, pat: &Pat) {
 
 /// Adds a production with a token and one part.
 #[cycle(pattern_outline)]
-fn inside(out: &mut Outline, name: &str, at: u32, pat: &Pat) {
+fn add_inside(out: &mut Outline, name: &str, at: u32, pat: &Pat) {
     out.open(name);
     out.token(at);
     pattern(out, pat);

@@ -52,7 +52,7 @@ impl Bound {
         self.names.len()
     }
 
-    /// Adds a name behind the others.
+    /// Adds a name behind the others. `Memory` is the only error.
     pub fn push(&mut self, alloc: Global, name: &[u8]) -> Result<(), Memory>
         ensures { OnOk result (self.new ≡ self.old ++ name.now ∷ []) }
     {

@@ -9,7 +9,7 @@ use ml_trees::UnitTree;
 use rotor_base::Memory;
 use std::alloc::Global;
 
-/// The position of the first unit that lies on a cycle.
+/// The position of the first unit that lies on a cycle of needs, or none. `Memory` is the only error.
 pub fn first_on_cycle(
     alloc: Global,
     units: &[UnitTree],

@@ -10,7 +10,7 @@ ghost use Rattle.unit_order.specs.Positions.{views, names_at};
 ghost use Rattle.unit_order.specs.Errors.{IsOrderError};
 
 use crate::cycle::first_on_cycle;
-use crate::listed::listed;
+use crate::listed::list_order;
 use crate::need_lists::need_lists;
 use crate::taking::take_ready;
 use ml_trees::UnitTree;
@@ -61,13 +61,13 @@ pub fn order(
     ensures refused { IfErr result (IsOrderError (views units.now) (option_copied manifest.entry)) }
 {
     match manifest {
-        Some(bytes) => Ok(listed(alloc, units, bytes)?),
-        None => derived(alloc, units),
+        Some(bytes) => Ok(list_order(alloc, units, bytes)?),
+        None => derive_order(alloc, units),
     }
 }
 
 /// The positions of the units in the order in which they are taken.
-fn derived(alloc: Global, units: &[UnitTree]) -> Result<Vec<u32>, OrderError>
+fn derive_order(alloc: Global, units: &[UnitTree]) -> Result<Vec<u32>, OrderError>
     requires count { length units.now < 4294967296 }
     requires sorted { IsStrictlySortedBy (slice_cmp nat_cmp) (map (λ unit. unit.name) units.now) }
     ensures order { IfOk result (λ order. names_at (views units.now) order.items ≡ derived_order (views units.now)) }

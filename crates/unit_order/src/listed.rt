@@ -10,8 +10,8 @@ use ml_trees::UnitTree;
 use rotor_base::{Memory, next_line};
 use std::alloc::Global;
 
-/// The positions of the units in the order of the lines of a manifest that lists them.
-pub fn listed(alloc: Global, units: &[UnitTree], manifest: &[u8]) -> Result<Vec<u32>, Memory>
+/// The positions of the units in the order of a manifest's lines, which list all of them. `Memory` is the only error.
+pub fn list_order(alloc: Global, units: &[UnitTree], manifest: &[u8]) -> Result<Vec<u32>, Memory>
     requires count { length units.now < 4294967296 }
     requires listed { IsListed (views units.now) (Some manifest.now) }
     ensures order { IfOk result (λ order. names_at (views units.now) order.items ≡ manifest_order manifest.now) }

@@ -15,7 +15,7 @@ use name_tables::Names;
 use rotor_base::Memory;
 use std::alloc::Global;
 
-/// For each unit, the positions of those that it needs, in ascending order.
+/// For each unit, the positions of the units that it needs, in ascending order. `Memory` is the only error.
 pub fn need_lists(alloc: Global, units: &[UnitTree]) -> Result<Vec<Vec<usize>>, Memory>
     requires sorted { IsStrictlySortedBy (slice_cmp nat_cmp) (map (λ unit. unit.name) units.now) }
     ensures { IfOk result (λ lists. map (λ list. list.items) lists.items ≡ map (positions_from 0) (need_table (views units.now))) }
@@ -87,7 +87,7 @@ fn positions_in(alloc: Global, row: &[bool]) -> Result<Vec<usize>, Memory>
     Ok(list)
 }
 
-/// For each unit, the positions of those that need it.
+/// For each unit, the positions of the units that need it. `Memory` is the only error.
 pub fn user_lists(alloc: Global, needs: &[Vec<usize>]) -> Result<Vec<Vec<usize>>, Memory>
     requires { All (λ list. All (λ at. at < length needs.now) list.items) needs.now }
     ensures size { IfOk result (λ users. length users.items ≡ length needs.now) }

@@ -1,7 +1,7 @@
 //! The places of a value, as the response of a language server.
 
+use crate::values::describe_refusal;
 use crate::values::project::{files_of, name_of, place_of};
-use crate::values::refused;
 use dependency_kernel::footprint;
 use lsp_answers::{Answer, Id, Location, response_text};
 use project_reading::{Read, read_project};
@@ -20,15 +20,15 @@ pub fn answer(
     folder: &[&str],
 ) -> Result<String, Memory> {
     match files_of(alloc, folder) {
-        Ok(files) => match found(alloc, counting, &files, name, offset) {
+        Ok(files) => match find_places(alloc, counting, &files, name, offset) {
             Ok(text) => Ok(text),
-            Err(why) => refused(alloc, why),
+            Err(why) => describe_refusal(alloc, why),
         },
         Err(_) => Ok(String::from_str(alloc, "the folder is not loaded")?),
     }
 }
 
-fn found(
+fn find_places(
     alloc: Global,
     counting: Counting,
     files: &Files,
@@ -42,7 +42,7 @@ fn found(
     };
     match value_at(alloc, &read.project, &resolved.facts, place)? {
         ValueAt::Value(declaration) => {
-            Ok(listed(alloc, counting, files, &read, &resolved.facts, declaration)?)
+            Ok(list_locations(alloc, counting, files, &read, &resolved.facts, declaration)?)
         }
         ValueAt::Outside | ValueAt::Blurred | ValueAt::NoValue => {
             Ok(String::from_str(alloc, "no value")?)
@@ -50,7 +50,7 @@ fn found(
     }
 }
 
-fn listed(
+fn list_locations(
     alloc: Global,
     counting: Counting,
     files: &Files,

@@ -1,7 +1,7 @@
 //! The edits of a renaming, as the response of a language server.
 
+use crate::values::describe_refusal;
 use crate::values::project::{files_of, name_of, place_of};
-use crate::values::refused;
 use editor_renaming::{EditorRenaming, rename_at};
 use lsp_answers::{Answer, DocumentEdits, Id, response_text};
 use project_reading::read_project;
@@ -21,15 +21,15 @@ pub fn answer(
     folder: &[&str],
 ) -> Result<String, Memory> {
     match files_of(alloc, folder) {
-        Ok(files) => match renamed(alloc, counting, &files, name, offset, new) {
+        Ok(files) => match rename_value(alloc, counting, &files, name, offset, new) {
             Ok(text) => Ok(text),
-            Err(why) => refused(alloc, why),
+            Err(why) => describe_refusal(alloc, why),
         },
         Err(_) => Ok(String::from_str(alloc, "the folder is not loaded")?),
     }
 }
 
-fn renamed(
+fn rename_value(
     alloc: Global,
     counting: Counting,
     files: &Files,

@@ -142,7 +142,7 @@ fn known_bytes(rt: HostRuntime) -> Result<(), Fail> {
     disk.cut(&mut file, 3)?;
     assert_eq!(rt; file.bytes.as_slice(), b"ABc".as_slice());
     assert!(rt; disk.put(&mut file, b"x", 4).is_err());
-    let mut tree = HostTree::over(alloc, disk);
+    let mut tree = HostTree::from_disk(alloc, disk);
     assert!(rt; tree.write("a.ml", b"ABCDEFG").is_ok());
     assert!(rt; tree.write("a.ml", b"A").is_ok());
     Ok(())

@@ -76,7 +76,7 @@ fn is_blocked<R: Abort>(
     setting: Setting,
     calls: &[Call],
 ) -> Result<(), Fail> {
-    let mut tree = HostTree::over(alloc, TestDisk::new(alloc, setting, b"abcd")?);
+    let mut tree = HostTree::from_disk(alloc, TestDisk::new(alloc, setting, b"abcd")?);
     assert!(rt; tree.room(alloc, "a.ml", 7).is_ok());
     assert!(rt; tree.write("a.ml", b"new").is_err());
     assert!(rt; tree.write("b.ml", b"new").is_err());
@@ -104,7 +104,7 @@ fn read_names(rt: HostRuntime) -> Result<(), Fail> {
 
 /// The file is read, and then no write is sound.
 fn is_read<R: Abort>(rt: &R, alloc: Global, setting: Setting, calls: &[Call]) -> Result<(), Fail> {
-    let mut tree = HostTree::over(alloc, TestDisk::new(alloc, setting, b"abcd")?);
+    let mut tree = HostTree::from_disk(alloc, TestDisk::new(alloc, setting, b"abcd")?);
     let bytes = tree.read(alloc, "a.ml", 3).map_err(|_| "no bytes")?;
     assert_eq!(rt; bytes.as_slice(), b"abc".as_slice());
     assert!(rt; tree.write("b.ml", b"new").is_err());
@@ -131,7 +131,10 @@ fn unread_names(rt: HostRuntime) -> Result<(), Fail> {
             ..PLAIN
         },
     ] {
-        let mut tree = HostTree::over(rt.alloc(), TestDisk::new(rt.alloc(), setting, b"abcd")?);
+        let mut tree = HostTree::from_disk(
+            rt.alloc(),
+            TestDisk::new(rt.alloc(), setting, b"abcd")?,
+        );
         assert!(rt; tree.read(rt.alloc(), "a.ml", 3).is_err());
         let disk = tree.into_disk();
         assert!(rt; !disk.calls.iter().any(|call| *call == Call::Open));
@@ -162,17 +165,17 @@ fn listed_names(rt: HostRuntime) -> Result<(), Fail> {
             ..PLAIN
         },
     ] {
-        let mut tree = HostTree::over(rt.alloc(), TestDisk::new(rt.alloc(), setting, b"")?);
+        let mut tree = HostTree::from_disk(rt.alloc(), TestDisk::new(rt.alloc(), setting, b"")?);
         assert!(rt; tree.list(rt.alloc()).is_err());
     }
-    let mut tree = HostTree::over(rt.alloc(), TestDisk::new(rt.alloc(), PLAIN, b"")?);
+    let mut tree = HostTree::from_disk(rt.alloc(), TestDisk::new(rt.alloc(), PLAIN, b"")?);
     let names = tree.list(rt.alloc()).map_err(|_| "no names")?;
     assert_eq!(rt; names.len(), 1);
     Ok(())
 }
 
 /// Another file than the one of `file_of`.
-fn numbered(device: u64, number: u64) -> Found {
+fn make_numbered(device: u64, number: u64) -> Found {
     Found::File(Node {
         len: 4,
         names: 1,
@@ -202,7 +205,7 @@ fn changed_meanwhile(rt: HostRuntime) -> Result<(), Fail> {
             ..PLAIN
         };
         let alloc = rt.alloc();
-        let mut tree = HostTree::over(alloc, TestDisk::new(alloc, setting, b"abcd")?);
+        let mut tree = HostTree::from_disk(alloc, TestDisk::new(alloc, setting, b"abcd")?);
         assert!(rt; tree.read(alloc, "a.ml", 4).is_ok());
         assert!(rt; tree.room(alloc, "b.ml", 3).is_ok());
         assert_eq!(rt; tree.write("b.ml", b"new").is_ok(), is_sound);
@@ -229,15 +232,18 @@ fn exchanged_file(rt: HostRuntime) -> Result<(), Fail> {
         Found::Link,
         Found::Other,
         file_of(2),
-        numbered(1, 8),
-        numbered(2, 7),
+        make_numbered(1, 8),
+        make_numbered(2, 7),
     ] {
         let setting = Setting {
             found: file_of(1),
             opened,
             ..PLAIN
         };
-        let mut tree = HostTree::over(rt.alloc(), TestDisk::new(rt.alloc(), setting, b"abcd")?);
+        let mut tree = HostTree::from_disk(
+            rt.alloc(),
+            TestDisk::new(rt.alloc(), setting, b"abcd")?,
+        );
         assert!(rt; tree.write("a.ml", b"new").is_err());
         let disk = tree.into_disk();
         assert_eq!(rt; disk.bytes.as_slice(), b"abcd".as_slice());

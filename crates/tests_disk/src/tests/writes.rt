@@ -109,7 +109,7 @@ fn setting_of(case: &Case, failing: usize) -> Setting {
 fn order_of_calls(rt: HostRuntime) -> Result<(), Fail> {
     for case in &CASES {
         let disk = TestDisk::new(rt.alloc(), setting_of(case, 0), case.old)?;
-        let mut tree = HostTree::over(rt.alloc(), disk);
+        let mut tree = HostTree::from_disk(rt.alloc(), disk);
         assert!(rt; tree.write("a.ml", case.new).is_ok());
         let disk = tree.into_disk();
         assert_eq!(rt; disk.calls.as_slice(), case.calls);
@@ -131,7 +131,7 @@ fn each_call_fails(rt: HostRuntime) -> Result<(), Fail> {
 /// A failed call is a fault, and up to the first byte over an old one the old bytes are there, and no others.
 fn fails_at<R: Abort>(rt: &R, alloc: Global, case: &Case, failing: usize) -> Result<(), Fail> {
     let disk = TestDisk::new(alloc, setting_of(case, failing), case.old)?;
-    let mut tree = HostTree::over(alloc, disk);
+    let mut tree = HostTree::from_disk(alloc, disk);
     assert!(rt; tree.write("a.ml", case.new).is_err(), "{failing}");
     let disk = tree.into_disk();
     let before = case.calls.iter().take(failing);

@@ -44,7 +44,7 @@ fn are_sources(files: &[SourceFile], sources: &[(&str, &str)]) -> bool {
 
 /// Whether the folder of a system loads so.
 fn loads_as<R: Files<File = File>>(alloc: Global, system: &R, wanted: &Wanted) -> bool {
-    let mut tree = HostTree::over(alloc, HostDisk::new(system));
+    let mut tree = HostTree::from_disk(alloc, HostDisk::new(system));
     is_wanted(&load(alloc, &mut tree), wanted)
 }
 

@@ -43,7 +43,7 @@ fn run_on(
         calls,
     };
     let mut out = MemSink::new(alloc, 1_000_000, Vec::new(alloc))?;
-    Ok(run_command(alloc, &words, HostTree::over(alloc, disk), &mut out).status)
+    Ok(run_command(alloc, &words, HostTree::from_disk(alloc, disk), &mut out).status)
 }
 
 /// A row: the words, the status, and the names that are opened and written.
@@ -214,7 +214,7 @@ fn unread_files_are_read_in_further_turns(rt: HostRuntime) -> Result<(), Fail> {
         names: &names,
         calls: &calls,
     };
-    let mut tree = HostTree::over(alloc, disk);
+    let mut tree = HostTree::from_disk(alloc, disk);
     let seen = see_names(alloc, &mut tree).map_err(|_| "no names")?;
     let mut known = Known::new(alloc, tree, seen).map_err(|_| "no memory")?;
     let mut out = MemSink::new(alloc, 1_000, Vec::new(alloc))?;

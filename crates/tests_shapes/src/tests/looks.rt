@@ -1,5 +1,5 @@
 // The looks of a match.
-use crate::tests::making::made;
+use crate::tests::making::make_shared;
 use crate::{Piece, Sketch, place};
 use rotor_base::{Foot, LinkLook, Looks, Memory, Name, Row, Watch};
 use sig_match::match_looks;
@@ -35,8 +35,8 @@ fn looks_of_match(
     tgt: &Sketch,
     watched: &Watched,
 ) -> Result<Looks, Memory> {
-    let src = made(alloc, src)?;
-    let tgt = made(alloc, tgt)?;
+    let src = make_shared(alloc, src)?;
+    let tgt = make_shared(alloc, tgt)?;
     match_looks(alloc, &src, &tgt, &watch(alloc, watched)?)
 }
 
@@ -61,7 +61,7 @@ fn tell_one_source(one: &LinkLook, other: &LinkLook) -> bool {
 }
 
 /// Whether the looks are just these.
-fn are(looks: &Looks, want: &[LinkLook], passed: u64) -> bool {
+fn has_looks(looks: &Looks, want: &[LinkLook], passed: u64) -> bool {
     let found = looks.links.as_slice();
     let same = found.iter().zip(want).all(|(one, other)| tell_one_item(one, other)
         && tell_one_source(one, other));
@@ -145,6 +145,6 @@ const MEETING_WATCHED: Watched = Watched {
 fn names_that_meet(rt: HostRuntime) -> Result<(), Fail> {
     let alloc = rt.alloc();
     let looks = looks_of_match(alloc, &MEETING_SRC, &MEETING_TGT, &MEETING_WATCHED)?;
-    assert!(rt; are(&looks, &[first(), second(), third()], 4));
+    assert!(rt; has_looks(&looks, &[first(), second(), third()], 4));
     Ok(())
 }

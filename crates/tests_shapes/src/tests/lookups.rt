@@ -1,5 +1,5 @@
 // Look-ups through Dark entries, in both forms and on a scope.
-use crate::{Piece, Sketch, decl, entries, place, plain};
+use crate::{Piece, Sketch, decl, entries, make_plain, place};
 use rotor_base::{Goal, Memory, Name, Place};
 use shape_core::{Scope, SharedEntry, find_val, share, val_in, val_of};
 use std::alloc::Global;
@@ -82,7 +82,7 @@ fn through_dark(rt: HostRuntime) -> Result<(), Fail> {
         let list = entries(alloc, case.list)?;
         let name = case.name.as_bytes();
         assert_eq!(rt; find_val(&list, name), case.goal, "{}", case.name);
-        let shared = share(alloc, &plain(alloc, &Sketch::Struct(case.list))?)?;
+        let shared = share(alloc, &make_plain(alloc, &Sketch::Struct(case.list))?)?;
         assert_eq!(rt; val_of(&shared, name), case.goal, "{}", case.name);
     }
     Ok(())

@@ -6,15 +6,15 @@ use std::alloc::Global;
 
 /// The shared shape of a sketch.
 #[cycle(making)]
-pub fn made(alloc: Global, sketch: &Sketch) -> Result<Shared, Memory> {
+pub fn make_shared(alloc: Global, sketch: &Sketch) -> Result<Shared, Memory> {
     match sketch {
         Sketch::Struct(pieces) => make_struct(alloc, made_entries(alloc, pieces)?),
         Sketch::Functor(p, r) => {
-            let p = made(alloc, p)?;
-            let r = made(alloc, r)?;
+            let p = make_shared(alloc, p)?;
+            let r = make_shared(alloc, r)?;
             make_functor(alloc, p, r)
         }
-        Sketch::Unitary(r) => make_unitary(alloc, made(alloc, r)?),
+        Sketch::Unitary(r) => make_unitary(alloc, make_shared(alloc, r)?),
         Sketch::Opaque => make_opaque(alloc),
     }
 }
@@ -35,8 +35,8 @@ fn made_entry(alloc: Global, piece: &Piece) -> Result<SharedEntry, Memory> {
         Piece::Val(x, token) => {
             Ok(SharedEntry::Val(Name::new(alloc, x.as_bytes())?, decl(*token)))
         }
-        Piece::Mod(x, sketch) => module(alloc, x, made(alloc, sketch)?),
-        Piece::Mty(x, sketch) => module_type(alloc, x, made(alloc, sketch)?),
+        Piece::Mod(x, sketch) => module(alloc, x, make_shared(alloc, sketch)?),
+        Piece::Mty(x, sketch) => module_type(alloc, x, make_shared(alloc, sketch)?),
         Piece::Dark(token) => Ok(SharedEntry::Dark(place(*token))),
     }
 }

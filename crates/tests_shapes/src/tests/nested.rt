@@ -1,5 +1,5 @@
 // Shapes whose match doubles at each level, and matches of shapes as deep as they may be.
-use crate::tests::making::{made, module_type};
+use crate::tests::making::{make_shared, module_type};
 use crate::{Piece, Sketch, place};
 use rotor_base::{MAX_LEVELS, Memory};
 use shape_core::{Shared, SharedEntry, levels_of, make_struct, make_unitary};
@@ -15,7 +15,7 @@ const ROOM: u32 = 4_194_304;
 
 /// A value under module types, each of which is in the next.
 pub fn nested_types(alloc: Global, levels: usize) -> Result<Shared, Memory> {
-    let mut shape = made(alloc, &BOTTOM)?;
+    let mut shape = make_shared(alloc, &BOTTOM)?;
     for _ in 0..levels {
         let mut entries = Vec::new(alloc);
         entries.push(module_type(alloc, "M", shape)?)?;
@@ -26,7 +26,7 @@ pub fn nested_types(alloc: Global, levels: usize) -> Result<Shared, Memory> {
 
 /// A value under functors over `()`.
 fn nested_functors(alloc: Global, levels: usize) -> Result<Shared, Memory> {
-    let mut shape = made(alloc, &BOTTOM)?;
+    let mut shape = make_shared(alloc, &BOTTOM)?;
     for _ in 0..levels {
         shape = make_unitary(alloc, shape)?;
     }
@@ -101,7 +101,7 @@ const EMPTY: Sketch = Sketch::Struct(&[]);
 fn module_types(alloc: Global, count: u32) -> Result<Shared, Memory> {
     let mut entries = Vec::new(alloc);
     for _ in 0..count {
-        entries.push(module_type(alloc, "S", made(alloc, &EMPTY)?)?)?;
+        entries.push(module_type(alloc, "S", make_shared(alloc, &EMPTY)?)?)?;
     }
     make_struct(alloc, entries)
 }

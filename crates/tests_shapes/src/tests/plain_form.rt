@@ -1,5 +1,5 @@
 // Row two-includes: the plain form of its shapes, copied, shared and looked up.
-use crate::{Piece, Sketch, decl, entries, plain};
+use crate::{Piece, Sketch, decl, entries, make_plain};
 use rotor_base::{Memory, Name};
 use shape_core::{
     Entry, Shape, copy, find_mod, find_mty, find_val, share, val_of, visible, walk, weight,
@@ -25,15 +25,15 @@ const UNIT: &[Piece] = &[
     Piece::Mty("S", Sketch::Struct(&[Piece::Val("s", 60)])),
 ];
 
-fn copied(alloc: Global) -> Result<Shape, Memory> {
-    let shape = plain(alloc, &Sketch::Struct(UNIT))?;
+fn copy_unit(alloc: Global) -> Result<Shape, Memory> {
+    let shape = make_plain(alloc, &Sketch::Struct(UNIT))?;
     copy(alloc, &shape)
 }
 
 #[test]
 fn copied_and_shared(rt: HostRuntime) -> Result<(), Fail> {
     let alloc = rt.alloc();
-    let copied = copied(alloc)?;
+    let copied = copy_unit(alloc)?;
     assert_eq!(rt; weight(&copied), 14);
     let shared = share(alloc, &copied)?;
     assert_eq!(rt; weight_of(&shared), 14);

@@ -18,15 +18,15 @@ pub fn batch_text(
     pieces: &[&str],
 ) -> Result<Option<Vec<u8>>, Memory> {
     let text = match pieces {
-        ["steps", count] => ended(alloc, batch_line(alloc, long(count))?)?,
+        ["steps", count] => end_line(alloc, batch_line(alloc, long(count))?)?,
         ["step", old, new, at] => {
             let (old, new) = (name(alloc, old)?, name(alloc, new)?);
-            ended(alloc, step_line(alloc, names, &old, &new, place(at))?)?
+            end_line(alloc, step_line(alloc, names, &old, &new, place(at))?)?
         }
-        ["files", count] => ended(alloc, files_line(alloc, long(count))?)?,
+        ["files", count] => end_line(alloc, files_line(alloc, long(count))?)?,
         ["undo", at, old] => {
             let old = name(alloc, old)?;
-            ended(alloc, undo_line(alloc, names, place(at), &old)?)?
+            end_line(alloc, undo_line(alloc, names, place(at), &old)?)?
         }
         ["stopped", step, why @ ..] => match refusal(alloc, why)? {
             Some(why) => stopped_text(alloc, names, number(step), &why)?,
@@ -45,10 +45,10 @@ pub fn verify_text(
     pieces: &[&str],
 ) -> Result<Option<Vec<u8>>, Memory> {
     let text = match pieces {
-        ["changes", count] => ended(alloc, verified_line(alloc, long(count))?)?,
+        ["changes", count] => end_line(alloc, verified_line(alloc, long(count))?)?,
         ["change", at, old, new] => {
             let (old, new) = (name(alloc, old)?, name(alloc, new)?);
-            ended(alloc, changed_line(alloc, names, place(at), &old, &new)?)?
+            end_line(alloc, changed_line(alloc, names, place(at), &old, &new)?)?
         }
         ["sources", other] => {
             let other = name(alloc, other)?;
@@ -76,7 +76,7 @@ pub fn recover_text(alloc: Global, pieces: &[&str]) -> Result<Option<Vec<u8>>, M
 }
 
 /// A line with its end.
-fn ended(alloc: Global, line: Row<u8>) -> Result<Vec<u8>, Memory> {
+fn end_line(alloc: Global, line: Row<u8>) -> Result<Vec<u8>, Memory> {
     let mut text = Vec::new(alloc);
     push_line(&mut text, &[line.as_slice()])?;
     Ok(text)

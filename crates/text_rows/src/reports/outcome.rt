@@ -31,14 +31,14 @@ pub fn outcome(alloc: Global, pieces: &[&str]) -> Result<Option<Outcome>, Memory
             refs: long(references),
         }),
         ["done", old, new, references, undo, places @ ..] => {
-            Outcome::Done(renamed(alloc, old, new, references, undo, places)?)
+            Outcome::Done(make_renamed(alloc, old, new, references, undo, places)?)
         }
-        pieces => return refused(alloc, pieces),
+        pieces => return read_refused(alloc, pieces),
     };
     Ok(Some(outcome))
 }
 
-fn refused(alloc: Global, pieces: &[&str]) -> Result<Option<Outcome>, Memory> {
+fn read_refused(alloc: Global, pieces: &[&str]) -> Result<Option<Outcome>, Memory> {
     if let Some(error) = load_error(alloc, pieces)? {
         return Ok(Some(Outcome::NotLoaded(error)));
     }
@@ -49,7 +49,7 @@ fn refused(alloc: Global, pieces: &[&str]) -> Result<Option<Outcome>, Memory> {
 }
 
 /// A renaming. Each of its declarations is in a file of its own.
-fn renamed(
+fn make_renamed(
     alloc: Global,
     old: &str,
     new: &str,

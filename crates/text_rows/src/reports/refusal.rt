@@ -17,7 +17,7 @@ pub fn refusal(alloc: Global, pieces: &[&str]) -> Result<Option<Refusal>, Memory
             let at = place(at);
             Refusal::Form { at, kind }
         }
-        [kind] => return Ok(bare(kind)),
+        [kind] => return Ok(read_bare(kind)),
         [kind, first] => return Ok(of_one(kind, first)),
         [kind, first, second] => return Ok(of_two(kind, first, second)),
         ["capture", at, was, would] => Refusal::Capture {
@@ -35,7 +35,7 @@ pub fn refusal(alloc: Global, pieces: &[&str]) -> Result<Option<Refusal>, Memory
     Ok(Some(refusal))
 }
 
-fn bare(kind: &str) -> Option<Refusal> {
+fn read_bare(kind: &str) -> Option<Refusal> {
     match kind {
         "notarget" => Some(Refusal::NoTarget),
         "operator" => Some(Refusal::Operator),

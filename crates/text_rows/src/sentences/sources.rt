@@ -4,9 +4,9 @@ ghost use Rattle.std.specs.Prelude.{◌≤◌, length};
 use crate::sentences::row::Row;
 use messages::Message;
 use refusal_words::{
-    CutSource, double_unit, duplicate, form_refused, heavy, large_file, large_sum, lex_refused,
-    long_name, missing_unit, on_cycle, repeated_unit, too_deep, too_many, unknown_unit, unmatched,
-    unread,
+    CutSource, double_unit, duplicate, explain_heavy, explain_unmatched, explain_unread,
+    form_refused, large_file, large_sum, lex_refused, long_name, missing_unit, on_cycle,
+    repeated_unit, too_deep, too_many, unknown_unit,
 };
 use rotor_base::{FormKind, Memory};
 use std::alloc::Global;
@@ -43,11 +43,11 @@ pub fn source_message(
         "longname" => long_name(alloc, cuts, 0, row.number(0))?,
         "form" => form_refused(alloc, cuts, row.place(0), form_of(row.number(1)))?,
         "deep" => too_deep(alloc, cuts, row.place(0))?,
-        "unread" => unread(alloc, cuts, 0)?,
+        "unread" => explain_unread(alloc, cuts, 0)?,
         "oncycle" => on_cycle(alloc, row.word(0))?,
         "duplicate" => duplicate(alloc, cuts, row.place(0), row.place(1))?,
-        "heavy" => heavy(alloc, cuts, row.place(0))?,
-        "unmatched" => unmatched(alloc, cuts, row.place(0))?,
+        "heavy" => explain_heavy(alloc, cuts, row.place(0))?,
+        "unmatched" => explain_unmatched(alloc, cuts, row.place(0))?,
         _ => return Ok(None),
     };
     Ok(Some(message))

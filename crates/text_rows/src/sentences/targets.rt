@@ -5,9 +5,9 @@ use crate::sentences::row::Row;
 use messages::Message;
 use refusal_words::{
     CutSource, a_use, bad_name, bad_plan, batch_line, blurred_link, blurred_use, capture, clash,
-    fixed, foreign_value, grown, list_line, long_batch, mislink, nameless, no_batch, no_line,
-    no_list, no_member, no_path, no_source, no_token, no_token_at, no_value, operator, other_bytes,
-    other_sources, outside, pun_refused, same_name,
+    explain_fixed, explain_grown, explain_nameless, explain_outside, foreign_value, list_line,
+    long_batch, mislink, no_batch, no_line, no_list, no_member, no_path, no_source, no_token,
+    no_token_at, no_value, operator, other_bytes, other_sources, pun_refused, same_name,
 };
 use rotor_base::{Memory, SourceFile};
 use std::alloc::Global;
@@ -23,17 +23,17 @@ pub fn target_message(
         "novalue" => no_value(alloc, cuts, row.place(0))?,
         "foreign" => foreign_value(alloc, cuts, row.place(0))?,
         "operator" => operator(alloc, cuts, row.place(0))?,
-        "nomember" => nameless(alloc, no_member(alloc, row.word(0), row.word(1))?)?,
-        "nopath" => nameless(alloc, no_path(alloc, row.word(0))?)?,
-        "nosource" => nameless(alloc, no_source(alloc, row.word(0))?)?,
-        "noline" => nameless(alloc, no_line(alloc, row.word(0), row.number(0))?)?,
+        "nomember" => explain_nameless(alloc, no_member(alloc, row.word(0), row.word(1))?)?,
+        "nopath" => explain_nameless(alloc, no_path(alloc, row.word(0))?)?,
+        "nosource" => explain_nameless(alloc, no_source(alloc, row.word(0))?)?,
+        "noline" => explain_nameless(alloc, no_line(alloc, row.word(0), row.number(0))?)?,
         "notoken" => {
             let count = u64::from(row.number(1));
-            nameless(alloc, no_token(alloc, row.word(0), row.number(0), count)?)?
+            explain_nameless(alloc, no_token(alloc, row.word(0), row.number(0), count)?)?
         }
         "notokenat" => {
             let sentence = no_token_at(alloc, row.word(0), row.number(0), row.number(1))?;
-            nameless(alloc, sentence)?
+            explain_nameless(alloc, sentence)?
         }
         "badname" => bad_name(alloc, row.word(0))?,
         "samename" => same_name(alloc, row.word(0))?,
@@ -52,11 +52,11 @@ pub fn renaming_message(
     let at = row.place(0);
     let decls = [row.place(4)];
     let message = match name {
-        "outside" => outside(alloc, cuts, at)?,
+        "outside" => explain_outside(alloc, cuts, at)?,
         "pun" => pun_refused(alloc, cuts, at)?,
         "blurreduse" => blurred_use(alloc, cuts, at, row.place(1))?,
         "blurredlink" => blurred_link(alloc, cuts, at, row.place(1))?,
-        "grown" => grown(alloc, cuts, 0)?,
+        "grown" => explain_grown(alloc, cuts, 0)?,
         "clash" => clash(alloc, cuts, at, row.place(1), row.word(0))?,
         "capture" => capture(alloc, cuts, &decls, at, row.goal(0), row.goal(1))?,
         "mislink" => mislink(alloc, cuts, &decls, at, row.goal(0), row.goal(1))?,
@@ -85,7 +85,7 @@ pub fn command_message(
         "batchline" => batch_line(alloc, file, bytes, row.number(0), row.number(1))?,
         "sources" => other_sources(alloc, row.word(0))?,
         "bytes" => other_bytes(alloc, cuts, 0, row.number(0))?,
-        "fixed" => fixed(alloc, cuts, row.place(0))?,
+        "fixed" => explain_fixed(alloc, cuts, row.place(0))?,
         _ => return Ok(None),
     };
     Ok(Some(message))

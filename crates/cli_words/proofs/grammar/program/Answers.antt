@@ -8,7 +8,7 @@ pub returns : goal.returns
 returns c =
     let check : IsTold c.new.result (new_app (codes "check")) = record { shape = c.new.ensures.app; local = c.new.ensures.local } in
     let recover : IsTold c.new-2.result (new_app (codes "recover")) = record { shape = c.new-2.ensures.app; local = c.new-2.ensures.local } in
-    let first = told_sub _ _ _ _ _ c.bare.ensures check c.in_ok-subcommand.ensures in
+    let first = told_sub _ _ _ _ _ c.make_bare.ensures check c.in_ok-subcommand.ensures in
     let second = told_sub _ _ _ _ _ first c.in_ok-footprint.ensures c.in_ok-subcommand-2.ensures in
     let third = told_sub _ _ _ _ _ second c.in_ok-rename.ensures c.in_ok-subcommand-3.ensures in
     let fourth = told_sub _ _ _ _ _ third c.in_ok-sample.ensures c.in_ok-subcommand-4.ensures in

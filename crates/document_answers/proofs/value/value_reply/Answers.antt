@@ -12,11 +12,11 @@ use Rattle.document_answers.specs.Value.{ArePlaces, RepliesValue}
 use Rattle.document_answers.proofs.Valued.{is_named, prepares, renames}
 use Rattle.document_answers.proofs.value.value_reply.Goals as goal
 
-pub returns-in_ok-prepared-in-PrepareRename-clause-reply : goal.returns-in_ok-prepared-in-PrepareRename-clause-reply
-returns-in_ok-prepared-in-PrepareRename-clause-reply c =
+pub returns-in_ok-prepare_word-in-PrepareRename-clause-reply : goal.returns-in_ok-prepare_word-in-PrepareRename-clause-reply
+returns-in_ok-prepare_word-in-PrepareRename-clause-reply c =
     let a = c.args.around in
     prepares a.files.now (view_project a.read.now.project) (view_scene a.scene) a.has_versions c.args.place c.args.declared c.args.query
-    c.in_ok-prepared-in-PrepareRename.field-0 c.in-PrepareRename.is c.in_ok-prepared-in-PrepareRename.ensures
+    c.in_ok-prepare_word-in-PrepareRename.field-0 c.in-PrepareRename.is c.in_ok-prepare_word-in-PrepareRename.ensures
 
 pub returns-in_ok-locations-in-References-clause-reply : goal.returns-in_ok-locations-in-References-clause-reply
 returns-in_ok-locations-in-References-clause-reply c =

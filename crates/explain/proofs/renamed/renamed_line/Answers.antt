@@ -13,4 +13,4 @@ returns c =
       c.as_bytes-2.ensures,
       c.as_slice.ensures,
       c.as_slice-2.ensures,
-    ) at c.joined.ensures
+    ) at c.join_words.ensures

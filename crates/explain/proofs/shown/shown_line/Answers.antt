@@ -9,4 +9,4 @@ returns c =
       c.in_ok-uses.ensures,
       c.as_bytes.ensures,
       c.as_slice.ensures,
-    ) at c.joined.ensures
+    ) at c.join_words.ensures

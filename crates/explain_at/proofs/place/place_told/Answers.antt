@@ -9,8 +9,8 @@ returns-in-Value c =
     said_declared (view_project c.args.project.now) (map view_cut c.args.cuts.now) c.args.place c.in_ok-found.found c.in-Value.declared
     c.target_told.result c.in_ok-found.ensures c.in-Value.is c.target_told.ensures
 
-pub returns-in_ok-valueless-in_default : goal.returns-in_ok-valueless-in_default
-returns-in_ok-valueless-in_default c =
+pub returns-in_ok-explain_valueless-in_default : goal.returns-in_ok-explain_valueless-in_default
+returns-in_ok-explain_valueless-in_default c =
     said_nothing (view_project c.args.project.now) (map view_cut c.args.cuts.now) c.args.place c.in_ok-found.found
-    c.in_ok-valueless-in_default.field-0 c.refused_at.result c.in_ok-found.ensures c.in_default.not-Value c.in_ok-valueless-in_default.ensures
+    c.in_ok-explain_valueless-in_default.field-0 c.refused_at.result c.in_ok-found.ensures c.in_default.not-Value c.in_ok-explain_valueless-in_default.ensures
     c.refused_at.ensures

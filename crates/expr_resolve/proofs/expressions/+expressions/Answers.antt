@@ -210,10 +210,10 @@ expression-returns-in_ok-field-in-Record-clause-taken t c =
     c.deref-in-Record.ensures c.deref-in-Record-2.ensures.value) in
     carry c.more_fields.result c.args.found.now c.field.new.found c.more_fields.new.found (expr_steps file sc (view c.args.e.now))
     (fields_steps file (entries_of c.field.new.scope) (fields c.deref-in-Record-2.result.now))
-    (three c.args.found.now c.optional-in-Record.new.found c.field.new.found c.args.scope.now c.optional-in-Record.new.scope c.field.new.scope
+    (three c.args.found.now c.resolve_optional-in-Record.new.found c.field.new.found c.args.scope.now c.resolve_optional-in-Record.new.scope c.field.new.scope
     (λ s. maybe_steps file s (maybe c.in-Record.base)) (λ s. field_steps file s (view_field c.deref-in-Record.result.now))
     (λ s. fields_steps file s (fields c.deref-in-Record-2.result.now))
-    (expr_steps file sc (view c.args.e.now)) c.in_ok-optional-in-Record.ensures.taken c.in_ok-optional-in-Record.ensures.scope
+    (expr_steps file sc (view c.args.e.now)) c.in_ok-resolve_optional-in-Record.ensures.taken c.in_ok-resolve_optional-in-Record.ensures.scope
     c.in_ok-field-in-Record.ensures.taken c.in_ok-field-in-Record.ensures.scope e)
     c.more_fields.ensures.taken
 
@@ -228,10 +228,10 @@ expression-returns-in_ok-field-in-Record-clause-heavy t c =
     c.deref-in-Record.ensures c.deref-in-Record-2.ensures.value) in
     carry_heavy c.more_fields.result c.args.found.now c.field.new.found (expr_steps file sc (view c.args.e.now))
     (fields_steps file (entries_of c.field.new.scope) (fields c.deref-in-Record-2.result.now))
-    (three c.args.found.now c.optional-in-Record.new.found c.field.new.found c.args.scope.now c.optional-in-Record.new.scope c.field.new.scope
+    (three c.args.found.now c.resolve_optional-in-Record.new.found c.field.new.found c.args.scope.now c.resolve_optional-in-Record.new.scope c.field.new.scope
     (λ s. maybe_steps file s (maybe c.in-Record.base)) (λ s. field_steps file s (view_field c.deref-in-Record.result.now))
     (λ s. fields_steps file s (fields c.deref-in-Record-2.result.now))
-    (expr_steps file sc (view c.args.e.now)) c.in_ok-optional-in-Record.ensures.taken c.in_ok-optional-in-Record.ensures.scope
+    (expr_steps file sc (view c.args.e.now)) c.in_ok-resolve_optional-in-Record.ensures.taken c.in_ok-resolve_optional-in-Record.ensures.scope
     c.in_ok-field-in-Record.ensures.taken c.in_ok-field-in-Record.ensures.scope e)
     c.more_fields.ensures.heavy
 
@@ -380,9 +380,9 @@ expression-returns-in_ok-let_parts-in-Let-clause-taken t c =
     ∙ ap (λ l. expr_steps file (sc ⊕ entries_of l) (view c.deref-in-Let-8.result.now)) c.deref-in-Let-9.ensures.value
     ∙ ap (λ x. expr_steps file (sc ⊕ W) (view x)) c.deref-in-Let-8.ensures in
     let whole = ap (taken (Going f3)) p3 ∙ sym (until ∙ ap (λ t. taken t P3) h3) in
-    carry c.under.result f0 f3 c.under.new.found (expr_steps file sc (view c.args.e.now))
+    carry c.resolve_under.result f0 f3 c.resolve_under.new.found (expr_steps file sc (view c.args.e.now))
     (expr_steps file (entries_of c.let_parts.new.scope ⊕ entries_of c.deref-in-Let-9.result.now) (view c.deref-in-Let-8.result.now)) whole
-    c.under.ensures.taken
+    c.resolve_under.ensures.taken
 
 pub expression-returns-in_ok-let_parts-in-Let-clause-heavy : goal.expression-returns-in_ok-let_parts-in-Let-clause-heavy
 expression-returns-in_ok-let_parts-in-Let-clause-heavy t c =
@@ -423,9 +423,9 @@ expression-returns-in_ok-let_parts-in-Let-clause-heavy t c =
     ∙ ap (λ l. expr_steps file (sc ⊕ entries_of l) (view c.deref-in-Let-8.result.now)) c.deref-in-Let-9.ensures.value
     ∙ ap (λ x. expr_steps file (sc ⊕ W) (view x)) c.deref-in-Let-8.ensures in
     let whole = ap (taken (Going f3)) p3 ∙ sym (until ∙ ap (λ t. taken t P3) h3) in
-    carry_heavy c.under.result f0 f3 (expr_steps file sc (view c.args.e.now))
+    carry_heavy c.resolve_under.result f0 f3 (expr_steps file sc (view c.args.e.now))
     (expr_steps file (entries_of c.let_parts.new.scope ⊕ entries_of c.deref-in-Let-9.result.now) (view c.deref-in-Let-8.result.now)) whole
-    c.under.ensures.heavy
+    c.resolve_under.ensures.heavy
 
 pub expression-returns-in_err-branches-in-If-clause-heavy : goal.expression-returns-in_err-branches-in-If-clause-heavy
 expression-returns-in_err-branches-in-If-clause-heavy t c =
@@ -479,8 +479,8 @@ expression-returns-in_ok-branches-in-If-clause-taken t c =
     let pO = ap (λ s. maybe_steps file (entries_of s) (maybe c.in-If.otherwise)) (c.in_ok-branches-in-If.ensures.scope ∙ kept) in
     let whole = ap (taken (Going f3)) pO
     ∙ sym (until ∙ ap (λ t. taken t O) (sym (ap (taken (Going f2)) pB) ∙ c.in_ok-branches-in-If.ensures.taken)) in
-    carry c.optional.result f0 f3 c.optional.new.found (expr_steps file sc (view c.args.e.now))
-    (maybe_steps file (entries_of c.branches.new.scope) (maybe c.in-If.otherwise)) whole c.optional.ensures.taken
+    carry c.resolve_optional.result f0 f3 c.resolve_optional.new.found (expr_steps file sc (view c.args.e.now))
+    (maybe_steps file (entries_of c.branches.new.scope) (maybe c.in-If.otherwise)) whole c.resolve_optional.ensures.taken
 
 pub expression-returns-in_ok-branches-in-If-clause-heavy : goal.expression-returns-in_ok-branches-in-If-clause-heavy
 expression-returns-in_ok-branches-in-If-clause-heavy t c =
@@ -508,5 +508,5 @@ expression-returns-in_ok-branches-in-If-clause-heavy t c =
     let pO = ap (λ s. maybe_steps file (entries_of s) (maybe c.in-If.otherwise)) (c.in_ok-branches-in-If.ensures.scope ∙ kept) in
     let whole = ap (taken (Going f3)) pO
     ∙ sym (until ∙ ap (λ t. taken t O) (sym (ap (taken (Going f2)) pB) ∙ c.in_ok-branches-in-If.ensures.taken)) in
-    carry_heavy c.optional.result f0 f3 (expr_steps file sc (view c.args.e.now))
-    (maybe_steps file (entries_of c.branches.new.scope) (maybe c.in-If.otherwise)) whole c.optional.ensures.heavy
+    carry_heavy c.resolve_optional.result f0 f3 (expr_steps file sc (view c.args.e.now))
+    (maybe_steps file (entries_of c.branches.new.scope) (maybe c.in-If.otherwise)) whole c.resolve_optional.ensures.heavy

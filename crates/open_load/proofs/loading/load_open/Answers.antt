@@ -14,9 +14,9 @@ pub returns : goal.returns
 returns g c =
     let docs = held_documents c.new-tree.result in
     unloaded_is_open (g.T.Tree.content c.args.folder) (open_files g.T.Tree.content c.load.new.tree) (documents c.args.held.now) c.in-Err.error
-    c.unloaded.result
+    c.make_unloaded.result
     (files_below g.T.Tree.content (documents c.args.held.now) docs c.args.folder (below c.new-tree.result)
     (open_files g.T.Tree.content c.load.new.tree) c.new-tree.ensures.documents c.new-tree.ensures.tree c.in-Err.ensures.content)
     (told_below g.T.Tree.content (documents c.args.held.now) docs c.args.folder (below c.new-tree.result)
     (λ held. IsOutside c.in-Err.error ⊎ (loaded held ≡ Err c.in-Err.error)) c.new-tree.ensures.documents c.new-tree.ensures.tree c.in-Err.ensures.answer)
-    c.unloaded.ensures
+    c.make_unloaded.ensures

@@ -13,8 +13,8 @@ use Rattle.project_reading.proofs.Made.{positions_once, reads, sound}
 use Rattle.project_reading.proofs.Reading.{as_many_trees}
 use Rattle.project_reading.proofs.project.read_project.Goals as goal
 
-pub gathered-requires : goal.gathered-requires
-gathered-requires c =
+pub gather_units-requires : goal.gather_units-requires
+gather_units-requires c =
     let trees = c.in-Ok.read.0.items in
     sym (length-map trees view_file) ∙ as_many_trees 0 c.entries-sources.result.now (map view_file trees) c.in-Ok.ensures.trees
 

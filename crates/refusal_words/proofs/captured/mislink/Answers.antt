@@ -4,7 +4,7 @@ use Rattle.refusal_words.proofs.captured.mislink.Goals as goal
 pub returns : goal.returns
 returns c =
     rw (
-      c.placed.ensures,
+      c.make_error_at.ensures,
       c.in_ok-text.ensures,
       c.word_at.ensures,
       c.as_slice.ensures,

@@ -2,4 +2,4 @@ use Rattle.std.proofs.Common.{refl}
 use Rattle.refusal_words.proofs.source.unmatched_side.Goals as goal
 
 pub returns : goal.returns
-returns c = rw (c.placed.ensures, c.in_ok-text.ensures, c.word_at.ensures, c.in_ok-at.ensures, c.new.ensures) refl
+returns c = rw (c.make_error_at.ensures, c.in_ok-text.ensures, c.word_at.ensures, c.in_ok-at.ensures, c.new.ensures) refl

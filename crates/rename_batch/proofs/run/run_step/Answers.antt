@@ -6,8 +6,8 @@ returns-in-Ok-clause-done c = done_named c.args.files.now c.args.step.now c.as_b
 
 pub returns-in-Err-clause-refused : goal.returns-in-Err-clause-refused
 returns-in-Err-clause-refused c =
-    refused_step c.args.files.now c.args.step.now c.args.number c.as_bytes.result.now c.in-Err.refusal c.failed.result c.as_bytes.ensures
-    c.in-Err.ensures.refused c.failed.ensures
+    refused_step c.args.files.now c.args.step.now c.args.number c.as_bytes.result.now c.in-Err.refusal c.make_step_error.result c.as_bytes.ensures
+    c.in-Err.ensures.refused c.make_step_error.ensures
 
 pub returns-in-Err-clause-named : goal.returns-in-Err-clause-named
-returns-in-Err-clause-named c = names_refusal c.args.number c.in-Err.refusal c.failed.result c.failed.ensures
+returns-in-Err-clause-named c = names_refusal c.args.number c.in-Err.refusal c.make_step_error.result c.make_step_error.ensures

@@ -27,8 +27,8 @@ returns-in-Some-2-clause-verdict c =
     c.requires.names c.requires.manifest c.in_ok-found.found.names.items c.in_ok-found.found.changes.items c.args.placed.now c.requires.placed c.in_ok-found.ensures k
     (subst (λ (l : List Changed). Contains l k) c.deref.ensures.value among)))))
 
-pub broken-requires-clause-read : goal.broken-requires-clause-read
-broken-requires-clause-read c =
+pub find_fault-requires-clause-read : goal.find_fault-requires-clause-read
+find_fault-requires-clause-read c =
     let us = view_project c.args.read.now.project in
     let names = c.in_ok-found.found.names.items in
     is_read_again c.args.old.now c.args.new.now us c.requires.project c.requires.reads c.requires.light c.requires.names c.requires.manifest names
@@ -40,8 +40,8 @@ broken-requires-clause-read c =
     c.requires.names c.requires.manifest c.in_ok-found.found.names.items c.in_ok-found.found.changes.items c.args.placed.now c.requires.placed c.in_ok-found.ensures k
     (subst (λ (l : List Changed). Contains l k) c.deref.ensures.value among)))))
 
-pub broken-requires-clause-same : goal.broken-requires-clause-same
-broken-requires-clause-same c =
+pub find_fault-requires-clause-same : goal.find_fault-requires-clause-same
+find_fault-requires-clause-same c =
     let us = view_project c.args.read.now.project in
     let names = c.in_ok-found.found.names.items in
     same_shape c.args.old.now c.args.new.now us c.requires.project c.requires.reads c.requires.light c.requires.names c.requires.manifest names

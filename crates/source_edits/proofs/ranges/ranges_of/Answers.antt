@@ -18,5 +18,5 @@ returns c =
     let ranges : paired c.deref-2.result.now ≡ map (range_of c.args.counting c.args.source.now) c.args.spans.now
     = ap paired positions ∙ ap (λ xs. paired (map (λ offset. position_of c.args.counting offset c.args.source.now) xs)) offsets
     ∙ paired-ends_of c.args.counting c.args.source.now c.args.spans.now in
-    let P : List TextRange → Type 0 = λ xs. IfOk c.paired.result (λ made. made.items ≡ xs) in
-    subst P ranges c.paired.ensures
+    let P : List TextRange → Type 0 = λ xs. IfOk c.pair_positions.result (λ made. made.items ≡ xs) in
+    subst P ranges c.pair_positions.ensures

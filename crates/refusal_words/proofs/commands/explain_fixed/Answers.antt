@@ -1,0 +1,6 @@
+use Rattle.std.proofs.Common.{refl}
+use Rattle.refusal_words.proofs.commands.explain_fixed.Goals as goal
+
+pub returns : goal.returns
+returns c =
+    rw (c.make_error_at.ensures, c.in_ok-text.ensures, c.word_at.ensures, c.in_ok-spot.ensures, c.new.ensures) refl

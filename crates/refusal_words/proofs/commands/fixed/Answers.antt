@@ -1,6 +1,0 @@
-use Rattle.std.proofs.Common.{refl}
-use Rattle.refusal_words.proofs.commands.fixed.Goals as goal
-
-pub returns : goal.returns
-returns c =
-    rw (c.placed.ensures, c.in_ok-text.ensures, c.word_at.ensures, c.in_ok-spot.ensures, c.new.ensures) refl
