@@ -12,3 +12,4 @@ pub mod Rows
 pub mod Sizes
 pub mod Looked
 pub mod Noted
+pub mod Declaring

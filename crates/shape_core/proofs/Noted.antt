@@ -152,7 +152,7 @@ final_get (a ∷ b ∷ ss) =
     let e : length (a ∷ b ∷ ss) - 1 ≡ suc (length (b ∷ ss) - 1) = omega arith in
     ap (slice_get (a ∷ b ∷ ss)) e ∙ final_get (b ∷ ss) ∙ sym (or_some (final ss) a b)
 
-final_more : (ss : List Spot) (s : Spot) → final (ss ++ s ∷ []) ≡ Some s
+pub final_more : (ss : List Spot) (s : Spot) → final (ss ++ s ∷ []) ≡ Some s
 final_more [] s = refl
 final_more (a ∷ ss) s = ap (λ o. or_else o (Some a)) (final_more ss s)
 

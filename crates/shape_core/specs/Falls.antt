@@ -23,7 +23,7 @@ list_falls : (es : List SharedEntry) → max (max (most (λ e. deep-SharedEntry 
 list_falls es = omega (arith, most_depth es)
 
 form_falls : (m : Form) → max (deep-Form m) 0 ≤ depth (shape_of m)
-form_falls (f.Struct es ix) = list_falls es.items
+form_falls (f.Struct es c) = list_falls es.items
 form_falls (f.Functor p r) = omega arith
 form_falls (f.Unitary r) = omega arith
 form_falls f.Opaque = omega arith

@@ -1,19 +1,14 @@
 -- What an index of a list of entries holds (own).
-use Rattle.std.specs.Prelude.{◌≡◌, ◌≤◌, ℕ, suc, Bool, false, List, [], ◌∷◌, ◌++◌, slice_get, Option, Some, None, bytes_eq, nat_eq}
-use Rattle.rotor_base.specs.Limits.{max_levels}
+use Rattle.std.specs.Prelude.{◌≡◌, ℕ, suc, Bool, false, List, [], ◌∷◌, ◌++◌, slice_get, Option, Some, None, bytes_eq, nat_eq}
 use Rattle.shape_core.specs.declared.shared.SharedEntry.{SharedEntry}
 use Rattle.shape_core.specs.declared.shared.SharedEntry.TheVariants as e
-use Rattle.shape_core.specs.declared.shared.Form.{Form}
-use Rattle.shape_core.specs.declared.shared.Form.TheVariants as f
-use Rattle.shape_core.specs.declared.shared.Node.{Node}
 use Rattle.shape_core.specs.declared.index.Spot.{Spot}
 use Rattle.shape_core.specs.declared.index.Tables.{Tables}
 use Rattle.shape_core.specs.declared.index.Before.{Before}
 use Rattle.shape_core.specs.declared.index.Index.{Index}
 use Rattle.name_tables.specs.Names.{at}
-use Rattle.shape_core.specs.Node.{entries_of, shape_of}
-use Rattle.shape_core.specs.Shape.{Name, Shape, Entries, none, a_val, a_mod, a_mty, a_dark, or_else, some_if, darks, values_from, weight, depth}
-use Rattle.shape_core.specs.Shape.{capped}
+use Rattle.shape_core.specs.Node.{entries_of}
+use Rattle.shape_core.specs.Shape.{Name, Shape, Entries, none, a_val, a_mod, a_mty, a_dark, or_else, some_if, darks, values_from}
 
 -- one entry more in front, and one Dark entry more
 abbrev pub moved : Option Spot → Option Spot
@@ -112,16 +107,3 @@ pub record IsIndexOf (ix : Index) (list : List SharedEntry) : Type 0 where
   pub tables : Tells ix.tables list
   pub befores : ix.befores.items ≡ befores_from [] list
   pub values : ix.values.items ≡ values_from 0 (entries_of list)
-
-abbrev pub IsIndexed : Form → Type 0
-IsIndexed (f.Struct es ix) = IsIndexOf ix.value es.items
-IsIndexed (f.Functor p r) = Unit {0}
-IsIndexed (f.Unitary r) = Unit {0}
-IsIndexed f.Opaque = Unit {0}
-
--- what holds of every shared shape
-pub record IsSound (n : Node) : Type 0 where
-  pub weight : n.weight ≡ capped (weight (shape_of n.form))
-  pub levels : n.levels ≡ depth (shape_of n.form)
-  pub bound : n.levels ≤ max_levels
-  pub indexed : IsIndexed n.form

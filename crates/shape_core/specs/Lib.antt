@@ -9,3 +9,5 @@ pub mod Index
 pub mod Falls
 pub mod Respell
 pub mod Members
+pub mod Declarations
+pub mod Contents

@@ -21,7 +21,7 @@ entries_of [] = none
 entries_of (e ∷ es) = and_then e (entries_of es)
 
 abbrev pub shape_of : Form → Shape
-shape_of (f.Struct es ix) = Struct (entries_of es.items)
+shape_of (f.Struct es c) = Struct (entries_of es.items)
 shape_of (f.Functor p r) = Functor p r
 shape_of (f.Unitary r) = Unitary r
 shape_of f.Opaque = Opaque

@@ -253,6 +253,15 @@ impl Index {
         Some((spot.position as u64, place_of(spot.goal), after as u64))
     }
 
+    /// The number of entries of the list, and of its Dark entries.
+    pub fn end(&self) -> (usize, usize)
+        ensures number { (list : List SharedEntry) → IsIndexOf self.now list → result.0 ≡ length list }
+        ensures darks { (list : List SharedEntry) → IsIndexOf self.now list → result.1 ≡ length (pure.darks (entries_of list)) }
+    {
+        let darks = &self.tables.darks;
+        (self.befores.len(), darks.len())
+    }
+
     /// What a look-up of a value gives.
     pub fn val(&self, name: &[u8]) -> Option<Goal>
         ensures { (list : List SharedEntry) → IsIndexOf self.now list → result ≡ pure.find_val (entries_of list) name.now }

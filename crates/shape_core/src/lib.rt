@@ -1,6 +1,8 @@
 //! Shapes: what modules and module types are to the names in them.
 #![tactic(auto)]
 
+mod contents;
+mod declarations;
 mod error;
 mod index;
 mod kinds;
@@ -19,8 +21,8 @@ pub use shape::{
     Entry, GREATEST_WEIGHT, Shape, copy, find_mod, find_mty, find_val, visible, walk, weight,
 };
 pub use shared::{
-    Shared, SharedEntry, darks_of, entries, is_shown, kind, last_val_of, levels_of, make_functor,
-    make_opaque, make_struct, make_unitary, mod_of, mty_of, param, result, val_of, value_positions,
-    weight_of,
+    Shared, SharedEntry, darks_of, entries, is_shown, kind, last_member_of, last_val_of, levels_of,
+    make_functor, make_opaque, make_struct, make_unitary, mod_of, mty_of, param, result, val_of,
+    value_positions, weight_of,
 };
 pub use sharing::{bring, share, share_again};

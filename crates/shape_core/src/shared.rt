@@ -5,9 +5,11 @@ ghost use Rattle.rotor_base.specs.Limits.{max_levels};
 ghost use Rattle.shape_core.specs.Looks as looks;
 ghost use Rattle.shape_core.specs.Shape as pure;
 ghost use Rattle.shape_core.specs.Node.{entries_of, and_then, shape_of, kind_of};
-ghost use Rattle.shape_core.specs.Index.{IsIndexed};
+ghost use Rattle.shape_core.specs.Contents.{IsIndexed};
+ghost use Rattle.rotor_base.specs.declared.looks.Watch.{Watch};
 
-use crate::index::{Index, LookSpot};
+use crate::contents::Contents;
+use crate::index::LookSpot;
 use crate::kinds::Kind;
 use crate::shape::plus;
 use rotor_base::{Goal, MAX_LEVELS, Memory, Name, Place};
@@ -31,7 +33,7 @@ struct Node {
 #[cycle(sharing)]
 enum Form {
     // Boxed, so that a level of a deep shape takes little stack when it is dropped.
-    Struct(Vec<SharedEntry>, Box<Index>),
+    Struct(Vec<SharedEntry>, Box<Contents>),
     Functor(Shared, Shared),
     Unitary(Shared),
     Opaque,
@@ -102,7 +104,7 @@ impl Model for Shared {
     ghost coded = { coded_shape };
 
     ghost use Rattle.shape_core.specs.Node.{shape_of};
-    ghost use Rattle.shape_core.specs.Index.{IsSound};
+    ghost use Rattle.shape_core.specs.Contents.{IsSound};
 
     ghost view = { λ s. shape_of s.node.value.form };
 
@@ -184,20 +186,20 @@ fn levels_of_entry(entry: &SharedEntry) -> usize
 }
 
 /// The structure of these entries. `Memory` is the only error: there is no memory, or the shape would be deeper than
-/// [`MAX_LEVELS`]. It costs a look-up for each entry.
+/// [`MAX_LEVELS`]. It costs two look-ups for each entry.
 pub fn make_struct(alloc: Global, entries: Vec<SharedEntry>) -> Result<Shared, Memory>
     ensures { IfOk result (λ shape. shape ≡ pure.Struct (entries_of entries.items)) }
 {
-    let mut index = Index::new(alloc);
+    let mut contents = Contents::new(alloc);
     let mut weight = 0;
     let mut levels = 0;
     for entry in &entries {
-        index.add(alloc, entry)?;
+        contents.add(alloc, entry)?;
         weight = plus(weight, weight_of_entry(entry));
         levels = levels.max(levels_of_entry(entry));
     }
-    let index = Box::new(alloc, index)?;
-    make(alloc, Form::Struct(entries, index), weight, levels)
+    let contents = Box::new(alloc, contents)?;
+    make(alloc, Form::Struct(entries, contents), weight, levels)
 }
 
 /// The functor of this parameter with this result; errors as for [`make_struct`].
@@ -254,7 +256,7 @@ pub fn value_positions(shape: &Shared) -> &[usize]
     ensures { result.now ≡ pure.values_from 0 (pure.entries_in shape.now) }
 {
     match &shape.node.form {
-        Form::Struct(_, index) => index.positions(),
+        Form::Struct(_, contents) => contents.index.positions(),
         Form::Functor(_, _) => &[],
         Form::Unitary(_) => &[],
         Form::Opaque => &[],
@@ -291,7 +293,7 @@ pub fn val_of(shape: &Shared, name: &[u8]) -> Option<Goal>
     ensures { result ≡ pure.find_val (pure.entries_in shape.now) name.now }
 {
     match &shape.node.form {
-        Form::Struct(_, index) => index.val(name),
+        Form::Struct(_, contents) => contents.index.val(name),
         Form::Functor(_, _) => None,
         Form::Unitary(_) => None,
         Form::Opaque => None,
@@ -304,7 +306,7 @@ pub fn darks_of(shape: &Shared) -> (u64, Option<Place>)
     ensures last { result.1 ≡ pure.last_place (pure.darks (pure.entries_in shape.now)) }
 {
     match &shape.node.form {
-        Form::Struct(_, index) => index.darks(),
+        Form::Struct(_, contents) => contents.index.darks(),
         Form::Functor(_, _) => (0, None),
         Form::Unitary(_) => (0, None),
         Form::Opaque => (0, None),
@@ -316,7 +318,20 @@ pub fn last_val_of(shape: &Shared, name: &[u8]) -> Option<LookSpot>
     ensures { result ≡ looks.last_where (looks.of_name name.now) (pure.entries_in shape.now) }
 {
     match &shape.node.form {
-        Form::Struct(_, index) => index.last_val(name),
+        Form::Struct(_, contents) => contents.index.last_val(name),
+        Form::Functor(_, _) => None,
+        Form::Unitary(_) => None,
+        Form::Opaque => None,
+    }
+}
+
+/// The last value of a structure whose goal is among some declarations; `None` for another shape. It costs a look-up
+/// for each declaration, and takes no memory.
+pub fn last_member_of(shape: &Shared, decls: &[Place]) -> Option<LookSpot>
+    ensures { (w : Watch) → w.foot.decls ≡ decls.now → result ≡ looks.last_where (looks.in_foot w) (pure.entries_in shape.now) }
+{
+    match &shape.node.form {
+        Form::Struct(_, contents) => contents.last_member(decls),
         Form::Functor(_, _) => None,
         Form::Unitary(_) => None,
         Form::Opaque => None,
@@ -329,7 +344,7 @@ pub fn mod_of<'a>(shape: &'a Shared, name: &[u8]) -> Option<&'a Shared>
     ensures { option_copied result ≡ pure.find_mod (pure.entries_in shape.now) name.now }
 {
     match &shape.node.form {
-        Form::Struct(entries, index) => index.module(entries, name),
+        Form::Struct(entries, contents) => contents.index.module(entries, name),
         Form::Functor(_, _) => None,
         Form::Unitary(_) => None,
         Form::Opaque => None,
@@ -342,7 +357,7 @@ pub fn mty_of<'a>(shape: &'a Shared, name: &[u8]) -> Option<&'a Shared>
     ensures { option_copied result ≡ pure.find_mty (pure.entries_in shape.now) name.now }
 {
     match &shape.node.form {
-        Form::Struct(entries, index) => index.module_type(entries, name),
+        Form::Struct(entries, contents) => contents.index.module_type(entries, name),
         Form::Functor(_, _) => None,
         Form::Unitary(_) => None,
         Form::Opaque => None,
@@ -355,7 +370,7 @@ pub fn is_shown(shape: &Shared, at: usize) -> bool
     ensures { result ≡ pure.is_shown (pure.entries_from at (pure.entries_in shape.now)) }
 {
     match &shape.node.form {
-        Form::Struct(entries, index) => index.shown(entries, at),
+        Form::Struct(entries, contents) => contents.index.shown(entries, at),
         Form::Functor(_, _) => false,
         Form::Unitary(_) => false,
         Form::Opaque => false,
