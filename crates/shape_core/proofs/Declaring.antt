@@ -245,9 +245,18 @@ last_more ds i p h (a_val x g es) =
     ap (λ o. or_else (looks.moved o) (some_if (is_among (take (i + 1) ds) g) (0, some_place (decl_of g), n))) (last_more ds i p h es)
     ∙ ap (λ c. or_else (looks.moved (later a b)) (some_if c (0, some_place (decl_of g), n))) (among_more ds i p g h)
     ∙ joined a b (is_among (take i ds) g) (is_among (get_or ds i p ∷ []) g) (some_place (decl_of g)) n
-last_more ds i p h (a_mod X s es) = ap looks.moved (last_more ds i p h es) ∙ moved_later (last_where (in_foot (watching (take i ds))) es) (last_where (in_foot (watching (get_or ds i p ∷ []))) es)
-last_more ds i p h (a_mty S s es) = ap looks.moved (last_more ds i p h es) ∙ moved_later (last_where (in_foot (watching (take i ds))) es) (last_where (in_foot (watching (get_or ds i p ∷ []))) es)
-last_more ds i p h (a_dark at es) = ap looks.moved (last_more ds i p h es) ∙ moved_later (last_where (in_foot (watching (take i ds))) es) (last_where (in_foot (watching (get_or ds i p ∷ []))) es)
+last_more ds i p h (a_mod X s es) =
+    let a = last_where (in_foot (watching (take i ds))) es in
+    let b = last_where (in_foot (watching (get_or ds i p ∷ []))) es in
+    ap looks.moved (last_more ds i p h es) ∙ moved_later a b
+last_more ds i p h (a_mty S s es) =
+    let a = last_where (in_foot (watching (take i ds))) es in
+    let b = last_where (in_foot (watching (get_or ds i p ∷ []))) es in
+    ap looks.moved (last_more ds i p h es) ∙ moved_later a b
+last_more ds i p h (a_dark at es) =
+    let a = last_where (in_foot (watching (take i ds))) es in
+    let b = last_where (in_foot (watching (get_or ds i p ∷ []))) es in
+    ap looks.moved (last_more ds i p h es) ∙ moved_later a b
 
 -- no value is among no declarations
 pub none_last : (es : Entries) → last_where (in_foot (watching [])) es ≡ None
@@ -279,13 +288,3 @@ last_step t list ds i p n last last' lt count has h k =
     ∙ ap (λ m. later (last_where (in_foot (watching (take i ds))) es) (spot_of d m (get place_cmp t.stands d))) count
     ∙ ap (later (last_where (in_foot (watching (take i ds))) es)) (one_last t list d has)
     ∙ sym (last_more ds i p lt es)
-
--- a footprint counts by its declarations alone
-pub same_last : (w : Watch) (ds : List Place) → w.foot.decls ≡ ds → (es : Entries) → last_where (in_foot (watching ds)) es ≡ last_where (in_foot w) es
-same_last w ds h none = refl
-same_last w ds h (a_val x g es) =
-    ap (λ o. or_else (looks.moved o) (some_if (is_among ds g) (0, some_place (decl_of g), length (darks es)))) (same_last w ds h es)
-    ∙ ap (λ l. or_else (looks.moved (last_where (in_foot w) es)) (some_if (is_among l g) (0, some_place (decl_of g), length (darks es)))) (sym h)
-same_last w ds h (a_mod X s es) = ap looks.moved (same_last w ds h es)
-same_last w ds h (a_mty S s es) = ap looks.moved (same_last w ds h es)
-same_last w ds h (a_dark at es) = ap looks.moved (same_last w ds h es)

@@ -13,3 +13,5 @@ pub mod Sizes
 pub mod Looked
 pub mod Noted
 pub mod Declaring
+pub mod Lasts
+pub mod Others

@@ -98,6 +98,11 @@ before_of list (e.Mod x s) = record { spot = None; position = last_at (is_mod x)
 before_of list (e.Mty x s) = record { spot = None; position = last_at (is_mty x) list }
 before_of list (e.Dark at) = record { spot = None; position = None }
 
+-- the spot that was held, if there is one
+abbrev pub spot_in : Option Before → Option Spot
+spot_in None = None
+spot_in (Some b) = b.spot
+
 -- the same for each entry of a list that follows other entries
 abbrev pub befores_from : List SharedEntry → List SharedEntry → List Before
 befores_from done [] = []

@@ -57,8 +57,8 @@ impl Declarations {
         }
     }
 
-    /// The last value whose goal is among some declarations, in a list with so many Dark entries. It costs a look-up for
-    /// each declaration.
+    /// The last value whose goal is among some declarations, in a list with so many Dark entries. It costs a look-up
+    /// for each declaration.
     pub fn last_member(&self, decls: &[Place], darks: u64) -> Option<LookSpot>
         ensures { (list : List SharedEntry) (w : Watch) → HasDeclarations self.now list → w.foot.decls ≡ decls.now → darks ≡ length (pure.darks (entries_of list)) → result ≡ looks.last_where (looks.in_foot w) (entries_of list) }
     {

@@ -6,13 +6,17 @@ ghost use Rattle.shape_core.specs.declared.shared.SharedEntry.{SharedEntry};
 ghost use Rattle.shape_core.specs.Node.{entries_of, and_then};
 ghost use Rattle.shape_core.specs.View.{Sees};
 ghost use Rattle.shape_core.specs.Looks as looks;
-ghost use Rattle.shape_core.specs.Index.{Tells, IsIndexOf, before_of, there, mod_at, mty_at, position_is, position_of};
+ghost use Rattle.shape_core.specs.Places.{HasPlaces};
+ghost use Rattle.rotor_base.specs.declared.looks.Watch.{Watch};
+ghost use Rattle.shape_core.specs.Index.{Tells, IsIndexOf, before_of, spot_in, there, mod_at, mty_at, position_is, position_of};
 
+use crate::members::is_among;
 use crate::shape::Seen;
 use crate::shared::{Shared, SharedEntry};
 use name_tables::Names;
 use rotor_base::{Goal, Memory, Place};
 use std::alloc::Global;
+use std::collections::BTreeSet;
 
 /// The last value of a name: its goal, its position, and the number of Dark entries before it.
 #[derive(Clone, Copy)]
@@ -260,6 +264,39 @@ impl Index {
     {
         let darks = &self.tables.darks;
         (self.befores.len(), darks.len())
+    }
+
+    /// The last value of a name whose goal is not among some places. It goes back over the later values of the name.
+    pub fn last_other(
+        &self,
+        list: &[SharedEntry],
+        name: &[u8],
+        set: &BTreeSet<Place>,
+    ) -> Option<LookSpot>
+        requires { IsIndexOf self.now list.now }
+        ensures { (w : Watch) → w.old ≡ name.now → HasPlaces w.foot.decls set.now → result ≡ looks.last_where (looks.other_old w) (entries_of list.now) }
+    {
+        let mut left = list.len();
+        let mut last = self.tables.vals.get(name);
+        while let Some(spot) = last {
+            if !is_among(spot.goal, set) {
+                let after = self.tables.darks.len().saturating_sub(spot.darks);
+                return Some((spot.position as u64, place_of(spot.goal), after as u64));
+            }
+            left = spot.position;
+            last = self.spot_before(left);
+        }
+        None
+    }
+
+    // The last value that had the name of the value at a position, before that position.
+    fn spot_before(&self, position: usize) -> Option<Spot>
+        ensures { result ≡ spot_in (slice_get self.now.befores.items position) }
+    {
+        match self.befores.get(position) {
+            Some(before) => before.spot,
+            None => None,
+        }
     }
 
     /// What a look-up of a value gives.

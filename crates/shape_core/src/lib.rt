@@ -21,8 +21,8 @@ pub use shape::{
     Entry, GREATEST_WEIGHT, Shape, copy, find_mod, find_mty, find_val, visible, walk, weight,
 };
 pub use shared::{
-    Shared, SharedEntry, darks_of, entries, is_shown, kind, last_member_of, last_val_of, levels_of,
-    make_functor, make_opaque, make_struct, make_unitary, mod_of, mty_of, param, result, val_of,
-    value_positions, weight_of,
+    Shared, SharedEntry, darks_of, entries, is_shown, kind, last_member_of, last_other_of,
+    last_val_of, levels_of, make_functor, make_opaque, make_struct, make_unitary, mod_of, mty_of,
+    param, result, val_of, value_positions, weight_of,
 };
 pub use sharing::{bring, share, share_again};

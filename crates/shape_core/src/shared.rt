@@ -7,6 +7,7 @@ ghost use Rattle.shape_core.specs.Shape as pure;
 ghost use Rattle.shape_core.specs.Node.{entries_of, and_then, shape_of, kind_of};
 ghost use Rattle.shape_core.specs.Contents.{IsIndexed};
 ghost use Rattle.rotor_base.specs.declared.looks.Watch.{Watch};
+ghost use Rattle.shape_core.specs.Places.{HasPlaces};
 
 use crate::contents::Contents;
 use crate::index::LookSpot;
@@ -14,6 +15,7 @@ use crate::kinds::Kind;
 use crate::shape::plus;
 use rotor_base::{Goal, MAX_LEVELS, Memory, Name, Place};
 use std::alloc::{AllocError, Global};
+use std::collections::BTreeSet;
 use std::marker::Model;
 use std::rc::Rc;
 
@@ -332,6 +334,19 @@ pub fn last_member_of(shape: &Shared, decls: &[Place]) -> Option<LookSpot>
 {
     match &shape.node.form {
         Form::Struct(_, contents) => contents.last_member(decls),
+        Form::Functor(_, _) => None,
+        Form::Unitary(_) => None,
+        Form::Opaque => None,
+    }
+}
+
+/// The last value of a name in a structure whose goal is not among some places; `None` for another shape. It costs a
+/// step for each later value of the name, and takes no memory.
+pub fn last_other_of(shape: &Shared, name: &[u8], set: &BTreeSet<Place>) -> Option<LookSpot>
+    ensures { (w : Watch) → w.old ≡ name.now → HasPlaces w.foot.decls set.now → result ≡ looks.last_where (looks.other_old w) (pure.entries_in shape.now) }
+{
+    match &shape.node.form {
+        Form::Struct(entries, contents) => contents.index.last_other(entries, name, set),
         Form::Functor(_, _) => None,
         Form::Unitary(_) => None,
         Form::Opaque => None,

@@ -6,5 +6,5 @@ pub mod FirstWalks
 pub mod MatchWalks
 pub mod ValueWalks
 pub mod LinkAnswers
-pub mod Lasts
 pub mod LookAnswers
+pub mod Behind

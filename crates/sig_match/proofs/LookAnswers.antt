@@ -1,8 +1,7 @@
 -- Looks of meetings.
-use Rattle.std.proofs.Common.{◌≡◌, ℕ, suc, ◌+◌, ◌-◌, ◌<◌, ◌≤◌, List, [], ◌∷◌, ◌++◌, map, length, take, drop, get_or, Option, Some, None, sym, ap, ◌∙◌}
+use Rattle.std.proofs.Common.{◌≡◌, ℕ, suc, ◌+◌, ◌<◌, ◌≤◌, List, [], ◌∷◌, ◌++◌, map, length, take, get_or, Option, Some, None, sym, ap, ◌∙◌}
 use Rattle.std.proofs.Common.{arith, length-append}
-use Rattle.std.proofs.lemmas.List.{take_more, length-drop, append-nil, map-append, length-map}
-use Rattle.std.proofs.Math.Seq.{take-length}
+use Rattle.std.proofs.lemmas.List.{take_more, append-nil, map-append, length-map}
 use Rattle.std.specs.Prelude.{Result, Ok, Err}
 use Rattle.rotor_base.specs.declared.place.Goal.{Goal}
 use Rattle.rotor_base.specs.declared.looks.Watch.{Watch}
@@ -16,7 +15,6 @@ use Rattle.shape_core.specs.Looks as looks
 use Rattle.shape_core.specs.Looks.{numbered}
 use Rattle.shape_core.proofs.Matches.{nothing_then}
 use Rattle.shape_core.proofs.Retold.{matched-mapped, pin-mapped}
-use Rattle.shape_core.proofs.Shown.{from_drop}
 use Rattle.sig_match.specs.declared.found.Meeting.{Meeting}
 use Rattle.sig_match.specs.declared.found.Found.{Found}
 use Rattle.sig_match.specs.declared.found.Stop.{Stop}
@@ -34,20 +32,10 @@ pub no_look_past : (w : Watch) (n : ℕ) (src : Option Entries) (xs : List Share
     → length xs ≤ at → [] ≡ numbered n (map (look_of w) (met_first src (entries_from at es)))
 no_look_past w n src xs es at h k = sym (ap (λ z. numbered n (map (look_of w) (met_first src z))) (end_in xs es at h k))
 
-pub one_look : (w : Watch) (n : ℕ) (src : Option Entries) (es rest : Entries) (x y : Name) (g : Goal) (xs : List SharedEntry) → es ≡ a_val x g rest
-    → y ≡ x → entries_of xs ≡ rest
-    → numbered n (looks.look w y g (entries_of xs) src ∷ []) ≡ numbered n (map (look_of w) (met_first src es))
-one_look w n src es rest x y g xs h k l =
-    ap (λ z. numbered n (looks.look w z g (entries_of xs) src ∷ [])) k
-    ∙ ap (λ z. numbered n (looks.look w x g z src ∷ [])) l
-    ∙ sym (ap (λ z. numbered n (map (look_of w) (met_first src z))) h)
-
--- the slice after a position
-after : (xs : List SharedEntry) (n : ℕ) → take (length xs - n) (drop n xs) ≡ drop n xs
-after xs n = ap (λ m. take m (drop n xs)) (sym (length-drop n xs)) ∙ take-length (drop n xs)
-
-pub rest_in : (xs : List SharedEntry) (es : Entries) (n : ℕ) → entries_of xs ≡ es → entries_of (take (length xs - n) (drop n xs)) ≡ entries_from n es
-rest_in xs es n h = ap entries_of (after xs n) ∙ sym (from_drop n xs) ∙ ap (entries_from n) h
+pub one_look : (w : Watch) (n : ℕ) (src : Option Entries) (es rest : Entries) (x y : Name) (g : Goal) → es ≡ a_val x g rest → y ≡ x
+    → numbered n (looks.look w y g rest src ∷ []) ≡ numbered n (map (look_of w) (met_first src es))
+one_look w n src es rest x y g h k =
+    ap (λ z. numbered n (looks.look w z g rest src ∷ [])) k ∙ sym (ap (λ z. numbered n (map (look_of w) (met_first src z))) h)
 
 pub no_count : (src : Option Entries) (es rest : Entries) → es ≡ rest → met_first src rest ≡ [] → 0 ≡ length (met_first src es)
 no_count src es rest h k = sym (ap (λ z. length (met_first src z)) h ∙ ap length k)

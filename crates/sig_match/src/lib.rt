@@ -8,4 +8,6 @@ mod matching;
 mod pinning;
 
 pub use links::{Matched, match_shapes, pin};
-pub use looks::{Test, last_where, look_of_value, match_looks, pin_looks, watch_match, watch_pin};
+pub use looks::{
+    Test, last_in, last_where, look_of_value, match_looks, pin_looks, watch_match, watch_pin,
+};

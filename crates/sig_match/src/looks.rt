@@ -2,11 +2,12 @@
 
 ghost use Rattle.std.specs.Prelude.{◌≡◌, ◌≤◌, ◌∷◌, [], length, map, is_some, not, IfOk};
 ghost use Rattle.shape_core.specs.Shape as shapes;
+ghost use Rattle.shape_core.specs.Shape.{entries_in};
 ghost use Rattle.shape_core.specs.Node.{entries_of};
 ghost use Rattle.shape_core.specs.Looks as pure;
 ghost use Rattle.sig_match.specs.Walk.{list_in, met_at, mets};
 ghost use Rattle.sig_match.specs.Matched.{listed};
-ghost use Rattle.sig_match.specs.Tests.{test_of, look_of, HasLooks};
+ghost use Rattle.sig_match.specs.Tests.{test_of, look_of, HasLooks, is_behind, kept_from, rest_of};
 
 use crate::found::{Found, Meeting, Stop};
 use crate::matching::match_both;
@@ -39,14 +40,22 @@ fn passes(test: Test, watch: &Watched, name: &[u8], goal: Goal) -> bool
     }
 }
 
-/// The last value of a list that a test accepts. The walk begins at the end of the list and stops at that value. It takes
-/// no memory.
+/// The last value of a list that a test accepts. The walk begins at the end of the list and stops at that value. It
+/// takes no memory.
 pub fn last_where(test: Test, watch: &Watched, list: &[SharedEntry]) -> Option<LookSpot>
     ensures { result ≡ pure.last_where (test_of test watch.now) (entries_of list.now) }
 {
+    last_from(test, watch, list, 0)
+}
+
+// The same if its position is not below another one, at which the walk ends.
+fn last_from(test: Test, watch: &Watched, list: &[SharedEntry], from: usize) -> Option<LookSpot>
+    requires { from ≤ length list.now }
+    ensures { result ≡ kept_from from (pure.last_where (test_of test watch.now) (entries_of list.now)) }
+{
     let mut darks = 0;
     let mut left = list.len();
-    while left > 0 {
+    while left > from {
         left -= 1;
         match &list[left] {
             SharedEntry::Val(x, goal) => {
@@ -62,22 +71,44 @@ pub fn last_where(test: Test, watch: &Watched, list: &[SharedEntry]) -> Option<L
     None
 }
 
+/// The last value of a structure that a test accepts. It takes no memory, and walks the structure at most for as many
+/// steps as the footprint has members.
+pub fn last_in(test: Test, watch: &Watched, shape: &Shared) -> Option<LookSpot>
+    ensures { result ≡ pure.last_where (test_of test watch.now) (entries_in shape.now) }
+{
+    match test {
+        Test::InFoot => last_member(watch, shape),
+        Test::OtherOld => watch.last_other_of(shape),
+        Test::NamedNew => last_val_of(shape, watch.as_watch().new.as_bytes()),
+    }
+}
+
+// The last member of the footprint in a structure. It walks from the end of the structure, for as many steps as the
+// footprint has members, before it asks for each member.
+fn last_member(watch: &Watched, shape: &Shared) -> Option<LookSpot>
+    ensures { result ≡ pure.last_where (pure.in_foot watch.now) (entries_in shape.now) }
+{
+    let list = entries(shape);
+    let members = watch.as_watch().foot.decls.as_slice();
+    let near = list.len().saturating_sub(members.len());
+    match last_from(Test::InFoot, watch, list, near) {
+        Some(spot) => Some(spot),
+        None => {
+            if near == 0 {
+                None
+            } else {
+                watch.last_member_of(shape)
+            }
+        }
+    }
+}
+
 // The last value of a source list that a test accepts; nothing if the link is pinned.
 fn source_where(test: Test, watch: &Watched, source: Option<&Shared>) -> Option<LookSpot>
     ensures { result ≡ pure.source_where (test_of test watch.now) (list_in source.entry) }
 {
     match source {
-        Some(shape) => last_where(test, watch, entries(shape)),
-        None => None,
-    }
-}
-
-// The last value of the new name in a source list; nothing if the link is pinned.
-fn source_new(watch: &Watched, source: Option<&Shared>) -> Option<LookSpot>
-    ensures { result ≡ pure.source_where (pure.named_new watch.now) (list_in source.entry) }
-{
-    match source {
-        Some(shape) => last_val_of(shape, watch.as_watch().new.as_bytes()),
+        Some(shape) => last_in(test, watch, shape),
         None => None,
     }
 }
@@ -93,10 +124,29 @@ fn source_darks(source: Option<&Shared>) -> (u64, Option<Place>)
     }
 }
 
-fn is_later(test: Test, watch: &Watched, rest: &[SharedEntry]) -> bool
-    ensures { result ≡ is_some (pure.last_where (test_of test watch.now) (entries_of rest.now)) }
+// The entries after a value: those of a slice, or those behind a position of a structure.
+#[derive(Clone, Copy)]
+enum Rest<'a> {
+    Listed(&'a [SharedEntry]),
+    Behind(&'a Shared, usize),
+}
+
+fn is_later(test: Test, watch: &Watched, rest: Rest<'_>) -> bool
+    ensures { result ≡ is_some (pure.last_where (test_of test watch.now) (rest_of rest.entry)) }
 {
-    last_where(test, watch, rest).is_some()
+    match rest {
+        Rest::Listed(list) => last_where(test, watch, list).is_some(),
+        Rest::Behind(shape, at) => is_behind(last_in(test, watch, shape), at),
+    }
+}
+
+fn is_behind(spot: Option<LookSpot>, at: usize) -> bool
+    ensures { result ≡ is_behind at spot }
+{
+    match spot {
+        Some(spot) => spot.0 > at as u64,
+        None => false,
+    }
 }
 
 fn is_pinned(source: Option<&Shared>) -> bool
@@ -117,6 +167,20 @@ pub fn look_of_value(
 ) -> Option<LinkLook>
     ensures { listed result ≡ pure.numbered number (pure.look watch.now name.now goal (entries_of rest.now) (list_in source.entry) ∷ []) }
 {
+    look_before(name, goal, Rest::Listed(rest), source, number, watch)
+}
+
+// The look of the link of a value before these entries.
+fn look_before(
+    name: &[u8],
+    goal: Goal,
+    rest: Rest<'_>,
+    source: Option<&Shared>,
+    number: u64,
+    watch: &Watched,
+) -> Option<LinkLook>
+    ensures { listed result ≡ pure.numbered number (pure.look watch.now name.now goal (rest_of rest.entry) (list_in source.entry) ∷ []) }
+{
     let is_old = name == watch.as_watch().old.as_bytes();
     let is_new = name == watch.as_watch().new.as_bytes();
     if !(is_old || is_new) {
@@ -135,7 +199,7 @@ pub fn look_of_value(
         by,
         foot: source_where(Test::InFoot, watch, source),
         old: source_where(Test::OtherOld, watch, source),
-        new: source_new(watch, source),
+        new: source_where(Test::NamedNew, watch, source),
     })
 }
 
@@ -147,10 +211,10 @@ fn look_at(meeting: &Meeting, number: u64, watch: &Watched) -> Option<LinkLook>
     if meeting.at >= list.len() {
         return None;
     }
-    let rest = &list[meeting.at + 1..];
+    let rest = Rest::Behind(meeting.list, meeting.at);
     match &list[meeting.at] {
         SharedEntry::Val(x, goal) => {
-            look_of_value(x.as_bytes(), *goal, rest, meeting.source, number, watch)
+            look_before(x.as_bytes(), *goal, rest, meeting.source, number, watch)
         }
         SharedEntry::Mod(_, _) => None,
         SharedEntry::Mty(_, _) => None,

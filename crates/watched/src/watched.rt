@@ -2,10 +2,11 @@
 ghost use Rattle.std.specs.Prelude.{◌≡◌, IfOk};
 ghost use Rattle.shape_core.specs.Looks as pure;
 ghost use Rattle.shape_core.specs.Node.{entries_of};
+ghost use Rattle.shape_core.specs.Shape.{entries_in};
 
 use crate::places::set_of;
 use rotor_base::{Foot, Goal, Memory, Name, Place, Row, Watch};
-use shape_core::{LookSpot, Scope, is_among};
+use shape_core::{LookSpot, Scope, Shared, is_among, last_member_of, last_other_of};
 use std::alloc::Global;
 use std::collections::BTreeSet;
 use std::marker::Model;
@@ -66,6 +67,22 @@ impl Watched {
         ensures kept { scope.new ≡ scope.old }
     {
         scope.last_member(self.watch.foot.decls.as_slice(), &self.members)
+    }
+
+    /// The last value of a structure that is a member of the footprint. It costs a look-up for each member, and takes
+    /// no memory.
+    pub fn last_member_of(&self, shape: &Shared) -> Option<LookSpot>
+        ensures { result ≡ pure.last_where (pure.in_foot self.now) (entries_in shape.now) }
+    {
+        last_member_of(shape, self.watch.foot.decls.as_slice())
+    }
+
+    /// The last value of a structure that has the old name and is no member of the footprint. It costs a step for each
+    /// later value of the name, and takes no memory.
+    pub fn last_other_of(&self, shape: &Shared) -> Option<LookSpot>
+        ensures { result ≡ pure.last_where (pure.other_old self.now) (entries_in shape.now) }
+    {
+        last_other_of(shape, self.watch.old.as_bytes(), &self.members)
     }
 }
 

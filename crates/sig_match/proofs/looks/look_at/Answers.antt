@@ -1,9 +1,9 @@
-use Rattle.std.proofs.Common.{refl, ◌+◌, ◌-◌, ◌∙◌, drop, take, length}
+use Rattle.std.proofs.Common.{refl, ◌+◌, ◌∙◌}
 use Rattle.shape_core.specs.declared.shared.SharedEntry.TheVariants as e
 use Rattle.shape_core.specs.Shape.{entries_in, entries_from}
 use Rattle.sig_match.specs.Walk.{list_in}
 use Rattle.sig_match.proofs.Firsts.{from_in, then_is}
-use Rattle.sig_match.proofs.LookAnswers.{no_look, no_look_past, one_look, rest_in}
+use Rattle.sig_match.proofs.LookAnswers.{no_look, no_look_past, one_look}
 use Rattle.sig_match.proofs.looks.look_at.Goals as goal
 
 pub returns-then-meeting-list : goal.returns-then-meeting-list
@@ -38,14 +38,12 @@ returns-in-Dark c = no_look c.args.watch.now c.args.number (list_in c.args.meeti
 
 pub returns-in-Val : goal.returns-in-Val
 returns-in-Val c =
-    c.look_of_value.ensures
+    c.look_before.ensures
     ∙ one_look c.args.watch.now c.args.number (list_in c.args.meeting.now.source)
     (entries_from c.args.meeting.now.at (entries_in c.args.meeting.now.list.now))
     (entries_from (c.args.meeting.now.at + 1) (entries_in c.args.meeting.now.list.now)) c.in-Val.x _ c.in-Val.goal
-    (take (length c.entries-list.result.now - (c.args.meeting.now.at + 1)) (drop (c.args.meeting.now.at + 1) c.entries-list.result.now))
     (then_is (entries_from c.args.meeting.now.at (entries_in c.args.meeting.now.list.now))
     (entries_from (c.args.meeting.now.at + 1) (entries_in c.args.meeting.now.list.now)) c.index-list-meeting.result
     (e.Val c.in-Val.x c.in-Val.goal)
     (from_in c.entries-list.result.now (entries_in c.args.meeting.now.list.now) c.args.meeting.now.at c.index-list-meeting.result
     c.entries-list.ensures c.if-meeting-list.false c.index-list-meeting.is) c.in-Val.is) c.as_bytes.ensures
-    (rest_in c.entries-list.result.now (entries_in c.args.meeting.now.list.now) (c.args.meeting.now.at + 1) c.entries-list.ensures)

@@ -18,14 +18,14 @@ module _ (test : Test) where
   at_last list = last_where test (entries_of list)
 
   -- a value that passes, with none that passes behind it
-  passing : (x : Name) (g : Goal) (rest : List SharedEntry) → at_last rest ≡ None → test x g ≡ true
+  pub passing : (x : Name) (g : Goal) (rest : List SharedEntry) → at_last rest ≡ None → test x g ≡ true
       → at_last (e.Val x g ∷ rest) ≡ spot 0 (some_place (decl_of g)) (length (darks (entries_of rest)))
   passing x g rest empty t =
       let here : Spot = (0, some_place (decl_of g), length (darks (entries_of rest))) in
       ap (λ o. or_else (moved o) (some_if (test x g) here)) empty ∙ ap (λ b. some_if b here) t
 
   -- entries in front move it
-  behind : (front rest : List SharedEntry) (p : Place) (k : ℕ) → at_last rest ≡ spot 0 p k → at_last (front ++ rest) ≡ spot (length front) p k
+  pub behind : (front rest : List SharedEntry) (p : Place) (k : ℕ) → at_last rest ≡ spot 0 p k → at_last (front ++ rest) ≡ spot (length front) p k
   behind [] rest p k h = h
   behind (e.Val y g ∷ front) rest p k h =
       ap (λ o. or_else (moved o) (some_if (test y g) (0, some_place (decl_of g), length (darks (entries_of (front ++ rest))))))
