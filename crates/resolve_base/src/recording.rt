@@ -13,9 +13,9 @@ ghost use Rattle.resolve_base.specs.Recorded.{use_recorded, tie_recorded, joined
 use binding_model::Recorder;
 use rotor_base::{Goal, Looks, Memory, Place, RefLook};
 use shape_core::{
-    Kind, LookSpot, Scope, Shared, darks_in, darks_of, entries, kind, last_val_in, last_val_of,
+    Kind, LookSpot, Scope, Shared, darks_in, darks_of, kind, last_val_in, last_val_of,
 };
-use sig_match::{Test, last_where, look_of_value, watch_match, watch_pin};
+use sig_match::{Test, last_in, look_of_value, watch_match, watch_pin};
 use std::alloc::Global;
 use watched::Watched;
 
@@ -126,7 +126,7 @@ fn look_of(watch: &Watched, shape: &Shared, at: Place, name: &[u8], goal: Goal) 
         is_new: is_new(watch, name),
         darks,
         by,
-        foot: last_where(Test::InFoot, watch, entries(shape)),
+        foot: last_in(Test::InFoot, watch, shape),
         new: new_of(watch, shape),
     })
 }
