@@ -19,7 +19,7 @@ use module_entries::{
     Added, add_nothing, add_opened, add_shown, append, declare_value, functor_from, functor_of,
     module_site, named_module, no_param, param_entries, token_of, type_at, type_entry, type_start,
 };
-use resolve_base::{go_on_with, group, matched, opening, weighed_site};
+use resolve_base::{go_on_with, group, match_target, opening, weighed_site};
 use resolve_parts::{apply, apply_to_nothing, let_values, module_entry, shape_at, share_result};
 use rotor_base::Place;
 use shape_core::{FactError, Scope, Shared, SharedEntry, bring, make_functor, make_struct};
@@ -69,7 +69,7 @@ pub fn module(
         } => {
             let source = module(alloc, found, file, body, scope)?;
             let target = module_type(alloc, found, file, signature, scope)?;
-            matched(alloc, found, &source, &target)?;
+            match_target(alloc, found, &source, &target)?;
             Ok(target)
         }
     }
@@ -125,7 +125,7 @@ fn application(
         } => {
             let source = module(alloc, found, file, m, scope)?;
             let target = module_type(alloc, found, file, signature, scope)?;
-            matched(alloc, found, &source, &target)?;
+            match_target(alloc, found, &source, &target)?;
             apply(alloc, found, function, &target)?;
         }
         ModArgument::Nothing { .. } => apply_to_nothing(alloc, found, function)?,

@@ -12,7 +12,7 @@ ghost use Rattle.mod_shape.specs.Joined.{maybe_shape, joined_steps, joined_shape
 use binding_model::Found;
 use ml_trees::{FileTree, UnitTree};
 use mod_resolve::{signature, structure};
-use resolve_base::{matched, pinned, unit_start, weighed_site};
+use resolve_base::{match_target, pin_outside, unit_start, weighed_site};
 use rotor_base::{Memory, Name, Place};
 use shape_core::{FactError, Scope, Shared, SharedEntry, make_opaque, make_struct};
 use std::alloc::Global;
@@ -117,8 +117,8 @@ fn match_or_pin(
     ensures { OnOk result (taken (Going found.old) (joined_steps body (Some face.now)) ≡ Going found.new) }
 {
     match body {
-        Some(body) => matched(alloc, found, &body, face),
-        None => pinned(alloc, found, face),
+        Some(body) => match_target(alloc, found, &body, face),
+        None => pin_outside(alloc, found, face),
     }
 }
 

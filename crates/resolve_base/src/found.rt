@@ -65,13 +65,13 @@ fn goal_under(shape: &Shared, name: &[u8]) -> Goal
 pub fn group(alloc: Global, found: &mut Found, values: &[SharedEntry]) -> Result<(), Memory>
     ensures { OnOk result (taken (Going found.old) (GroupOf (entries_of values.now)) ≡ Going found.new) }
 {
-    let places = declared(alloc, values)?;
+    let places = list_declared(alloc, values)?;
     found.groups.push(places)?;
     Ok(())
 }
 
 /// The declarations of the values among entries.
-fn declared(alloc: Global, values: &[SharedEntry]) -> Result<Row<Place>, Memory>
+fn list_declared(alloc: Global, values: &[SharedEntry]) -> Result<Row<Place>, Memory>
     ensures { IfOk result (λ places. places ≡ decls (entries_of values.now)) }
 {
     let mut places = Row::new(alloc);
@@ -112,7 +112,8 @@ pub fn opened_site(found: &mut Found, at: Place, shape: &Shared) -> Result<(), F
     Ok(())
 }
 
-/// Ends an opening site of a module of which nothing is known: it opens no weight.
+/// Ends an opening site of a module of which nothing is known: it opens no weight. `Heavy` is the only error: the unit
+/// has opened too much weight before.
 pub fn opened_nothing(found: &mut Found, at: Place) -> Result<(), FactError>
     ensures taken { HasTaken result found.old found.new (OpenedSite at Opaque) }
     ensures heavy { HasStopped result found.old (OpenedSite at Opaque) }

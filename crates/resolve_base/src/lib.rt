@@ -13,7 +13,7 @@ pub use binders::{bind, bind_name, bind_variable, variables};
 pub use found::{
     group, opened_nothing, opened_site, unit_start, use_alone, use_under, weighed_site,
 };
-pub use linked::{matched, pinned, tied};
+pub use linked::{match_target, pin_outside, tie_parts};
 pub use paths::{opening, path_in, start_of};
 pub use scopes::go_on_with;
 pub use uses::{use_label, use_minus, use_name, use_name_in, use_operator, use_word};

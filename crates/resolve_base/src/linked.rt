@@ -17,7 +17,7 @@ use std::alloc::Global;
 
 /// Matches a source with a target. `Memory` is the only error.
 #[tactic(auto, using(crate::proofs::Answers::answered_within, crate::proofs::Answers::answered_past, crate::proofs::Answers::answered_over))]
-pub fn matched(
+pub fn match_target(
     alloc: Global,
     found: &mut Found,
     source: &Shared,
@@ -44,7 +44,7 @@ pub fn matched(
 
 /// Pins a module to the outside. `Memory` is the only error.
 #[tactic(auto, using(crate::proofs::Answers::answered_within, crate::proofs::Answers::answered_past, crate::proofs::Answers::answered_over))]
-pub fn pinned(alloc: Global, found: &mut Found, shape: &Shared) -> Result<(), Memory>
+pub fn pin_outside(alloc: Global, found: &mut Found, shape: &Shared) -> Result<(), Memory>
     ensures { OnOk result (taken (Going found.old) (PinOf shape.now) ≡ Going found.new) }
 {
     if found.sums.work > MAX_WORK {
@@ -78,7 +78,7 @@ fn add_links(found: &mut Found, links: &[Link], work: u32) -> Result<(), Memory>
 
 /// Ties the variables of a part of an or-pattern to those of the part before it, and back. `Memory` is the only error.
 #[tactic(auto, using(crate::proofs::Answers::tied_within, crate::proofs::Answers::tied_over))]
-pub fn tied(found: &mut Found, part: &Shared, before: &Shared) -> Result<(), Memory>
+pub fn tie_parts(found: &mut Found, part: &Shared, before: &Shared) -> Result<(), Memory>
     ensures { OnOk result (taken (Going found.old) (TieOf (entries_in part.now) (entries_in before.now)) ≡ Going found.new) }
 {
     let work = count(entries(part)) + count(entries(before));

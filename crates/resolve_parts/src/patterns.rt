@@ -13,7 +13,7 @@ ghost use Rattle.binding_model.specs.Walk.{pat_steps, pats_steps, field_pat_step
 
 use binding_model::Found;
 use ml_trees::{Pat, PatField};
-use resolve_base::{bind, group, tied, variables};
+use resolve_base::{bind, group, tie_parts, variables};
 use rotor_base::Memory;
 use shape_core::{SharedEntry, make_struct};
 use std::alloc::Global;
@@ -114,7 +114,7 @@ fn tie_all(
     for part in rest {
         let values = variables_group(alloc, found, file, part)?;
         let values = make_struct(alloc, values)?;
-        tied(found, &values, &before)?;
+        tie_parts(found, &values, &before)?;
         before = values;
     }
     Ok(())

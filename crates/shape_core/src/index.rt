@@ -210,7 +210,7 @@ impl Index {
     }
 
     /// Whether no later entry of the list has the kind and name of the entry at a position; false for a Dark entry.
-    pub fn shown(&self, list: &[SharedEntry], at: usize) -> bool
+    pub fn is_shown(&self, list: &[SharedEntry], at: usize) -> bool
         requires { IsIndexOf self.now list.now }
         ensures { result ≡ pure.is_shown (pure.entries_from at (entries_of list.now)) }
     {
@@ -303,7 +303,7 @@ impl Index {
     pub fn val(&self, name: &[u8]) -> Option<Goal>
         ensures { (list : List SharedEntry) → IsIndexOf self.now list → result ≡ pure.find_val (entries_of list) name.now }
     {
-        self.tables.seen(name).goal()
+        self.tables.find_seen(name).goal()
     }
 }
 
@@ -395,7 +395,7 @@ fn module_type_at(list: &[SharedEntry], position: Option<usize>) -> Option<&Shar
 
 impl Tables {
     // What a look-up of a value has seen of the list.
-    fn seen(&self, name: &[u8]) -> Seen
+    fn find_seen(&self, name: &[u8]) -> Seen
         ensures { (list : List SharedEntry) → Tells self.now list → Sees (entries_of list) name.now result }
     {
         match self.vals.get(name) {

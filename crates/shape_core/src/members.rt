@@ -51,7 +51,8 @@ impl Members {
         }
     }
 
-    /// Turns to this footprint. If it is the same as before, what was noted stays.
+    /// Turns to this footprint. If it is the same as before, the members that were noted stay. `Memory` is the only
+    /// error.
     pub fn turn_to(&mut self, alloc: Global, decls: &[Place]) -> Result<(), Memory>
         ensures turned { OnOk result (self.new.decls.items ≡ decls.now) }
         ensures kept { (list : List SharedEntry) → HasMembers self.old list → HasMembers self.new list }
@@ -66,7 +67,8 @@ impl Members {
         Ok(())
     }
 
-    /// Notes the members among all entries of the list.
+    /// Notes each member among the entries of the list that were not noted before. `Memory` is the only error. After
+    /// it, what was noted stays right.
     pub fn note_all(&mut self, entries: &[SharedEntry], set: &BTreeSet<Place>) -> Result<(), Memory>
         requires members { HasPlaces self.old.decls.items set.now }
         requires has { HasMembers self.old entries.now }
@@ -149,7 +151,7 @@ impl Members {
     }
 
     /// The last member of a list that was noted whole and has so many Dark entries.
-    pub fn last(&self, darks: u64) -> Option<LookSpot>
+    pub fn find_last(&self, darks: u64) -> Option<LookSpot>
         ensures { (list : List SharedEntry) (w : Watch) → w.foot.decls ≡ self.now.decls.items → HasMembers self.now list → self.now.noted ≡ length list → darks ≡ length (pure.darks (entries_of list)) → result ≡ looks.last_where (looks.in_foot w) (entries_of list) }
     {
         let spot = final_spot(&self.spots)?;

@@ -54,7 +54,7 @@ impl Model for Scope {
 }
 
 impl Scope {
-    /// The empty scope.
+    /// The empty scope. `Memory` is the only error.
     pub fn new(alloc: Global) -> Result<Scope, Memory>
         ensures { IfOk result (λ scope. scope ≡ []) }
     {
@@ -126,7 +126,7 @@ impl Scope {
         self.members.turn_to(self.alloc, decls)?;
         self.members.note_all(&self.entries, set)?;
         let (darks, _) = self.index.darks();
-        Ok(self.members.last(darks))
+        Ok(self.members.find_last(darks))
     }
 }
 

@@ -226,7 +226,7 @@ fn step_from<'a>(at: Option<&'a Shape>, name: &[u8]) -> Option<&'a Shape>
 }
 
 // The shape at the end of a path inside a shape.
-fn inside<'a>(start: Option<&'a Shape>, path: &[Name]) -> Option<&'a Shape>
+fn step_inside<'a>(start: Option<&'a Shape>, path: &[Name]) -> Option<&'a Shape>
     ensures { found_shape result ≡ pure.inside (found_shape start.entry) path.now }
 {
     let mut at = start;
@@ -243,7 +243,7 @@ pub fn walk<'a>(list: &'a [Entry], path: &[Name]) -> Option<&'a Shape>
 {
     match path.split_first() {
         None => None,
-        Some((head, rest)) => inside(find_mod(list, head.as_bytes()), rest),
+        Some((head, rest)) => step_inside(find_mod(list, head.as_bytes()), rest),
     }
 }
 
@@ -278,8 +278,8 @@ fn is_shown(entry: &Entry, rest: &[Entry]) -> bool
     }
 }
 
-// The sum of two weights, or the greatest weight if it is more.
-pub fn plus(a: u64, b: u64) -> u64
+/// The sum of two weights, or `GREATEST_WEIGHT` if it is more.
+pub fn add_capped(a: u64, b: u64) -> u64
     requires { (a ≤ 16777216) × (b ≤ 16777216) }
     ensures { result ≡ pure.capped (a + b) }
 {
@@ -294,8 +294,8 @@ pub fn weight(shape: &Shape) -> u64
 {
     match shape {
         Shape::Struct(es) => weights(es),
-        Shape::Functor(p, r) => plus(1, plus(weight(p), weight(r))),
-        Shape::Unitary(r) => plus(1, weight(r)),
+        Shape::Functor(p, r) => add_capped(1, add_capped(weight(p), weight(r))),
+        Shape::Unitary(r) => add_capped(1, weight(r)),
         Shape::Opaque => 0,
     }
 }
@@ -306,7 +306,7 @@ fn weights(list: &[Entry]) -> u64
 {
     let mut sum = 0;
     for entry in list {
-        sum = plus(sum, weight_of_entry(entry));
+        sum = add_capped(sum, weight_of_entry(entry));
     }
     sum
 }
@@ -318,8 +318,8 @@ fn weight_of_entry(entry: &Entry) -> u64
 {
     match entry {
         Entry::Val(_, _) => 1,
-        Entry::Mod(_, shape) => plus(1, weight(shape)),
-        Entry::Mty(_, shape) => plus(1, weight(shape)),
+        Entry::Mod(_, shape) => add_capped(1, weight(shape)),
+        Entry::Mty(_, shape) => add_capped(1, weight(shape)),
         Entry::Dark(_) => 1,
     }
 }
@@ -331,8 +331,8 @@ pub fn copy(alloc: Global, shape: &Shape) -> Result<Shape, Memory>
     copy_within(alloc, shape, MAX_LEVELS)
 }
 
-// One level less, if there is one.
-pub fn below(levels: usize) -> Result<usize, Memory>
+/// The levels that are left below this one. If none is left, `Memory`: want of stack is want of memory.
+pub fn take_level(levels: usize) -> Result<usize, Memory>
     ensures { IfOk result (λ left. levels ≡ left + 1) }
 {
     match levels {
@@ -349,13 +349,13 @@ fn copy_within(alloc: Global, shape: &Shape, levels: usize) -> Result<Shape, Mem
     match shape {
         Shape::Struct(es) => Ok(Shape::Struct(copy_entries(alloc, es, levels)?)),
         Shape::Functor(p, r) => {
-            let levels = below(levels)?;
+            let levels = take_level(levels)?;
             let p = Box::new(alloc, copy_within(alloc, p, levels)?)?;
             let r = Box::new(alloc, copy_within(alloc, r, levels)?)?;
             Ok(Shape::Functor(p, r))
         }
         Shape::Unitary(r) => {
-            let levels = below(levels)?;
+            let levels = take_level(levels)?;
             let r = Box::new(alloc, copy_within(alloc, r, levels)?)?;
             Ok(Shape::Unitary(r))
         }
@@ -383,11 +383,11 @@ fn copy_entry(alloc: Global, entry: &Entry, levels: usize) -> Result<Entry, Memo
     match entry {
         Entry::Val(x, goal) => Ok(Entry::Val(Name::new(alloc, x.as_bytes())?, *goal)),
         Entry::Mod(x, shape) => {
-            let shape = copy_within(alloc, shape, below(levels)?)?;
+            let shape = copy_within(alloc, shape, take_level(levels)?)?;
             Ok(Entry::Mod(Name::new(alloc, x.as_bytes())?, shape))
         }
         Entry::Mty(x, shape) => {
-            let shape = copy_within(alloc, shape, below(levels)?)?;
+            let shape = copy_within(alloc, shape, take_level(levels)?)?;
             Ok(Entry::Mty(Name::new(alloc, x.as_bytes())?, shape))
         }
         Entry::Dark(at) => Ok(Entry::Dark(*at)),

@@ -12,7 +12,7 @@ ghost use Rattle.shape_core.specs.Places.{HasPlaces};
 use crate::contents::Contents;
 use crate::index::LookSpot;
 use crate::kinds::Kind;
-use crate::shape::plus;
+use crate::shape::add_capped;
 use rotor_base::{Goal, MAX_LEVELS, Memory, Name, Place};
 use std::alloc::{AllocError, Global};
 use std::collections::BTreeSet;
@@ -170,8 +170,8 @@ fn weight_of_entry(entry: &SharedEntry) -> u64
 {
     match entry {
         SharedEntry::Val(_, _) => 1,
-        SharedEntry::Mod(_, shape) => plus(1, weight_of(shape)),
-        SharedEntry::Mty(_, shape) => plus(1, weight_of(shape)),
+        SharedEntry::Mod(_, shape) => add_capped(1, weight_of(shape)),
+        SharedEntry::Mty(_, shape) => add_capped(1, weight_of(shape)),
         SharedEntry::Dark(_) => 1,
     }
 }
@@ -197,7 +197,7 @@ pub fn make_struct(alloc: Global, entries: Vec<SharedEntry>) -> Result<Shared, M
     let mut levels = 0;
     for entry in &entries {
         contents.add(alloc, entry)?;
-        weight = plus(weight, weight_of_entry(entry));
+        weight = add_capped(weight, weight_of_entry(entry));
         levels = levels.max(levels_of_entry(entry));
     }
     let contents = Box::new(alloc, contents)?;
@@ -208,7 +208,7 @@ pub fn make_struct(alloc: Global, entries: Vec<SharedEntry>) -> Result<Shared, M
 pub fn make_functor(alloc: Global, param: Shared, body: Shared) -> Result<Shared, Memory>
     ensures { IfOk result (λ shape. shape ≡ pure.Functor param body) }
 {
-    let weight = plus(1, plus(weight_of(&param), weight_of(&body)));
+    let weight = add_capped(1, add_capped(weight_of(&param), weight_of(&body)));
     let levels = levels_of(&param).max(levels_of(&body)) + 1;
     make(alloc, Form::Functor(param, body), weight, levels)
 }
@@ -217,7 +217,7 @@ pub fn make_functor(alloc: Global, param: Shared, body: Shared) -> Result<Shared
 pub fn make_unitary(alloc: Global, body: Shared) -> Result<Shared, Memory>
     ensures { IfOk result (λ shape. shape ≡ pure.Unitary body) }
 {
-    let weight = plus(1, weight_of(&body));
+    let weight = add_capped(1, weight_of(&body));
     let levels = levels_of(&body) + 1;
     make(alloc, Form::Unitary(body), weight, levels)
 }
@@ -385,7 +385,7 @@ pub fn is_shown(shape: &Shared, at: usize) -> bool
     ensures { result ≡ pure.is_shown (pure.entries_from at (pure.entries_in shape.now)) }
 {
     match &shape.node.form {
-        Form::Struct(entries, contents) => contents.index.shown(entries, at),
+        Form::Struct(entries, contents) => contents.index.is_shown(entries, at),
         Form::Functor(_, _) => false,
         Form::Unitary(_) => false,
         Form::Opaque => false,

@@ -6,7 +6,7 @@ ghost use Rattle.shape_core.specs.Node.{entries_of, and_then};
 ghost use Rattle.shape_core.specs.View.{view_shape, view_then, entries as entries_seen};
 
 use crate::kinds::Kind;
-use crate::shape::{Entry, Shape, below};
+use crate::shape::{Entry, Shape, take_level};
 use crate::shared::{
     Shared, SharedEntry, entries, kind, make_functor, make_opaque, make_struct, make_unitary,
 };
@@ -29,13 +29,13 @@ fn share_within(alloc: Global, shape: &Shape, levels: usize) -> Result<Shared, M
     match shape {
         Shape::Struct(es) => make_struct(alloc, share_entries(alloc, es, levels)?),
         Shape::Functor(p, r) => {
-            let levels = below(levels)?;
+            let levels = take_level(levels)?;
             let p = share_within(alloc, p, levels)?;
             let r = share_within(alloc, r, levels)?;
             make_functor(alloc, p, r)
         }
         Shape::Unitary(r) => {
-            let r = share_within(alloc, r, below(levels)?)?;
+            let r = share_within(alloc, r, take_level(levels)?)?;
             make_unitary(alloc, r)
         }
         Shape::Opaque => make_opaque(alloc),
@@ -61,18 +61,18 @@ fn share_entry(alloc: Global, entry: &Entry, levels: usize) -> Result<SharedEntr
     match entry {
         Entry::Val(x, goal) => Ok(SharedEntry::Val(Name::new(alloc, x.as_bytes())?, *goal)),
         Entry::Mod(x, shape) => {
-            let shape = share_within(alloc, shape, below(levels)?)?;
+            let shape = share_within(alloc, shape, take_level(levels)?)?;
             Ok(SharedEntry::Mod(Name::new(alloc, x.as_bytes())?, shape))
         }
         Entry::Mty(x, shape) => {
-            let shape = share_within(alloc, shape, below(levels)?)?;
+            let shape = share_within(alloc, shape, take_level(levels)?)?;
             Ok(SharedEntry::Mty(Name::new(alloc, x.as_bytes())?, shape))
         }
         Entry::Dark(at) => Ok(SharedEntry::Dark(*at)),
     }
 }
 
-/// An entry with the same name and goal or shape. The shape is shared and not copied.
+/// An entry with the same name and goal or shape. The shape is shared and not copied. `Memory` is the only error.
 pub fn share_again(alloc: Global, entry: &SharedEntry) -> Result<SharedEntry, Memory>
     ensures { IfOk result (λ again. again ≡ entry.now) }
 {
@@ -107,15 +107,15 @@ pub fn bring(alloc: Global, from: Option<&Shared>, at: Place) -> Result<Vec<Shar
     match from {
         Some(shape) => match kind(shape) {
             Kind::Struct => share_all(alloc, entries(shape)),
-            Kind::Functor => dark(alloc, at),
-            Kind::Unitary => dark(alloc, at),
-            Kind::Opaque => dark(alloc, at),
+            Kind::Functor => make_dark(alloc, at),
+            Kind::Unitary => make_dark(alloc, at),
+            Kind::Opaque => make_dark(alloc, at),
         },
-        None => dark(alloc, at),
+        None => make_dark(alloc, at),
     }
 }
 
-fn dark(alloc: Global, at: Place) -> Result<Vec<SharedEntry>, Memory>
+fn make_dark(alloc: Global, at: Place) -> Result<Vec<SharedEntry>, Memory>
     ensures { IfOk result (λ v. entries_of v.items ≡ pure.a_dark at pure.none) }
 {
     let mut entries = Vec::new(alloc);

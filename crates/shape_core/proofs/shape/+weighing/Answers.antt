@@ -6,7 +6,7 @@ use Rattle.shape_core.proofs.shape.+weighing.Goals as goal
 
 pub weights-loop-entry-preserved : goal.weights-loop-entry-preserved
 weights-loop-entry-preserved t c =
-    c.plus-sum.ensures
+    c.add_capped-sum.ensures
     ∙ plus_capped _ _ _ _ c.loop-entry.invariant
     (c.weight_of_entry.ensures ∙ ap (λ e. pure.capped (pure.weights (view_then e pure.none))) c.entry-item.is)
     ∙ ap pure.capped (sym (weights_more c.args.list.now c.loop-entry.entry-index c.entry-item.result c.loop-entry-test.true))

@@ -20,7 +20,7 @@ loop-entry-preserved c =
     let m : c.max-levels.result ≡ max c.loop-entry.levels c.levels_of_entry.result = grind (arith, common_steps) in (
       subst (λ (l : List SharedEntry). HasContents c.add.new.self l) (sym (taken list i d c.loop-entry-test.true c.entry-item.is))
           (c.in_ok-add.ensures (take i list) c.loop-entry.invariant.0),
-      c.plus-weight.ensures ∙ plus_capped _ _ _ _ c.loop-entry.invariant.1 c.weight_of_entry.ensures
+      c.add_capped-weight.ensures ∙ plus_capped _ _ _ _ c.loop-entry.invariant.1 c.weight_of_entry.ensures
           ∙ ap pure.capped (sym (weights_taken list i d c.loop-entry-test.true c.entry-item.is)),
       m ∙ ap (λ n. max n c.levels_of_entry.result) c.loop-entry.invariant.2
           ∙ ap (max (pure.depths (entries_of (take i list)))) c.levels_of_entry.ensures

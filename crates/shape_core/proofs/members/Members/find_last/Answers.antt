@@ -7,7 +7,7 @@ use Rattle.shape_core.specs.Looks as looks
 use Rattle.shape_core.specs.Members.{final}
 use Rattle.shape_core.proofs.Looked.{looked}
 use Rattle.shape_core.proofs.Noted.{members_last}
-use Rattle.shape_core.proofs.members.Members.last.Goals as goal
+use Rattle.shape_core.proofs.members.Members.find_last.Goals as goal
 
 pub returns-in_err-spot : goal.returns-in_err-spot
 returns-in_err-spot c list w e h n d =

@@ -3,7 +3,7 @@ use Rattle.shape_core.specs.Shape as pure
 use Rattle.shape_core.specs.Node.{entries_of}
 use Rattle.shape_core.proofs.Shown.{last_get}
 use Rattle.shape_core.proofs.Telling.{len_of, sees_none, sees_some, none_left, some_left}
-use Rattle.shape_core.proofs.index.Tables.seen.Goals as goal
+use Rattle.shape_core.proofs.index.Tables.find_seen.Goals as goal
 
 pub returns-in-None : goal.returns-in-None
 returns-in-None c list t =

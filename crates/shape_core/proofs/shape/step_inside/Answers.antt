@@ -2,7 +2,7 @@ use Rattle.std.proofs.Common.{◌∙◌, ap, sym, get_or}
 use Rattle.shape_core.specs.Shape as pure
 use Rattle.shape_core.specs.View.{found_shape}
 use Rattle.shape_core.proofs.Views.{inside_more}
-use Rattle.shape_core.proofs.shape.inside.Goals as goal
+use Rattle.shape_core.proofs.shape.step_inside.Goals as goal
 
 pub loop-name-preserved : goal.loop-name-preserved
 loop-name-preserved c =

@@ -2,7 +2,7 @@ use Rattle.std.proofs.Common.{◌≡◌, sym, slice_get, Some, None, arith}
 use Rattle.std.proofs.lemmas.Grind.{common_steps}
 use Rattle.std.proofs.lemmas.Option.{slice_get_read, slice_get_past}
 use Rattle.shape_core.proofs.Shown.{none_shown}
-use Rattle.shape_core.proofs.index.Index.shown.Goals as goal
+use Rattle.shape_core.proofs.index.Index.is_shown.Goals as goal
 
 pub returns-in-Some : goal.returns-in-Some
 returns-in-Some c =
