@@ -12,7 +12,7 @@ use Rattle.rotor_base.specs.Files.{names_of}
 use Rattle.rotor_base.specs.declared.source.SourceFile.{SourceFile}
 use Rattle.tree_io.specs.Outside.{FileMap}
 use Rattle.project_load.specs.Load.{file_in, files_in, source_names, sources_of, manifest_of}
-use Rattle.project_load.specs.Rewritten.{after}
+use Rattle.tree_io.specs.Writes.{after}
 use Rattle.project_load.proofs.Sorted.{same_words, names_rise}
 use Rattle.apply_journal.specs.Recovered.{project_in}
 

@@ -7,8 +7,7 @@ use Rattle.std.proofs.lemmas.List.{take_all}
 use Rattle.rotor_base.specs.declared.source.SourceFile.{SourceFile}
 use Rattle.rotor_base.proofs.Kept.{few_of}
 use Rattle.tree_io.specs.Outside.{FileMap}
-use Rattle.project_load.specs.Rewritten.{after}
-use Rattle.tree_writes.specs.Writes.{Written, StoppedWriting}
+use Rattle.tree_io.specs.Writes.{after, Written, StoppedWriting}
 use Rattle.apply_journal.specs.declared.recovery.Recovery.{Recovery}
 use Rattle.apply_journal.specs.declared.recovery.Recovery.TheVariants.{Nothing, Done}
 use Rattle.apply_journal.specs.Plan.{plan_text, IsPlan}

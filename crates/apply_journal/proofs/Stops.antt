@@ -8,8 +8,7 @@ use Rattle.rotor_base.specs.Files.{FileSet, names_of}
 use Rattle.rotor_base.specs.Stem.{is_source_name, ends_stem}
 use Rattle.rotor_base.specs.declared.source.SourceFile.{SourceFile}
 use Rattle.tree_io.specs.Outside.{FileMap}
-use Rattle.project_load.specs.Rewritten.{after}
-use Rattle.tree_writes.specs.Writes.{StoppedWriting}
+use Rattle.tree_io.specs.Writes.{after, StoppedWriting}
 use Rattle.apply_journal.specs.Plan.{file_of, plan_text, IsPlan}
 use Rattle.apply_journal.specs.Recovered.{plan_name, gate_name, open_bytes, IsOpen, plan_writes, safe_writes, HoldsPlan, project_in, Recovers}
 use Rattle.apply_journal.specs.Recovered.{planned, closed, unplanned}

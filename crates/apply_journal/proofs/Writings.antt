@@ -3,8 +3,7 @@ use Rattle.std.proofs.Common.{ℕ, List, [], ◌∷◌, ◌++◌, Option, Some, 
 use Rattle.std.specs.FinMap.{insert}
 use Rattle.rotor_base.specs.declared.source.SourceFile.{SourceFile}
 use Rattle.tree_io.specs.Outside.{FileMap, Writes, Spoils}
-use Rattle.project_load.specs.Rewritten.{after}
-use Rattle.tree_writes.specs.Writes.{HasRoom, Written, StoppedWriting}
+use Rattle.tree_io.specs.Writes.{after, HasRoom, Written, StoppedWriting}
 use Rattle.apply_journal.specs.Plan.{file_of}
 use Rattle.apply_journal.proofs.Maps.{after-append}
 

@@ -3,8 +3,7 @@ use Rattle.std.specs.Prelude.{◌≡◌, ◌⊎◌, ℕ, List, Some}
 use Rattle.rotor_base.specs.Files.{FileSet}
 use Rattle.rotor_base.specs.declared.source.SourceFile.{SourceFile}
 use Rattle.tree_io.specs.Outside.{FileMap}
-use Rattle.project_load.specs.Rewritten.{after}
-use Rattle.tree_writes.specs.Writes.{StoppedWriting}
+use Rattle.tree_io.specs.Writes.{after, StoppedWriting}
 use Rattle.apply_journal.specs.Plan.{plan_text, IsPlan}
 use Rattle.apply_journal.specs.Recovered.{IsOpen, HoldsPlan, project_in, Recovers, plan_writes, safe_writes}
 

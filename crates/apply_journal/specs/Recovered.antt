@@ -5,8 +5,7 @@ use Rattle.rotor_base.specs.Files.{FileSet}
 use Rattle.rotor_base.specs.declared.source.SourceFile.{SourceFile}
 use Rattle.tree_io.specs.Outside.{FileMap}
 use Rattle.project_load.specs.Load.{sources_of, manifest_of}
-use Rattle.project_load.specs.Rewritten.{after}
-use Rattle.tree_writes.specs.Writes.{StoppedWriting}
+use Rattle.tree_io.specs.Writes.{after, StoppedWriting}
 use Rattle.apply_journal.specs.declared.recovery.Recovery.{Recovery}
 use Rattle.apply_journal.specs.declared.recovery.Recovery.TheVariants.{Nothing, Done}
 use Rattle.apply_journal.specs.Plan.{line, file_of, plan_text, IsPlan}

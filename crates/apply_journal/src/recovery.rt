@@ -4,7 +4,7 @@ ghost use Rattle.std.specs.Option.{ForSome, option_map};
 ghost use Rattle.std.specs.FinMap.{keys};
 ghost use Rattle.rotor_base.specs.declared.source.SourceFile.{SourceFile};
 ghost use Rattle.tree_io.specs.Outside.{KeepsRoom, StaysSteady};
-ghost use Rattle.tree_writes.specs.Writes.{HasRoom};
+ghost use Rattle.tree_io.specs.Writes.{HasRoom};
 ghost use Rattle.apply_journal.specs.Cause.{HasReadCause, HasRecoverCause, IsFault};
 ghost use Rattle.apply_journal.specs.Plan.{IsPlan, plan_text};
 ghost use Rattle.apply_journal.specs.Recovered.{ArePlanWrites, HoldsNoPlan, HoldsPlan, IsDue, IsLost, IsRecovered, IsStopped, KeepsRecovered, LeavesRecovered, plan_writes};
@@ -15,8 +15,7 @@ use crate::safe::PLAN;
 use crate::{PlanError, RecoverError, read_plan};
 use rotor_base::{MAX_PLAN_BYTES, Memory, SourceFile};
 use std::alloc::Global;
-use tree_io::Tree;
-use tree_writes::{take_room, write_all};
+use tree_io::{Tree, take_room, write_all};
 
 /// The most bytes of the plan's file that are read: one more than a plan may have.
 const PLAN_LIMIT: u32 = MAX_PLAN_BYTES + 1;

@@ -1,7 +1,7 @@
 //! Safe writes.
 ghost use Rattle.std.specs.Prelude.{◌≡◌, IfOk, IsErr, OnOk, OnErr};
 ghost use Rattle.tree_io.specs.Outside.{HasFault, KeepsRoom, StaysSteady};
-ghost use Rattle.tree_writes.specs.Writes.{HasRoom, Written, StoppedWriting};
+ghost use Rattle.tree_io.specs.Writes.{HasRoom, Written, StoppedWriting};
 ghost use Rattle.apply_journal.specs.Recovered.{plan_writes, safe_writes};
 
 use crate::Plan;
@@ -10,8 +10,7 @@ use crate::plan::make_file;
 use crate::recovery::with_closed_gate;
 use rotor_base::{Failed, Memory, Row, SourceFile, Text};
 use std::alloc::Global;
-use tree_io::Tree;
-use tree_writes::write_all;
+use tree_io::{Tree, write_all};
 
 /// The name of the plan's file.
 pub(crate) const PLAN: &str = "rotor.plan";
@@ -28,7 +27,7 @@ pub fn take_room<T: Tree>(alloc: Global, tree: &mut T, plan: &Plan) -> Result<()
     ensures count { T.faults tree.new ≡ T.faults tree.old }
     ensures steady { T.is_steady tree.old → T.is_steady tree.new }
 {
-    tree_writes::take_room(alloc, plan.files(), tree)?;
+    tree_io::take_room(alloc, plan.files(), tree)?;
     tree.room(alloc, PLAN, plan.text().len() as u32)?;
     tree.room(alloc, GATE, OPEN.len() as u32)
 }

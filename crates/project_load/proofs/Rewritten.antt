@@ -15,7 +15,8 @@ use Rattle.rotor_base.specs.declared.refusal.LoadError.{LoadError}
 use Rattle.rotor_base.proofs.Rising.{some_is, not_named}
 use Rattle.tree_io.specs.Outside.{FileMap}
 use Rattle.project_load.specs.Load.{files_in, source_names, sources_of, manifest_of, unless_refused, loaded}
-use Rattle.project_load.specs.Rewritten.{after, files_at, Covers, AreOthers, LoadedFilesAreAProject, NewSourcesAreLoaded, OldSourcesComeBack}
+use Rattle.project_load.specs.Rewritten.{files_at, Covers, AreOthers, LoadedFilesAreAProject, NewSourcesAreLoaded, OldSourcesComeBack}
+use Rattle.tree_io.specs.Writes.{after}
 use Rattle.project_load.proofs.Keys.{keys_kept, get_written}
 use Rattle.project_load.proofs.Sorted.{names_rise, all_there}
 use Rattle.project_load.proofs.Loaded.{names_read, loaded_is}

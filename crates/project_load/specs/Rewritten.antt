@@ -1,16 +1,11 @@
 -- A folder after some of its sources were written (own).
-use Rattle.std.specs.Prelude.{◌≡◌, ◌⊎◌, ℕ, List, [], ◌∷◌, None, Ok, Contains, slice_get}
+use Rattle.std.specs.Prelude.{◌≡◌, ◌⊎◌, ℕ, List, None, Ok, Contains, slice_get}
 use Rattle.std.specs.List.{filter_map}
-use Rattle.std.specs.FinMap.{insert}
 use Rattle.rotor_base.specs.Files.{FileSet, IsProject, names_of, load_refusal}
 use Rattle.rotor_base.specs.declared.source.SourceFile.{SourceFile}
 use Rattle.tree_io.specs.Outside.{FileMap}
+use Rattle.tree_io.specs.Writes.{after}
 use Rattle.project_load.specs.Load.{loaded}
-
--- the files after some of them were written, one after another
-abbrev pub after : List SourceFile → FileMap → FileMap
-after [] files = files
-after (f ∷ fs) files = after fs (insert files f.name f.bytes)
 
 -- the files of these numbers
 abbrev pub files_at : List SourceFile → List ℕ → List SourceFile

@@ -7,7 +7,7 @@ use Rattle.rotor_base.specs.Stem.{is_source_name}
 use Rattle.rotor_base.specs.declared.source.SourceFile.{SourceFile}
 use Rattle.tree_io.specs.Outside.{FileMap}
 use Rattle.project_load.specs.Listed.{is_listed_name}
-use Rattle.project_load.specs.Rewritten.{after}
+use Rattle.tree_io.specs.Writes.{after}
 use Rattle.apply_journal.specs.Recovered.{project_in}
 use Rattle.apply_journal.proofs.Maps.{named, get_here, get_other, apart, same_project, get_after_other, get_after_same}
 

@@ -7,10 +7,9 @@ use Rattle.rotor_app.specs.declared.status.Status.{Status}
 use Rattle.rotor_app.specs.declared.status.Status.TheVariants.{Done, Refused, Usage, Project, TreeFault, SinkFault, Memory}
 use Rattle.rotor_app.specs.declared.reply.Reply.{Reply}
 use Rattle.rotor_app.specs.Said.{IsReply, SaysAlone, AsksNothing, SomeReply}
-use Rattle.project_load.specs.Rewritten.{after}
 use Rattle.rotor_app.specs.Table.{Seen, Ending, unread, wanting, carried, unwritten, unput, IsQuiet, IsAsSaid, IsFault, TreeStopped, SinkStopped}
 use Rattle.rotor_app.specs.Table.{IsRefusal, AnsweredAlone, CutAlone}
-use Rattle.tree_writes.specs.Writes.{Written, StoppedWriting}
+use Rattle.tree_io.specs.Writes.{after, Written, StoppedWriting}
 
 module _ (request : Option Command) (before now : Seen) (tree_same sink_same : Type 0) (status : Status) where
   written_said : (writes : List SourceFile) (files : FileMap) → Written writes before.content now.content → before.content ≡ Some files

@@ -27,7 +27,7 @@ use Rattle.rotor_app.specs.declared.reply.Reply.{Reply}
 use Rattle.rotor_app.specs.declared.writing.Writing.{Writing}
 use Rattle.rotor_app.specs.declared.folder.Opened.{Opened}
 use Rattle.rotor_app.specs.declared.folder.Opened.TheVariants as opening
-use Rattle.tree_writes.specs.Writes.{HasRoom}
+use Rattle.tree_io.specs.Writes.{HasRoom}
 use Rattle.rotor_app.specs.Said.{status_of_refusal, status_of, silent_reply, unloaded_reply, usage_reply, pending_reply, renaming_reply, as_outcome}
 use Rattle.rotor_app.specs.Said.{Permits, Finds, SaysLoaded, not_loaded, over, SaysPermitted, pends, permitted, SaysChecked, SaysShown, SaysRenaming}
 use Rattle.rotor_app.specs.Said.{SaysRecovery, finished, reply_of, SaysSample, Says, SaysAlone, AsksNothing}

@@ -16,11 +16,11 @@ use Rattle.rotor_base.specs.declared.target.Target.{Target}
 use Rattle.rotor_base.specs.declared.target.Target.TheVariants.{At}
 use Rattle.tree_io.specs.Outside.{FileMap}
 use Rattle.project_load.specs.Load.{loaded, unless_refused}
-use Rattle.project_load.specs.Rewritten.{after, files_at, AreOthers}
+use Rattle.project_load.specs.Rewritten.{files_at, AreOthers}
 use Rattle.project_load.specs.Listed.{Lists, is_listed_name, lacks as lacks_list, large as large_list, unread as unread_list, refused, taken}
 use Rattle.project_load.specs.declared.error.ListError.{ListError}
 use Rattle.project_load.specs.declared.error.ListError.TheVariants as list_error
-use Rattle.tree_writes.specs.Writes.{StoppedWriting}
+use Rattle.tree_io.specs.Writes.{after, StoppedWriting}
 use Rattle.apply_journal.specs.Plan.{plan_text, IsPlan}
 use Rattle.apply_journal.specs.Recovered.{plan_name, gate_name, IsOpen, safe_writes, project_in, Recovers, closed}
 use Rattle.apply_journal.proofs.Maps.{get_here, get_other, get_after_other, get_after_same}

@@ -17,7 +17,7 @@ use Rattle.rotor_base.specs.declared.target.Target.{Target}
 use Rattle.tree_io.specs.Outside.{FileMap}
 use Rattle.project_load.specs.Load.{loaded}
 use Rattle.project_load.specs.Listed.{Lists, is_listed_name}
-use Rattle.project_load.specs.Rewritten.{after}
+use Rattle.tree_io.specs.Writes.{after}
 use Rattle.apply_journal.specs.Recovered.{plan_name, gate_name, IsLost, IsOpen, project_in, Recovers}
 use Rattle.report.specs.Pieces.{place_text}
 use Rattle.report.specs.Lines.{undo_line}

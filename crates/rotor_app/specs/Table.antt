@@ -6,8 +6,7 @@ use Rattle.rotor_app.specs.declared.status.Status.{Status}
 use Rattle.rotor_app.specs.declared.status.Status.TheVariants.{Done, Refused, Usage, Project, TreeFault, SinkFault, Memory}
 use Rattle.rotor_app.specs.declared.reply.Reply.{Reply}
 use Rattle.rotor_app.specs.Said.{IsReply, Says, AsksNothing, SaysAlone, SomeReply}
-use Rattle.project_load.specs.Rewritten.{after}
-use Rattle.tree_writes.specs.Writes.{Written, StoppedWriting}
+use Rattle.tree_io.specs.Writes.{after, Written, StoppedWriting}
 
 -- what can be seen of a folder and of an output before a call and after it: the counts of faults, the files, the bytes taken
 pub record Seen : Type 0 where

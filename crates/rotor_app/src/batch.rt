@@ -4,7 +4,7 @@ ghost use Rattle.std.specs.List.{list_any};
 ghost use Rattle.std.specs.Option.{option_map};
 ghost use Rattle.tree_io.specs.Outside.{HasCause, StaysSteady};
 ghost use Rattle.rotor_base.specs.Limits.{max_file_bytes};
-ghost use Rattle.tree_writes.specs.Writes.{HasRoom};
+ghost use Rattle.tree_io.specs.Writes.{HasRoom};
 ghost use Rattle.rotor_app.specs.Said.{IsCommandReply, SaysBatch, SaysFound, SaysSteps, bad_batch, batch_in, batched_reply, stopped_batch};
 
 use crate::folder::{Opened, open_project};
@@ -16,8 +16,7 @@ use rename_batch::{BatchError, BatchReadError, Batched, Step, batch, batch_text,
 use report::{bad_batch_text, stopped_text};
 use rotor_base::{Files, LoadError, MAX_FILE_BYTES, Memory, Name, Refusal, Row};
 use std::alloc::Global;
-use tree_io::{Tree, TreeError};
-use tree_writes::take_room;
+use tree_io::{Tree, TreeError, take_room};
 
 /// The most bytes of a batch that are read: one more than it may have.
 const READ_LIMIT: u32 = MAX_FILE_BYTES + 1;

@@ -1,7 +1,7 @@
 //! The reply to the words, before anything is written.
 ghost use Rattle.std.specs.Prelude.{◌≡◌, IfOk, IfSome, IsErrOf, None, Some, map, string_bytes};
 ghost use Rattle.tree_io.specs.Outside.{HasCause, StaysSteady};
-ghost use Rattle.tree_writes.specs.Writes.{HasRoom};
+ghost use Rattle.tree_io.specs.Writes.{HasRoom};
 ghost use Rattle.cli_words.specs.Words.{command_of};
 ghost use Rattle.rotor_app.specs.Said.{AsksNothing, IsCommandReply, IsReply, Says, SaysAlone};
 

@@ -1,7 +1,7 @@
 //! The reply to `recover`.
 ghost use Rattle.std.specs.Prelude.{◌≡◌, ◌-◌, IfOk, IfSome, IsErrOf, length};
 ghost use Rattle.tree_io.specs.Outside.{HasCause, StaysSteady};
-ghost use Rattle.tree_writes.specs.Writes.{HasRoom};
+ghost use Rattle.tree_io.specs.Writes.{HasRoom};
 ghost use Rattle.report.specs.Recover.{recovered_text};
 ghost use Rattle.rotor_app.specs.Said.{IsCommandReply, SaysRecovery, reply_of};
 

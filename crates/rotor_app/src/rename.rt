@@ -1,7 +1,7 @@
 //! The reply to `rename`.
 ghost use Rattle.std.specs.Prelude.{◌≡◌, IfOk, IfSome, IsErrOf, map, string_bytes};
 ghost use Rattle.tree_io.specs.Outside.{HasCause, StaysSteady};
-ghost use Rattle.tree_writes.specs.Writes.{HasRoom};
+ghost use Rattle.tree_io.specs.Writes.{HasRoom};
 ghost use Rattle.rename_laws.specs.Laws.{ListsChanges};
 ghost use Rattle.rotor_app.specs.Said.{IsCommandReply, SaysRename, SaysRenaming, renamed_reply};
 
@@ -16,8 +16,7 @@ use rename_files::rename;
 use rename_laws::changes_are_listed;
 use rotor_base::{Files, Memory, Name, Outcome, Renamed, Row, Target};
 use std::alloc::Global;
-use tree_io::{Tree, TreeError};
-use tree_writes::take_room;
+use tree_io::{Tree, TreeError, take_room};
 
 /// The reply to `rename`, with its room.
 pub fn reply_to_rename<T: Tree>(

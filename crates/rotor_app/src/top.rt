@@ -7,7 +7,7 @@ ghost use Rattle.rotor_app.specs.Said.{AsksNothing, SomeReply};
 ghost use Rattle.rotor_app.specs.Done.{IsDoneIfAccepted, IsDoneSo, IsRecoverable};
 ghost use Rattle.rotor_app.specs.Laws.{HasLaws};
 ghost use Rattle.rotor_app.specs.Table.{Ending, seen, IsComplete, Carried, Put, IsQuiet, IsAsSaid, IsFault, TreeStopped, SinkStopped, IsRefusal, AnsweredAlone, CutAlone};
-ghost use Rattle.tree_writes.specs.Writes.{HasRoom};
+ghost use Rattle.tree_io.specs.Writes.{HasRoom};
 
 use crate::decide::decide;
 use crate::reply::Reply;
@@ -26,8 +26,7 @@ use rename_laws::{
 };
 use rename_verify::yes_is_valid;
 use std::alloc::Global;
-use tree_io::{Sink, Tree, TreeError};
-use tree_writes::write_all;
+use tree_io::{Sink, Tree, TreeError, write_all};
 
 /// Runs the command of the words over a folder and an output, and returns how it ended.
 ///

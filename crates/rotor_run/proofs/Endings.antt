@@ -1,7 +1,7 @@
 -- How a run over what was read ends, from the clauses of the program over any folder.
 use Rattle.std.proofs.Common.{◌≡◌, ◌⊎◌, inl, inr, ℕ, zero, suc, ◌<◌, List, Option, Some, None, true, is_some, refl, sym, ap, subst, ◌∙◌, arith}
 use Rattle.std.specs.Option.{ForSome}
-use Rattle.project_load.specs.Rewritten.{after}
+use Rattle.tree_io.specs.Writes.{after}
 use Rattle.known.specs.Known.{files_of}
 use Rattle.tree_io.specs.Outside.{FileMap, Rose}
 use Rattle.cli_words.specs.declared.command.Command.{Command}

@@ -1,7 +1,7 @@
 -- How a run over a folder ends (own).
 use Rattle.std.specs.Prelude.{◌≡◌, ◌⊎◌, ℕ, List, Option, IfSome}
 use Rattle.tree_io.specs.Outside.{FileMap, Takes}
-use Rattle.project_load.specs.Rewritten.{after}
+use Rattle.tree_io.specs.Writes.{after}
 use Rattle.cli_words.specs.declared.command.Command.{Command}
 use Rattle.rotor_app.specs.declared.status.Status.{Status}
 use Rattle.rotor_app.specs.declared.status.Status.TheVariants.{Done, TreeFault, SinkFault, Memory}

@@ -1,3 +1,4 @@
 pub mod Slots
 pub mod FileNames
 pub mod Overwritten
+pub mod Writing

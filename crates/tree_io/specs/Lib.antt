@@ -7,3 +7,4 @@ pub mod Outside
 pub mod Slots
 pub mod SoundTree
 pub mod Store
+pub mod Writes

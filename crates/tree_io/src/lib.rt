@@ -1,5 +1,5 @@
 //! The outside of ROTOR: a folder of files and an output, as traits that a program is proved over, with two folders
-//! and an output in memory, and those of the system.
+//! and an output in memory, and those of the system. A list of files is written to a folder one file after another.
 #![tactic(auto)]
 
 mod counts;
@@ -15,6 +15,7 @@ mod outside;
 mod slot;
 mod sound_tree;
 mod store;
+mod writes;
 
 pub use disk::{Disk, Found, Node};
 pub use distinct::have_distinct_names;
@@ -24,3 +25,4 @@ pub use mem_sink::MemSink;
 pub use mem_tree::MemTree;
 pub use outside::{Sink, Tree, TreeError};
 pub use sound_tree::SoundTree;
+pub use writes::{take_room, write_all};

@@ -1,7 +1,7 @@
 use Rattle.std.proofs.Common.{◌-◌, Option, List, Vec, IfSome, option_map, subst, arith}
 use Rattle.std.specs.declared.alloc.Global.{Global}
 use Rattle.rotor_base.specs.declared.source.SourceFile.{SourceFile}
-use Rattle.tree_writes.specs.Writes.{Written, StoppedWriting}
+use Rattle.tree_io.specs.Writes.{Written, StoppedWriting}
 use Rattle.apply_journal.specs.declared.error.RecoverError.TheVariants.{BadPlan}
 use Rattle.apply_journal.specs.declared.recovery.Recovery.TheVariants.{Nothing, Done}
 use Rattle.apply_journal.specs.Recovered.{IsDue, ArePlanWrites}

@@ -1,8 +1,8 @@
 use Rattle.std.proofs.Common.{[], ◌∷◌, List, ℕ, subst, sym}
 use Rattle.rotor_base.specs.declared.source.SourceFile.{SourceFile}
 use Rattle.tree_io.specs.Outside.{Writes}
-use Rattle.tree_writes.specs.Writes.{HasRoom, Written, StoppedWriting}
-use Rattle.tree_writes.proofs.Writing.{keeps_room}
+use Rattle.tree_io.specs.Writes.{HasRoom, Written, StoppedWriting}
+use Rattle.tree_io.proofs.Writing.{keeps_room}
 use Rattle.apply_journal.specs.Plan.{file_of, plan_text}
 use Rattle.apply_journal.specs.Recovered.{plan_name, gate_name, open_bytes, plan_writes}
 use Rattle.apply_journal.proofs.Writings.{on_err, ok_map, err_map, written_one, written_on, stopped_one, stopped_front, stopped_back}

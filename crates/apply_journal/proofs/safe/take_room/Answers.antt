@@ -1,7 +1,7 @@
 use Rattle.std.proofs.Common.{◌≤◌, ℕ, List, [], ◌∷◌, length, subst, arith}
 use Rattle.rotor_base.specs.declared.source.SourceFile.{SourceFile}
-use Rattle.tree_writes.specs.Writes.{HasRoom}
-use Rattle.tree_writes.proofs.Writing.{keeps_room}
+use Rattle.tree_io.specs.Writes.{HasRoom}
+use Rattle.tree_io.proofs.Writing.{keeps_room}
 use Rattle.apply_journal.specs.Plan.{file_of, plan_text}
 use Rattle.apply_journal.specs.Recovered.{plan_name, gate_name}
 use Rattle.apply_journal.proofs.Writings.{ok_map, room_join}

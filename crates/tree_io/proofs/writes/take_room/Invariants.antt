@@ -1,7 +1,7 @@
 use Rattle.std.proofs.Common.{◌≡◌, take}
 use Rattle.tree_io.specs.Outside.{KeepsRoom}
-use Rattle.tree_writes.specs.Writes.{HasRoom}
-use Rattle.tree_writes.proofs.writes.take_room.Given as goal
+use Rattle.tree_io.specs.Writes.{HasRoom}
+use Rattle.tree_io.proofs.writes.take_room.Given as goal
 
 -- there is room for the files so far, and nothing else has changed
 abbrev pub invariant-loop-file : goal.invariant-loop-file

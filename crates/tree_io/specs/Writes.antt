@@ -1,10 +1,14 @@
 -- Files written to a folder, one after another (own).
-use Rattle.std.specs.Prelude.{◌≡◌, ℕ, ◌≤◌, List, ◌∷◌, ◌++◌, length, Option, option_map}
+use Rattle.std.specs.Prelude.{◌≡◌, ℕ, ◌≤◌, List, [], ◌∷◌, ◌++◌, length, Option, option_map}
 use Rattle.std.specs.List.{AllByRecursion}
 use Rattle.std.specs.FinMap.{insert}
 use Rattle.rotor_base.specs.declared.source.SourceFile.{SourceFile}
 use Rattle.tree_io.specs.Outside.{FileMap}
-use Rattle.project_load.specs.Rewritten.{after}
+
+-- the files after some of them were written, one after another
+abbrev pub after : List SourceFile → FileMap → FileMap
+after [] files = files
+after (f ∷ fs) files = after fs (insert files f.name f.bytes)
 
 -- there is room for each of these files
 abbrev pub HasRoom : (List ℕ → ℕ) → List SourceFile → Type 0

@@ -5,8 +5,7 @@ use Rattle.std.specs.FinMap.{insert}
 use Rattle.std.proofs.lemmas.List.{take_more, at_drop_more, take-append-drop}
 use Rattle.rotor_base.specs.declared.source.SourceFile.{SourceFile}
 use Rattle.tree_io.specs.Outside.{FileMap, Writes, Spoils, KeepsRoom}
-use Rattle.project_load.specs.Rewritten.{after}
-use Rattle.tree_writes.specs.Writes.{HasRoom, Written, StoppedWriting}
+use Rattle.tree_io.specs.Writes.{after, HasRoom, Written, StoppedWriting}
 
 pub after-append : (fs : List SourceFile) (f : SourceFile) (files : FileMap) → after (fs ++ f ∷ []) files ≡ insert (after fs files) f.name f.bytes
 after-append [] f files = refl

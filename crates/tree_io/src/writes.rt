@@ -1,11 +1,11 @@
 //! The room for a list of files, and their writes.
 ghost use Rattle.std.specs.Prelude.{◌≡◌, [], OnOk, OnErr, IsErr};
 ghost use Rattle.tree_io.specs.Outside.{HasFault, StaysSteady, KeepsRoom};
-ghost use Rattle.tree_writes.specs.Writes.{HasRoom, Written, StoppedWriting};
+ghost use Rattle.tree_io.specs.Writes.{HasRoom, Written, StoppedWriting};
 
+use crate::outside::Tree;
 use rotor_base::{Failed, Memory, SourceFile};
 use std::alloc::Global;
-use tree_io::Tree;
 
 /// Takes the folder's room for each file that will be written, at least one byte for each name. It changes neither the
 /// files nor the count.

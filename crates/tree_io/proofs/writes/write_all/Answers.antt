@@ -1,6 +1,6 @@
 use Rattle.std.proofs.Common.{◌∙◌, arith}
-use Rattle.tree_writes.proofs.Writing.{written_more, room_more, stopped_at, on_err, no_more}
-use Rattle.tree_writes.proofs.writes.write_all.Goals as goal
+use Rattle.tree_io.proofs.Writing.{written_more, room_more, stopped_at, on_err, no_more}
+use Rattle.tree_io.proofs.writes.write_all.Goals as goal
 
 pub returns-in_err-write-clause-stopped : goal.returns-in_err-write-clause-stopped
 returns-in_err-write-clause-stopped g c =

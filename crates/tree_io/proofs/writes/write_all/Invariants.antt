@@ -1,7 +1,7 @@
 use Rattle.std.proofs.Common.{◌≡◌, [], take, drop}
 use Rattle.tree_io.specs.Outside.{KeepsRoom}
-use Rattle.tree_writes.specs.Writes.{HasRoom, Written}
-use Rattle.tree_writes.proofs.writes.write_all.Given as goal
+use Rattle.tree_io.specs.Writes.{HasRoom, Written}
+use Rattle.tree_io.proofs.writes.write_all.Given as goal
 
 -- the files so far are written, and there is room for the rest
 abbrev pub invariant-loop-file : goal.invariant-loop-file
