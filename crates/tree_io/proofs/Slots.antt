@@ -18,7 +18,17 @@ use Rattle.std.specs.FinMap.{get-from_entries, get-insert, get-entries, entries-
 use Rattle.std.specs.FinMap.Entries.{by_order}
 use Rattle.tree_io.specs.declared.slot.Slot.{Slot}
 use Rattle.tree_io.specs.Outside.{FileMap}
-use Rattle.tree_io.specs.Slots.{are_distinct, is_named, files_in, room_in, IsSpot, NoSpot}
+use Rattle.tree_io.specs.Slots.{are_distinct, is_named, files_in, room_in}
+
+-- the first slot of the name is at this index
+abbrev pub IsSpot : List ℕ → List Slot → ℕ → Type 0
+IsSpot name [] at = ⊥
+IsSpot name (slot ∷ slots) zero = is_named name slot ≡ true
+IsSpot name (slot ∷ slots) (suc at) = (is_named name slot ≡ false) × IsSpot name slots at
+
+-- no slot has the name
+abbrev pub NoSpot : List ℕ → List Slot → Type 0
+NoSpot name slots = list_any (is_named name) slots ≡ false
 
 abbrev same : List ℕ → List ℕ → Bool
 same = eq_by_cmp (slice_cmp nat_cmp)

@@ -1,5 +1,5 @@
 -- Files in a list of slots (own).
-use Rattle.std.specs.Prelude.{◌≡◌, ℕ, zero, suc, Bool, true, false, not, ◌&&◌, List, [], ◌∷◌, if◌then◌else◌, vec_capacity}
+use Rattle.std.specs.Prelude.{ℕ, Bool, true, not, ◌&&◌, List, [], ◌∷◌, if◌then◌else◌, vec_capacity}
 use Rattle.std.specs.List.{list_any}
 use Rattle.std.specs.Str.{bytes_eq}
 use Rattle.tree_io.specs.declared.slot.Slot.{Slot}
@@ -22,13 +22,3 @@ files_in (slot ∷ slots) = if slot.there then (slot.name, slot.bytes.items) ∷
 abbrev pub room_in : List Slot → List ℕ → ℕ
 room_in [] name = 0
 room_in (slot ∷ slots) name = if is_named name slot then vec_capacity slot.bytes else room_in slots name
-
--- the first slot of the name is at this index
-abbrev pub IsSpot : List ℕ → List Slot → ℕ → Type 0
-IsSpot name [] at = ⊥
-IsSpot name (slot ∷ slots) zero = is_named name slot ≡ true
-IsSpot name (slot ∷ slots) (suc at) = (is_named name slot ≡ false) × IsSpot name slots at
-
--- no slot has the name
-abbrev pub NoSpot : List ℕ → List Slot → Type 0
-NoSpot name slots = list_any (is_named name) slots ≡ false

@@ -1,8 +1,8 @@
 use Rattle.std.proofs.Common.{◌≤◌, refl, sym, ap, subst, ◌∙◌, length, arith, vec_capacity, OnOk}
 use Rattle.std.specs.FinMap.{from_entries}
-use Rattle.tree_io.specs.Slots.{are_distinct, files_in, NoSpot}
+use Rattle.tree_io.specs.Slots.{are_distinct, files_in}
 use Rattle.tree_io.proofs.Slots.{spot_of, absent_of, spot_within, spot_name, names_kept, files_kept, room_kept, room_made, distinct_tried}
-use Rattle.tree_io.proofs.Slots.{files_kept_pushed, rooms_pushed, made_pushed}
+use Rattle.tree_io.proofs.Slots.{files_kept_pushed, rooms_pushed, made_pushed, NoSpot}
 use Rattle.tree_io.proofs.store.Store.room.Goals as goal
 
 pub index_mut-requires : goal.index_mut-requires
