@@ -419,8 +419,8 @@ item-returns-in_ok-named_module-in-Module-clause-taken t c =
     ∙ ap (site_steps (here file at) G M) ht in
     until3 ∙ sym (ap (taken (Going f3)) pD) ∙ c.in_ok-shape-in-Module.ensures.taken
 
-pub item-returns-in_ok-named_module-in-Module-clause-add_shown : goal.item-returns-in_ok-named_module-in-Module-clause-add_shown
-item-returns-in_ok-named_module-in-Module-clause-add_shown t c =
+pub item-returns-in_ok-named_module-in-Module-clause-shown : goal.item-returns-in_ok-named_module-in-Module-clause-shown
+item-returns-in_ok-named_module-in-Module-clause-shown t c =
     let file = c.args.file in
     let sc = entries_of c.args.scope.now in
     let at = c.in-Module.at in
