@@ -123,6 +123,8 @@ def out_of(function, args):
 
 
 KINDS = [f for b in BLOCKS for f in b if kind(f) not in SILENT + INLINE]
+# those that no contract cites
+OF_PROOFS = ["tail_out"]
 
 
 def flat(parts):
@@ -251,12 +253,16 @@ def arguments(function):
     return names, " ".join(f"({x} : {t})" for x, t in zip(names, TYPES[function]))
 
 
+def definition_of(f):
+    xs = " ".join(arguments(f)[0])
+    return (
+        f"unfoldable pub {told(f)} : {{S : Type 0}} → (S → Event → S) → S → {' → '.join(TYPES[f])} → S\n"
+        f"{told(f)} step s {xs} = {out_of(f, xs)} (λ t. t) s\n\n"
+    )
+
+
 def print_told():
-    body = ""
-    for f in KINDS:
-        xs = " ".join(arguments(f)[0])
-        body += f"unfoldable pub {told(f)} : {{S : Type 0}} → (S → Event → S) → S → {' → '.join(TYPES[f])} → S\n"
-        body += f"{told(f)} step s {xs} = {out_of(f, xs)} (λ t. t) s\n\n"
+    body = "".join(definition_of(f) for f in KINDS if f not in OF_PROOFS)
     outs = [f for b in BLOCKS for f in b if f in words_of(body)]
     uses = [std_names(body, "Rattle.std.specs.Prelude"), *uses_of(body), *use("Rattle.ml_trees.specs.Events", outs)]
     uses.append("use Rattle.tree_events.specs.Behind.{behind}")
@@ -274,7 +280,7 @@ def equations(parts):
 
 
 def print_tells():
-    body, sets = "", {}
+    body, sets = "".join(definition_of(f) for f in OF_PROOFS), {}
     for block in BLOCKS:
         functions = [f for f in block if f in KINDS]
         if not functions:
@@ -313,7 +319,7 @@ def print_tells():
     words = words_of(body)
     outs = [f for b in BLOCKS for f in b if f in words]
     uses = [std_names(body, "Rattle.std.proofs.Common"), *uses_of(body), *use("Rattle.ml_trees.specs.Events", outs)]
-    uses += use("Rattle.tree_events.specs.Told", map(told, KINDS))
+    uses += use("Rattle.tree_events.specs.Told", [told(f) for f in KINDS if f not in OF_PROOFS])
     uses.append("use Rattle.rotor_base.specs.declared.token.Class.{Class}")
     uses.append("use Rattle.tree_events.specs.Behind.{behind}")
     uses += use("Rattle.tree_events.proofs.Silent", [f"{x}_silent" for x in SILENT if f"{x}_silent" in words])
@@ -321,7 +327,7 @@ def print_tells():
     write("crates/tree_events/proofs/Tells.antt", head, uses, body)
 
 
-RESPELLED = f"{TOP}/crates/ml_syntax/specs/Respelled.antt"
+RESPELLED = f"{TOP}/crates/value_sites/specs/Respelled.antt"
 SPELLINGS = {type_of: name for name, type_of in re.findall(r"pub (spell_\w+) : Spelling → (.+) → \2$", open(RESPELLED).read(), re.M)}
 SPELL_EVENT = """-- an event with other words in the place of its lower-case ones
 abbrev pub spell_event : Spelling → Event → Event
@@ -852,8 +858,8 @@ def print_groups():
     uses.append("use Rattle.binding_model.specs.Steps.{groups_of}")
     uses += use("Rattle.binding_model.specs.Variables", sorted(set(DECLARES.values())))
     uses.append("use Rattle.binding_model.specs.Walk.{ties, pat_steps, pats_steps, field_pat_steps, fields_pat_steps, file_number}")
-    uses += use("Rattle.tree_events.specs.Told", [told(f) for f in KINDS if told(f) in words])
-    uses += use("Rattle.tree_events.proofs.Tells", sorted(rules))
+    uses += use("Rattle.tree_events.specs.Told", [told(f) for f in KINDS if told(f) in words and f not in OF_PROOFS])
+    uses += use("Rattle.tree_events.proofs.Tells", [*(told(f) for f in OF_PROOFS if told(f) in words), *sorted(rules)])
     named = {groups_in(f, ["x"])[1:].split()[0] for f in functions if groups_in(f, ["x"]) and kind(f) not in PATTERN_STEPS} | {"file_groups"}
     uses += use("Rattle.group_walk.specs.Groups", sorted(named))
     uses.append("use Rattle.group_walk.specs.declared.groups.Begun.{Begun}")
@@ -932,8 +938,8 @@ def print_places():
     body += FILES_PLACED
     words = words_of(body)
     uses = [std_names(body, "Rattle.std.proofs.Common"), *uses_of(body)]
-    uses += use("Rattle.tree_events.specs.Told", [told(f) for f in KINDS if told(f) in words])
-    uses += use("Rattle.tree_events.proofs.Tells", sorted(rules))
+    uses += use("Rattle.tree_events.specs.Told", [told(f) for f in KINDS if told(f) in words and f not in OF_PROOFS])
+    uses += use("Rattle.tree_events.proofs.Tells", [*(told(f) for f in OF_PROOFS if told(f) in words), *sorted(rules)])
     uses += use("Rattle.value_sites.specs.Places", ["Site", "adds_site", "sites", "variable_sites"])
     by_form = {places(f) for f in functions if places(f) in words} - {"variable_sites"}
     uses += use("Rattle.value_sites.proofs.SitesByForm", ["sites_by_form", *sorted(by_form)])

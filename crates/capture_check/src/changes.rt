@@ -37,7 +37,7 @@ fn capture(old: Option<Ref>, new: Option<Ref>) -> Option<Change>
     let (Some(old), Some(new)) = (old, new) else {
         return None;
     };
-    if old.at == new.at && !old.goal.is(new.goal) {
+    if old.at == new.at && !old.goal.equals(new.goal) {
         Some(Change {
             at: old.at,
             was: old.goal,
@@ -56,7 +56,7 @@ fn mislink(old: Option<Link>, new: Option<Link>) -> Option<Change>
         return None;
     };
     match old.item {
-        Goal::Decl(at) if new.item.is(old.item) && !old.source.is(new.source) => Some(Change {
+        Goal::Decl(at) if new.item.equals(old.item) && !old.source.equals(new.source) => Some(Change {
             at,
             was: old.source,
             would: new.source,

@@ -2,7 +2,7 @@
 use Rattle.std.proofs.Common.{◌≡◌, ◌⊎◌, inl, inr, ℕ, ◌+◌, ◌==◌, List, [], ◌∷◌, ◌++◌, true, Option, Some, None, length, refl, sym, ap, ◌∙◌}
 use Rattle.std.specs.Prelude.{IsSome}
 use Rattle.std.specs.FinMap.{empty, get, insert}
-use Rattle.line_words.specs.Cut.{IsWhole}
+use Rattle.rotor_base.specs.Spaces.{IsWhole}
 use Rattle.std.specs.List.{list_any}
 use Rattle.tree_io.specs.Outside.{FileMap}
 use Rattle.project_load.specs.Listed.{Gives, IsBadLine, IsEntry, is_listed_name}

@@ -38,28 +38,28 @@ use Rattle.binding_model.specs.Variables.{binding_variables, bindings_variables,
 use Rattle.binding_model.specs.Variables.{pats_variables, variables}
 use Rattle.binding_model.specs.Walk.{ties, pat_steps, pats_steps, field_pat_steps, fields_pat_steps, file_number}
 use Rattle.tree_events.specs.Told.{names_told, brings_told, pat_told, pats_told, pat_field_told, pat_fields_told, variable_told, local_told}
-use Rattle.tree_events.specs.Told.{locals_told, expr_told, links_told, base_told, guard_told, tail_told, binding_told, bindings_told, case_told}
-use Rattle.tree_events.specs.Told.{cases_told, argument_told, arguments_told, param_told, params_told, part_told, parts_told, field_told}
-use Rattle.tree_events.specs.Told.{fields_told, mod_told, mod_argument_told, mod_arguments_told, functor_param_told, functor_params_told}
-use Rattle.tree_events.specs.Told.{mod_type_told, signature_told, item_told, items_told, sig_item_told, sig_items_told, file_told}
-use Rattle.tree_events.proofs.Tells.{told_AliasSig, told_AnyName, told_AnyPat, told_AnyVariable, told_AppliedBinding, told_Apply, told_Arrow}
-use Rattle.tree_events.proofs.Tells.{told_AsPat, told_Assert, told_AssignedField, told_Begin, told_Body, told_BoolExpr, told_BoolPat, told_CaseOf}
-use Rattle.tree_events.proofs.Tells.{told_Chain, told_CharPart, told_Coerced, told_ConsPat, told_Constr, told_ConstrApply, told_ConstrApplyPat}
-use Rattle.tree_events.proofs.Tells.{told_ConstrPat, told_DefaultParam, told_EmptyBegin, told_EmptyList, told_EmptyPat, told_ExceptionItem}
-use Rattle.tree_events.proofs.Tells.{told_ExceptionPat, told_ExceptionSig, told_ExprItem, told_ExternalItem, told_ExternalSig, told_Face}
-use Rattle.tree_events.proofs.Tells.{told_FieldPun, told_For, told_Fun, told_Function, told_Functor, told_FunctorType, told_If, told_IncludeItem}
-use Rattle.tree_events.proofs.Tells.{told_IncludeSig, told_IndexPart, told_LabelParam, told_LabelPart, told_LabelPattern, told_LabelPun}
-use Rattle.tree_events.proofs.Tells.{told_Labelled, told_Lazy, told_LazyPat, told_Let, told_LetModule, told_LetOpen, told_ListExpr, told_ListPat}
-use Rattle.tree_events.proofs.Tells.{told_Literal, told_LiteralPat, told_LocalPath, told_Match, told_MatchedField, told_Minus, told_ModApply}
-use Rattle.tree_events.proofs.Tells.{told_ModParen, told_ModPath, told_ModuleArgument, told_ModuleItem, told_ModuleSig, told_ModuleTypeItem}
-use Rattle.tree_events.proofs.Tells.{told_ModuleTypeSig, told_NamedParam, told_NegativePat, told_NoArgument, told_NoParam, told_OpenItem}
-use Rattle.tree_events.proofs.Tells.{told_OpenSig, told_Opened, told_OpenedPat, told_OrPat, told_ParamArrow, told_Paren, told_ParenPat}
-use Rattle.tree_events.proofs.Tells.{told_PatternParam, told_PlainBinding, told_PlainVariable, told_Positional, told_Postfix, told_Prefixed}
-use Rattle.tree_events.proofs.Tells.{told_PunnedField, told_RangePat, told_Record, told_RecordPat, told_Sealed, told_SealedArgument}
-use Rattle.tree_events.proofs.Tells.{told_SeparatorItem, told_SeparatorSig, told_Seq, told_Sig, told_Struct, told_Tag, told_TagApply}
-use Rattle.tree_events.proofs.Tells.{told_TagApplyPat, told_TagPat, told_Try, told_TuplePat, told_TypeItem, told_TypeOf, told_TypeParen}
-use Rattle.tree_events.proofs.Tells.{told_TypePath, told_TypeSig, told_Typed, told_TypedPat, told_TypesParam, told_UnitExpr, told_UnitPat}
-use Rattle.tree_events.proofs.Tells.{told_UpperName, told_ValSig, told_Value, told_ValueItem, told_ValuePat, told_While, told_With}
+use Rattle.tree_events.specs.Told.{locals_told, expr_told, links_told, base_told, guard_told, binding_told, bindings_told, case_told, cases_told}
+use Rattle.tree_events.specs.Told.{argument_told, arguments_told, param_told, params_told, part_told, parts_told, field_told, fields_told}
+use Rattle.tree_events.specs.Told.{mod_told, mod_argument_told, mod_arguments_told, functor_param_told, functor_params_told, mod_type_told}
+use Rattle.tree_events.specs.Told.{signature_told, item_told, items_told, sig_item_told, sig_items_told, file_told}
+use Rattle.tree_events.proofs.Tells.{tail_told, told_AliasSig, told_AnyName, told_AnyPat, told_AnyVariable, told_AppliedBinding, told_Apply}
+use Rattle.tree_events.proofs.Tells.{told_Arrow, told_AsPat, told_Assert, told_AssignedField, told_Begin, told_Body, told_BoolExpr, told_BoolPat}
+use Rattle.tree_events.proofs.Tells.{told_CaseOf, told_Chain, told_CharPart, told_Coerced, told_ConsPat, told_Constr, told_ConstrApply}
+use Rattle.tree_events.proofs.Tells.{told_ConstrApplyPat, told_ConstrPat, told_DefaultParam, told_EmptyBegin, told_EmptyList, told_EmptyPat}
+use Rattle.tree_events.proofs.Tells.{told_ExceptionItem, told_ExceptionPat, told_ExceptionSig, told_ExprItem, told_ExternalItem}
+use Rattle.tree_events.proofs.Tells.{told_ExternalSig, told_Face, told_FieldPun, told_For, told_Fun, told_Function, told_Functor}
+use Rattle.tree_events.proofs.Tells.{told_FunctorType, told_If, told_IncludeItem, told_IncludeSig, told_IndexPart, told_LabelParam}
+use Rattle.tree_events.proofs.Tells.{told_LabelPart, told_LabelPattern, told_LabelPun, told_Labelled, told_Lazy, told_LazyPat, told_Let}
+use Rattle.tree_events.proofs.Tells.{told_LetModule, told_LetOpen, told_ListExpr, told_ListPat, told_Literal, told_LiteralPat, told_LocalPath}
+use Rattle.tree_events.proofs.Tells.{told_Match, told_MatchedField, told_Minus, told_ModApply, told_ModParen, told_ModPath, told_ModuleArgument}
+use Rattle.tree_events.proofs.Tells.{told_ModuleItem, told_ModuleSig, told_ModuleTypeItem, told_ModuleTypeSig, told_NamedParam, told_NegativePat}
+use Rattle.tree_events.proofs.Tells.{told_NoArgument, told_NoParam, told_OpenItem, told_OpenSig, told_Opened, told_OpenedPat, told_OrPat}
+use Rattle.tree_events.proofs.Tells.{told_ParamArrow, told_Paren, told_ParenPat, told_PatternParam, told_PlainBinding, told_PlainVariable}
+use Rattle.tree_events.proofs.Tells.{told_Positional, told_Postfix, told_Prefixed, told_PunnedField, told_RangePat, told_Record, told_RecordPat}
+use Rattle.tree_events.proofs.Tells.{told_Sealed, told_SealedArgument, told_SeparatorItem, told_SeparatorSig, told_Seq, told_Sig, told_Struct}
+use Rattle.tree_events.proofs.Tells.{told_Tag, told_TagApply, told_TagApplyPat, told_TagPat, told_Try, told_TuplePat, told_TypeItem, told_TypeOf}
+use Rattle.tree_events.proofs.Tells.{told_TypeParen, told_TypePath, told_TypeSig, told_Typed, told_TypedPat, told_TypesParam, told_UnitExpr}
+use Rattle.tree_events.proofs.Tells.{told_UnitPat, told_UpperName, told_ValSig, told_Value, told_ValueItem, told_ValuePat, told_While, told_With}
 use Rattle.tree_events.proofs.Tells.{told_WrappedDefault, told_WrappedParam, told_base_no_expr, told_base_some_expr, told_guard_no_expr}
 use Rattle.tree_events.proofs.Tells.{told_guard_some_expr, told_more_argument, told_more_binding, told_more_case, told_more_field}
 use Rattle.tree_events.proofs.Tells.{told_more_functor_param, told_more_item, told_more_link, told_more_local, told_more_mod_argument}

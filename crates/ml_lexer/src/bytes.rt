@@ -14,7 +14,7 @@ pub fn byte_at(bytes: &[u8], at: usize) -> u8
 }
 
 /// The bytes from a place on, none past the end.
-pub fn after(bytes: &[u8], at: usize) -> &[u8]
+pub fn skip(bytes: &[u8], at: usize) -> &[u8]
     ensures { result.now ≡ drop at bytes.now }
 {
     if at < bytes.len() { &bytes[at..] } else { &[] }
@@ -44,7 +44,7 @@ pub fn word_len(bytes: &[u8]) -> usize
     ensures value { result ≡ word_length bytes.now }
     ensures within { result ≤ length bytes.now }
 {
-    1 + identifier_len(after(bytes, 1))
+    1 + identifier_len(skip(bytes, 1))
 }
 
 /// Whether a byte is an identifier character.

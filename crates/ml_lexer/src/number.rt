@@ -7,7 +7,7 @@ ghost use Rattle.ml_lexer.specs.Numbers.{is_digit_of, digits_length, has_head, b
 ghost use Rattle.ml_lexer.specs.Bytes.{among};
 ghost use Rattle.ml_lexer.specs.Pieces.{Within};
 
-use crate::bytes::{after, byte_at, is_identifier};
+use crate::bytes::{byte_at, is_identifier, skip};
 use crate::piece::Piece;
 use rotor_base::Class;
 
@@ -30,12 +30,12 @@ pub fn number_at(bytes: &[u8]) -> Piece
 {
     let base = base_of(bytes);
     let head = head_len(base);
-    let whole = head + digits_len(base, after(bytes, head));
-    let more = float_part_len(base, after(bytes, whole));
+    let whole = head + digits_len(base, skip(bytes, head));
+    let more = float_part_len(base, skip(bytes, whole));
     if more > 0 {
         unless_identifier_follows(Class::Float, whole + more, bytes)
     } else {
-        unless_identifier_follows(Class::Int, whole + suffix_len(after(bytes, whole)), bytes)
+        unless_identifier_follows(Class::Int, whole + suffix_len(skip(bytes, whole)), bytes)
     }
 }
 
@@ -110,7 +110,7 @@ fn fraction_len(base: Base, bytes: &[u8]) -> usize
     ensures within { result ≤ length bytes.now }
 {
     if byte_at(bytes, 0) == b'.' {
-        1 + digits_len(base, after(bytes, 1))
+        1 + digits_len(base, skip(bytes, 1))
     } else {
         0
     }
@@ -158,7 +158,7 @@ fn exponent_len(base: Base, bytes: &[u8]) -> usize
     ensures within { result ≤ length bytes.now }
 {
     let sign = sign_end(bytes);
-    let digits = decimal_len(after(bytes, sign));
+    let digits = decimal_len(skip(bytes, sign));
     if begins_exponent(base, byte_at(bytes, 0)) && digits > 0 {
         sign + digits
     } else {
@@ -182,7 +182,7 @@ fn float_part_len(base: Base, bytes: &[u8]) -> usize
 {
     let fraction = fraction_len(base, bytes);
     if has_floats(base) {
-        fraction + exponent_len(base, after(bytes, fraction))
+        fraction + exponent_len(base, skip(bytes, fraction))
     } else {
         0
     }

@@ -4,7 +4,7 @@ ghost use Rattle.std.specs.Prelude.{◌≡◌, ◌+◌, ◌<◌, ◌≤◌, ◌^
 ghost use Rattle.ml_lexer.specs.Bytes.{is_word_start};
 ghost use Rattle.ml_lexer.specs.Pieces.{trivia as trivia_spec, ended as ended_spec, word_class as word_class_spec, word_at as word_spec, marked_word_at as marked_spec, is_keyword_class as keyword_spec, label_at as label_spec, is_text, is_mark_operator as mark_operator_spec, operator_of as operator_of_spec, operator_at as operator_spec, mark_length, mark_of as mark_of_spec, char_or_variable as char_spec, begins_label as begins_label_spec, begins_operator as begins_operator_spec, sign_at as sign_spec, lexeme_at as lexeme_spec, piece_at as piece_spec, Within};
 
-use crate::bytes::{after, begins_word, byte_at, front, operator_len, word_len};
+use crate::bytes::{begins_word, byte_at, front, operator_len, skip, word_len};
 use crate::number::number_at;
 use crate::quotes::{char_len, opens_quoted, quoted_len, text_len};
 use crate::trivia::{attribute_len, comment_len, opens_comment};
@@ -32,7 +32,7 @@ fn trivia(len: Option<usize>) -> Piece
 }
 
 /// A lexeme of this length; if it does not end, Bad.
-fn ended(class: Class, len: Option<usize>) -> Piece
+fn make_lexeme(class: Class, len: Option<usize>) -> Piece
     ensures { result ≡ ended_spec class len }
 {
     match len {
@@ -79,7 +79,7 @@ fn marked_word_at(class: Class, bytes: &[u8]) -> Piece
     if !begins_word(byte_at(bytes, 1)) {
         return Piece::Bad;
     }
-    let len = word_len(after(bytes, 1));
+    let len = word_len(skip(bytes, 1));
     if len > MAX_NAME_BYTES {
         Piece::LongName
     } else {
@@ -110,7 +110,7 @@ fn label_at(bytes: &[u8]) -> Piece
     ensures value { result ≡ label_spec bytes.now }
     ensures within { Within result bytes.now }
 {
-    let word = after(bytes, 1);
+    let word = skip(bytes, 1);
     let len = word_len(word);
     if len > MAX_NAME_BYTES {
         return Piece::LongName;
@@ -170,7 +170,7 @@ fn operator_at(bytes: &[u8]) -> Piece
     ensures value { result ≡ operator_spec bytes.now }
     ensures within { Within result bytes.now }
 {
-    let len = 1 + operator_len(after(bytes, 1));
+    let len = 1 + operator_len(skip(bytes, 1));
     Piece::Lexeme(operator_class(front(bytes, len)), len)
 }
 
@@ -231,10 +231,10 @@ fn lexeme_at(bytes: &[u8]) -> Piece
         return number_at(bytes);
     }
     if first == b'"' {
-        return ended(Class::Text, text_len(bytes));
+        return make_lexeme(Class::Text, text_len(bytes));
     }
     if opens_quoted(bytes) {
-        return ended(Class::Quoted, quoted_len(bytes));
+        return make_lexeme(Class::Quoted, quoted_len(bytes));
     }
     if first == b'\'' {
         return char_or_variable(char_len(bytes), bytes);

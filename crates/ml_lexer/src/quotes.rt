@@ -3,7 +3,7 @@
 ghost use Rattle.std.specs.Prelude.{◌≡◌, ◌+◌, ◌<◌, ◌≤◌, ◌^◌, ◌∷◌, length, true, IfSome, slice_index};
 ghost use Rattle.ml_lexer.specs.Quotes.{char_length, closes_quoted as closes_spec, decimal_escape, fit, hexadecimal_escape, is_octal_digit, octal_escape, opens_quoted as opens_spec, plain_char, quoted_length, short_escape, text_length};
 
-use crate::bytes::{after, byte_at, front, quoted_word_len};
+use crate::bytes::{byte_at, front, quoted_word_len, skip};
 
 /// Whether a byte is an octal digit.
 fn is_octal(byte: u8) -> bool
@@ -103,7 +103,7 @@ pub fn text_len(bytes: &[u8]) -> Option<usize>
 {
     let mut taken = false;
     let mut len = 1;
-    for byte in after(bytes, 1) {
+    for byte in skip(bytes, 1) {
         len += 1;
         if taken {
             taken = false;
@@ -125,7 +125,7 @@ pub fn opens_quoted(bytes: &[u8]) -> bool
     if byte_at(bytes, 0) != b'{' {
         return false;
     }
-    byte_at(bytes, 1 + quoted_word_len(after(bytes, 1))) == b'|'
+    byte_at(bytes, 1 + quoted_word_len(skip(bytes, 1))) == b'|'
 }
 
 /// Whether a Quoted of this word closes here.
@@ -136,7 +136,7 @@ fn closes_quoted(word: &[u8], bytes: &[u8]) -> bool
     ensures within { result ≡ true → length word.now + 2 ≤ length bytes.now }
 {
     byte_at(bytes, 0) == b'|'
-        && after(bytes, 1).starts_with(word)
+        && skip(bytes, 1).starts_with(word)
         && byte_at(bytes, 1 + word.len()) == b'}'
 }
 
@@ -147,16 +147,16 @@ pub fn quoted_len(bytes: &[u8]) -> Option<usize>
     ensures value { result ≡ quoted_length bytes.now }
     ensures within { IfSome result (λ n. (0 < n) × (n ≤ length bytes.now)) }
 {
-    let len = quoted_word_len(after(bytes, 1));
-    let word = front(after(bytes, 1), len);
+    let len = quoted_word_len(skip(bytes, 1));
+    let word = front(skip(bytes, 1), len);
     let mut read = len + 2;
-    let mut rest = after(bytes, read);
+    let mut rest = skip(bytes, read);
     while !rest.is_empty() {
         if closes_quoted(word, rest) {
             return Some(read + len + 2);
         }
         read += 1;
-        rest = after(rest, 1);
+        rest = skip(rest, 1);
     }
     None
 }

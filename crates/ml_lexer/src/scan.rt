@@ -6,12 +6,13 @@ ghost use Rattle.ml_lexer.specs.Lexed.{Lexed, view_tokens};
 ghost use Rattle.ml_lexer.specs.Answers.{FaultIs};
 
 use crate::LexError;
-use crate::bytes::{after, front};
+use crate::bytes::{front, skip};
 use crate::piece::{Piece, piece_at};
 use rotor_base::Token;
 use std::alloc::Global;
 
-/// The lexemes of a file of at most 1,048,576 bytes, each with its class and its span, in order.
+/// The lexemes of a file of at most 1,048,576 bytes, each with its class and its span, in order. The errors are `Bad`,
+/// `LongName` and `Memory`.
 pub fn lex<'a>(alloc: Global, src: &'a [u8]) -> Result<Vec<Token<'a>>, LexError>
     requires { length src.now ≤ max_file_bytes }
     ensures found { IfOk result (λ tokens. Lexed src.now (view_tokens tokens.items)) }
@@ -36,7 +37,7 @@ pub fn lex<'a>(alloc: Global, src: &'a [u8]) -> Result<Vec<Token<'a>>, LexError>
             Piece::Bad => return Err(LexError::Bad { offset: at }),
             Piece::LongName => return Err(LexError::LongName { offset: at }),
         };
-        rest = after(rest, len);
+        rest = skip(rest, len);
     }
     Ok(tokens)
 }

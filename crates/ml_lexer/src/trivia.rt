@@ -3,7 +3,7 @@
 ghost use Rattle.std.specs.Prelude.{◌≡◌, ◌+◌, ◌<◌, ◌≤◌, ◌^◌, length, true, IfSome};
 ghost use Rattle.ml_lexer.specs.Trivia.{whole as whole_spec, or_one_byte as or_one_byte_spec, plain_part as plain_spec, opens_comment as opens_spec, comment_part as comment_part_spec, comment_length, attribute_part as attribute_part_spec, attribute_length, PartWithin};
 
-use crate::bytes::{after, byte_at};
+use crate::bytes::{byte_at, skip};
 use crate::quotes::{char_len, opens_quoted, quoted_len, text_len};
 
 /// What begins at a byte inside a comment or an attribute, with its length.
@@ -20,7 +20,7 @@ pub enum Part {
 }
 
 /// What is skipped whole, if it ends.
-fn whole(len: Option<usize>) -> Part
+fn skip_whole(len: Option<usize>) -> Part
     ensures { result ≡ whole_spec len }
 {
     match len {
@@ -48,9 +48,9 @@ fn plain_part(bytes: &[u8]) -> Part
     ensures within { PartWithin result bytes.now }
 {
     if byte_at(bytes, 0) == b'"' {
-        whole(text_len(bytes))
+        skip_whole(text_len(bytes))
     } else if opens_quoted(bytes) {
-        whole(quoted_len(bytes))
+        skip_whole(quoted_len(bytes))
     } else {
         or_one_byte(char_len(bytes))
     }
@@ -91,7 +91,7 @@ pub fn comment_len(bytes: &[u8]) -> Option<usize>
 {
     let mut depth: usize = 1;
     let mut read = 2;
-    let mut rest = after(bytes, read);
+    let mut rest = skip(bytes, read);
     while !rest.is_empty() {
         let len = match comment_part(rest) {
             Part::Opens(len) => {
@@ -107,7 +107,7 @@ pub fn comment_len(bytes: &[u8]) -> Option<usize>
             Part::Unended => return None,
         };
         read += len;
-        rest = after(rest, len);
+        rest = skip(rest, len);
     }
     None
 }
@@ -121,7 +121,7 @@ fn attribute_part(bytes: &[u8]) -> Part
     ensures within { PartWithin result bytes.now }
 {
     if opens_comment(bytes) {
-        whole(comment_len(bytes))
+        skip_whole(comment_len(bytes))
     } else if byte_at(bytes, 0) == b'[' {
         Part::Opens(1)
     } else if byte_at(bytes, 0) == b']' {
@@ -141,7 +141,7 @@ pub fn attribute_len(bytes: &[u8]) -> Option<usize>
 {
     let mut depth: usize = 1;
     let mut read = 2;
-    let mut rest = after(bytes, read);
+    let mut rest = skip(bytes, read);
     while !rest.is_empty() {
         let len = match attribute_part(rest) {
             Part::Opens(len) => {
@@ -157,7 +157,7 @@ pub fn attribute_len(bytes: &[u8]) -> Option<usize>
             Part::Unended => return None,
         };
         read += len;
-        rest = after(rest, len);
+        rest = skip(rest, len);
     }
     None
 }

@@ -5,7 +5,7 @@ use Rattle.ml_trees.specs.declared.fixed.Fixed.{Fixed}
 use Rattle.ml_trees.specs.declared.fixed.Fixed.TheVariants as key
 use Rattle.ml_trees.specs.declared.word.Bracket.{Bracket}
 use Rattle.ml_trees.specs.declared.word.Bracket.TheVariants as bracket
-use Rattle.ml_syntax.proofs.Steps.{Read, pass, loose, name, first, label, equals, sign, minus}
+use Rattle.ml_syntax.proofs.Steps.{Read, is_brace, pass, loose, name, first, label, equals, sign, minus}
 use Rattle.ml_trees.specs.Tok.{Name, Tok, fixed, placed, word}
 use Rattle.ml_trees.specs.Tree.{ValueName, PlainName, OperatorName, Pat, AsPat, OrPat, TuplePat, ConsPat, ConstrApplyPat, TagApplyPat, LazyPat}
 use Rattle.ml_trees.specs.Tree.{ExceptionPat, AnyPat, ValuePat, LiteralPat, NegativePat, RangePat, ConstrPat, TagPat, BoolPat, UnitPat, ParenPat}
@@ -45,7 +45,7 @@ use Rattle.value_sites.proofs.SitesByForm.{case_sites, cases_sites, argument_sit
 use Rattle.value_sites.proofs.SitesByForm.{field_sites, fields_sites, mod_sites, mod_argument_sites, mod_arguments_sites, functor_param_sites}
 use Rattle.value_sites.proofs.SitesByForm.{functor_params_sites, mod_type_sites, signature_sites, item_sites, items_sites, sig_item_sites, sig_items_sites}
 use Rattle.value_sites.specs.Places.{sites}
-use Rattle.ml_syntax.specs.Standing.{is_brace, begins_bar, is_safe}
+use Rattle.ml_syntax.specs.Standing.{begins_bar, is_safe}
 use Rattle.value_sites.proofs.Placed.{body_placed, face_placed}
 
 pub type_safe : (run : Option (List Tok)) (k : List Tok) → is_safe k ≡ true → is_safe (type_then run k) ≡ true

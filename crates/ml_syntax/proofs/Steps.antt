@@ -6,7 +6,11 @@ use Rattle.rotor_base.specs.declared.token.Class.TheVariants as class
 use Rattle.ml_trees.specs.declared.fixed.Fixed.TheVariants as key
 use Rattle.ml_trees.specs.Tok.{Name, Tok, placed, word}
 use Rattle.value_sites.specs.Places.{Site, label_site, operated}
-use Rattle.ml_syntax.specs.Standing.{is_brace, is_safe, EndsInBrace, IsNamed, IsWordOf, a_name, a_label, an_equals, a_sign, a_minus, StandsAt}
+use Rattle.ml_syntax.specs.Standing.{is_safe, EndsInBrace, IsNamed, IsWordOf, a_name, a_label, an_equals, a_sign, a_minus, StandsAt}
+
+abbrev pub is_brace : Tok → Bool
+is_brace (placed key.LeftBrace at) = true
+is_brace _ = false
 
 -- these places are among the words, in order: the first behind at least `low` words, the last among the first `high`
 abbrev pub Between : List Tok → ℕ → List Site → ℕ → Type 0

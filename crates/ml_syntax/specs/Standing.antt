@@ -11,10 +11,6 @@ use Rattle.ml_trees.specs.WellFormed.{WfFile}
 use Rattle.value_sites.specs.Sound.{AreNumbered}
 use Rattle.value_sites.specs.Places.{Site, label_name, sites}
 
-abbrev pub is_brace : Tok → Bool
-is_brace (placed key.LeftBrace at) = true
-is_brace _ = false
-
 -- a word that begins with `|`
 abbrev pub begins_bar : Tok → Bool
 begins_bar (fixed key.Bar) = true

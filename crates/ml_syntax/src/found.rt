@@ -5,13 +5,12 @@ ghost use Rattle.ml_trees.specs.View.{view_file};
 ghost use Rattle.value_sites.specs.Places.{sites};
 ghost use Rattle.ml_syntax.specs.Sites.{view_sites};
 
-use crate::sites::{
-    Site, add_label, add_minus, add_operator, add_operator_word, add_plain, add_pun,
-};
+use crate::sites::{Role, Site, add_minus, add_operator_word, add_site, add_word};
 use ml_trees::FileTree;
 use rotor_base::Memory;
 use std::alloc::Global;
 use tree_walk::{Event, Visitor, walk};
+use value_sites::label_of;
 
 /// The places that were found.
 #[derive(Drop)]
@@ -33,26 +32,27 @@ impl Visitor for Found {
 
     fn hear(&mut self, event: Event<'_>) -> Result<(), Memory> {
         match event {
-            Event::Plain { binds, word } => add_plain(self.alloc, &mut self.sites, binds, word),
+            Event::Plain { binds, word } => {
+                add_word(self.alloc, &mut self.sites, Role::Plain, binds, word)
+            }
             Event::Operator { binds, word, .. } => {
                 add_operator_word(self.alloc, &mut self.sites, binds, word)
             }
-            Event::Field { binds, word } => add_pun(
+            Event::Field { binds, word } => {
+                add_word(self.alloc, &mut self.sites, Role::Pun, binds, word)
+            }
+            Event::Label { binds, word } => add_site(
                 self.alloc,
                 &mut self.sites,
+                Role::Pun,
                 binds,
                 word.token,
-                word.name.as_bytes(),
+                label_of(word.name.as_bytes()),
             ),
-            Event::Label { binds, word } => add_label(self.alloc, &mut self.sites, binds, word),
             Event::Infix(word) => add_operator_word(self.alloc, &mut self.sites, false, word),
-            Event::Prefix(word) => add_operator(
-                self.alloc,
-                &mut self.sites,
-                false,
-                word.token,
-                word.name.as_bytes(),
-            ),
+            Event::Prefix(word) => {
+                add_word(self.alloc, &mut self.sites, Role::Operator, false, word)
+            }
             Event::Minus(word) => add_minus(self.alloc, &mut self.sites, word),
             Event::Separator(_) => Ok(()),
             Event::ModulePath(_) => Ok(()),
@@ -71,7 +71,8 @@ impl Visitor for Found {
     }
 }
 
-/// The places of a file, in order of tokens: those that declare a value, and those that use one. `Memory` is the only error.
+/// The places of a file, in order of tokens: those that declare a value, and those that use one. `Memory` is the only
+/// error.
 #[tactic(auto, using(value_sites::proofs::Placed::file_told_placed))]
 pub fn list_sites(alloc: Global, tree: &FileTree) -> Result<Vec<Site>, Memory>
     ensures { IfOk result (λ found. view_sites found.items ≡ sites (view_file tree.now)) }

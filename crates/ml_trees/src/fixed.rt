@@ -177,11 +177,11 @@ pub fn fixed_word(bytes: &[u8]) -> Option<Fixed>
     ensures { result ≡ fixed_of bytes.now }
 {
     let first = bytes.first()?;
-    among(bytes, spellings(*first))
+    find_fixed(bytes, spellings(*first))
 }
 
-/// The first that is spelled so.
-fn among(bytes: &[u8], spellings: &[(&str, Fixed)]) -> Option<Fixed>
+/// The first fixed word that is spelled so.
+fn find_fixed(bytes: &[u8], spellings: &[(&str, Fixed)]) -> Option<Fixed>
     ensures { result ≡ fixed_among (λ s. s.0.now) (λ s. s.1) bytes.now spellings.now }
 {
     for (text, fixed) in spellings {

@@ -12,8 +12,8 @@ use Rattle.std.proofs.lemmas.Bool.Decides.{nat_tests}
 use Rattle.std.proofs.lemmas.Map.Text.{is_eq-slice_cmp}
 use Rattle.std.proofs.lemmas.Str.{IsUtf8-from_ascii, IsAscii-append, IsUtf8-string_bytes}
 use Rattle.std.proofs.lemmas.Str.Ascii.{IsAscii-nil, IsAscii-cons}
-use Rattle.line_words.specs.Cut.{IsCut, IsWhole}
-use Rattle.line_words.proofs.Cutting.{both_free, free, is_space, one_cut}
+use Rattle.rotor_base.specs.Spaces.{IsCut, IsWhole}
+use Rattle.rotor_base.proofs.SpaceCuts.{both_free, free, is_space, one_cut}
 use Rattle.rotor_base.specs.Stem.{is_source_name, is_body_name, is_face_name, is_stem_word, is_stem_byte, ends_stem}
 use Rattle.project_load.specs.Entries.{IsLine, IsNoLine}
 use Rattle.project_load.specs.Listed.{is_listed_name}

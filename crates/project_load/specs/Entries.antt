@@ -3,7 +3,7 @@ use Rattle.std.specs.Prelude.{◌≡◌, ◌⊎◌, ℕ, ◌≤◌, true, List, 
 use Rattle.std.specs.Prelude.{MatchResult, String, length, map, string_bytes}
 use Rattle.std.specs.BTreeSet.{BTreeSet, contains_text}
 use Rattle.std.specs.FinMap.{empty, entries, from_entries, get, insert, remove}
-use Rattle.line_words.specs.Cut.{IsWhole}
+use Rattle.rotor_base.specs.Spaces.{IsWhole}
 use Rattle.rotor_base.specs.Files.{FileSet}
 use Rattle.rotor_base.specs.Limits.{max_file_bytes}
 use Rattle.rotor_base.specs.Lines.{feed_lines}

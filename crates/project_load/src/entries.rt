@@ -3,7 +3,7 @@ ghost use Rattle.std.specs.Prelude.{◌≡◌, ◌≤◌, ℕ, None, IfOk, IfErr
 ghost use Rattle.std.specs.Option.{option_copied};
 ghost use Rattle.std.specs.BTreeSet.{contains_text};
 ghost use Rattle.std.specs.FinMap.{empty, get, insert, keys};
-ghost use Rattle.line_words.specs.Cut.{IsWhole};
+ghost use Rattle.rotor_base.specs.Spaces.{IsWhole};
 ghost use Rattle.rotor_base.specs.Limits.{max_file_bytes};
 ghost use Rattle.rotor_base.specs.Lines.{feed_lines};
 ghost use Rattle.tree_io.specs.Outside.{FileMap};
@@ -12,8 +12,7 @@ ghost use Rattle.project_load.specs.Entries.{AreThere, IsFolder, IsLine, IsNoEnt
 
 use crate::ListError;
 use crate::names::is_project_file;
-use line_words::{cut_space, has_space};
-use rotor_base::{Memory, feed_line};
+use rotor_base::{Memory, cut_space, feed_line, has_space};
 use std::alloc::Global;
 use std::collections::{BTreeMap, BTreeSet};
 

@@ -3,8 +3,8 @@ use Rattle.std.proofs.Common.{◌≡◌, ◌∙◌, ◌⊎◌, inl, inr, ℕ, ze
 use Rattle.std.proofs.Common.{length-append, refl, sym, ap, subst, arith}
 use Rattle.std.proofs.lemmas.Bool.Decides.{nat_tests}
 use Rattle.std.proofs.lemmas.List.{get_or_append_left, get_or_at}
-use Rattle.line_words.specs.Cut.{IsCut}
-use Rattle.line_words.proofs.Cutting.{one_cut}
+use Rattle.rotor_base.specs.Spaces.{IsCut}
+use Rattle.rotor_base.proofs.SpaceCuts.{one_cut}
 use Rattle.cli_words.specs.Target.{target_of}
 use Rattle.rename_batch.specs.declared.step.Step.{Step}
 use Rattle.rename_batch.specs.Reading.{AreSteps, AreWords, IsBadLine, IsStep}

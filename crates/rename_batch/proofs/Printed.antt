@@ -10,8 +10,8 @@ use Rattle.std.proofs.lemmas.Fmt.{decimal_by_steps}
 use Rattle.std.proofs.lemmas.List.{append-nil, length-map, length-reverse, map-append, reverse-append}
 use Rattle.std.proofs.lemmas.Str.{IsUtf8-from_ascii}
 use Rattle.std.proofs.lemmas.Str.Ascii.{IsAscii-cons, IsAscii-nil}
-use Rattle.line_words.specs.Cut.{IsWhole}
-use Rattle.line_words.proofs.Cutting.{free}
+use Rattle.rotor_base.specs.Spaces.{IsWhole}
+use Rattle.rotor_base.proofs.SpaceCuts.{free}
 use Rattle.rotor_base.specs.Files.{FileSet, IsProject, names_of}
 use Rattle.rotor_base.specs.Limits.{max_batch_lines}
 use Rattle.rotor_base.specs.Lines.{feed_lines}

@@ -1,7 +1,7 @@
 -- Lines whose parts are no words have no step.
 use Rattle.std.proofs.Common.{◌≡◌, ◌≢◌, ◌∙◌, ℕ, ◌==◌, Bool, true, false, List, [], ◌∷◌, length, sym, subst}
-use Rattle.line_words.specs.Cut.{IsCut}
-use Rattle.line_words.proofs.Cutting.{one_cut}
+use Rattle.rotor_base.specs.Spaces.{IsCut}
+use Rattle.rotor_base.proofs.SpaceCuts.{one_cut}
 use Rattle.rename_batch.specs.Reading.{IsNoStep, IsWord}
 
 -- a line whose first or second part is no word has no step

@@ -1,7 +1,7 @@
 -- Reading a batch: lines `TARGET NAME` (own).
 use Rattle.std.specs.Prelude.{◌≡◌, ◌≢◌, ◌⊎◌, ℕ, ◌+◌, ◌≤◌, List, [], ◌∷◌, ◌++◌, true, length}
 use Rattle.std.specs.Str.{IsUtf8}
-use Rattle.line_words.specs.Cut.{IsWhole}
+use Rattle.rotor_base.specs.Spaces.{IsWhole}
 use Rattle.rotor_base.specs.Limits.{max_batch_lines}
 use Rattle.cli_words.specs.Target.{target_of}
 use Rattle.cli_words.specs.Words.{is_value}

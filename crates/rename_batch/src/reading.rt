@@ -5,8 +5,7 @@ ghost use Rattle.rename_batch.specs.Reading.{AreWords, IsBatch, IsNoStep, IsStep
 
 use crate::{BatchReadError, Step};
 use cli_words::read_target;
-use line_words::{cut_space, has_space};
-use rotor_base::{MAX_BATCH_LINES, Memory, Name, feed_line};
+use rotor_base::{MAX_BATCH_LINES, Memory, Name, cut_space, feed_line, has_space};
 use std::alloc::Global;
 
 /// The steps of a batch: one for each line `TARGET NAME`.

@@ -4,3 +4,4 @@ pub mod LineCuts
 pub mod Loads
 pub mod Places
 pub mod Rising
+pub mod SpaceCuts

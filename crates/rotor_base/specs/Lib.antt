@@ -5,5 +5,6 @@ pub mod Limits
 pub mod Name
 pub mod NameBytes
 pub mod Place
+pub mod Spaces
 pub mod Stem
 pub mod Unit

@@ -46,14 +46,14 @@ impl Drop for Name {
 }
 
 impl Name {
-    /// The name of these bytes.
+    /// The name of these bytes. `Memory` is the only error.
     pub fn new(alloc: Global, bytes: &[u8]) -> Result<Self, Memory>
         ensures { IfOk result (λ name. name ≡ bytes.now) }
     {
         let bytes = if bytes.len() <= MAX_INLINE_BYTES {
             Bytes::Inline {
                 len: bytes.len() as u8,
-                room: padded(bytes),
+                room: pad(bytes),
             }
         } else {
             Bytes::Owned(Box::new(alloc, bytes.to_vec(alloc)?)?)
@@ -62,7 +62,7 @@ impl Name {
     }
 
     /// The name without bytes. It takes no memory.
-    pub fn empty() -> Self
+    pub fn make_empty() -> Self
         ensures { result ≡ [] }
     {
         Name {
@@ -85,7 +85,7 @@ impl Name {
 }
 
 /// Some bytes, with zeros behind them.
-fn padded(bytes: &[u8]) -> [u8; MAX_INLINE_BYTES]
+fn pad(bytes: &[u8]) -> [u8; MAX_INLINE_BYTES]
     requires { length bytes.now ≤ max_inline_bytes }
     ensures { take (length bytes.now) result ≡ bytes.now }
 {

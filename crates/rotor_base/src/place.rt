@@ -32,8 +32,8 @@ impl Goal {
     ghost use Rattle.std.specs.Prelude.{◌≡◌};
     ghost use Rattle.rotor_base.specs.Place.{same_goal};
 
-    /// Whether two goals are one.
-    pub fn is(self, other: Goal) -> bool
+    /// Whether two goals are equal.
+    pub fn equals(self, other: Goal) -> bool
         ensures { result ≡ same_goal self other }
     {
         self == other

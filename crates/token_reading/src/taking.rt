@@ -34,6 +34,6 @@ fn no_word() -> Word {
     Word {
         token: 0,
         class: Class::Lower,
-        name: Name::empty(),
+        name: Name::make_empty(),
     }
 }

@@ -38,14 +38,17 @@ use Rattle.ml_trees.specs.Events.{arguments_out, param_out, params_out, part_out
 use Rattle.ml_trees.specs.Events.{mod_arguments_out, functor_param_out, functor_params_out, mod_type_out, signature_out, item_out, items_out}
 use Rattle.ml_trees.specs.Events.{sig_item_out, sig_items_out, file_out}
 use Rattle.tree_events.specs.Told.{names_told, brings_told, pat_told, pats_told, pat_field_told, pat_fields_told, variable_told, local_told}
-use Rattle.tree_events.specs.Told.{locals_told, expr_told, links_told, base_told, guard_told, tail_told, binding_told, bindings_told, case_told}
-use Rattle.tree_events.specs.Told.{cases_told, argument_told, arguments_told, param_told, params_told, part_told, parts_told, field_told}
-use Rattle.tree_events.specs.Told.{fields_told, mod_told, mod_argument_told, mod_arguments_told, functor_param_told, functor_params_told}
-use Rattle.tree_events.specs.Told.{mod_type_told, signature_told, item_told, items_told, sig_item_told, sig_items_told, file_told}
+use Rattle.tree_events.specs.Told.{locals_told, expr_told, links_told, base_told, guard_told, binding_told, bindings_told, case_told, cases_told}
+use Rattle.tree_events.specs.Told.{argument_told, arguments_told, param_told, params_told, part_told, parts_told, field_told, fields_told}
+use Rattle.tree_events.specs.Told.{mod_told, mod_argument_told, mod_arguments_told, functor_param_told, functor_params_told, mod_type_told}
+use Rattle.tree_events.specs.Told.{signature_told, item_told, items_told, sig_item_told, sig_items_told, file_told}
 use Rattle.rotor_base.specs.declared.token.Class.{Class}
 use Rattle.tree_events.specs.Behind.{behind}
 use Rattle.tree_events.proofs.Silent.{type_silent, optional_silent, bang_silent, open_silent, lowers_silent, module_name_silent, withs_silent}
 use Rattle.tree_events.proofs.Silent.{texts_silent}
+
+unfoldable pub tail_told : {S : Type 0} → (S → Event → S) → S → Tail → S
+tail_told step s x0 = tail_out (behind step) x0 (λ t. t) s
 
 names_goes_on : {S : Type 0} (step : S → Event → S) (x0 : List ValueName) (k : S → S) (z : S) → names_out (behind step) x0 k z ≡ k (names_told
     step z x0)

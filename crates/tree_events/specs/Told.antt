@@ -6,7 +6,7 @@ use Rattle.ml_trees.specs.Tree.{Pats, PatField}
 use Rattle.ml_trees.specs.Tree.{PatFields, Variable, LocalModule}
 use Rattle.ml_trees.specs.Tree.{LocalArguments, Expr}
 use Rattle.ml_trees.specs.Tree.{Links}
-use Rattle.ml_trees.specs.Tree.{MaybeExpr, Tail, Binding}
+use Rattle.ml_trees.specs.Tree.{MaybeExpr, Binding}
 use Rattle.ml_trees.specs.Tree.{Bindings, Case, Cases, Argument}
 use Rattle.ml_trees.specs.Tree.{Arguments, Param}
 use Rattle.ml_trees.specs.Tree.{Params, Part}
@@ -20,8 +20,8 @@ use Rattle.ml_trees.specs.Tree.{Items, SigItem}
 use Rattle.ml_trees.specs.Tree.{SigItems, FileTree}
 use Rattle.ml_trees.specs.Events.{Event, brings}
 use Rattle.ml_trees.specs.Events.{names_out, pat_out, pats_out, pat_field_out, pat_fields_out, variable_out, local_out, locals_out, expr_out}
-use Rattle.ml_trees.specs.Events.{links_out, base_out, guard_out, tail_out, binding_out, bindings_out, case_out, cases_out, argument_out}
-use Rattle.ml_trees.specs.Events.{arguments_out, param_out, params_out, part_out, parts_out, field_out, fields_out, mod_out, mod_argument_out}
+use Rattle.ml_trees.specs.Events.{links_out, base_out, guard_out, binding_out, bindings_out, case_out, cases_out, argument_out, arguments_out}
+use Rattle.ml_trees.specs.Events.{param_out, params_out, part_out, parts_out, field_out, fields_out, mod_out, mod_argument_out}
 use Rattle.ml_trees.specs.Events.{mod_arguments_out, functor_param_out, functor_params_out, mod_type_out, signature_out, item_out, items_out}
 use Rattle.ml_trees.specs.Events.{sig_item_out, sig_items_out, file_out}
 use Rattle.tree_events.specs.Behind.{behind}
@@ -64,9 +64,6 @@ base_told step s x0 = base_out (behind step) x0 (λ t. t) s
 
 unfoldable pub guard_told : {S : Type 0} → (S → Event → S) → S → MaybeExpr → S
 guard_told step s x0 = guard_out (behind step) x0 (λ t. t) s
-
-unfoldable pub tail_told : {S : Type 0} → (S → Event → S) → S → Tail → S
-tail_told step s x0 = tail_out (behind step) x0 (λ t. t) s
 
 unfoldable pub binding_told : {S : Type 0} → (S → Event → S) → S → Binding → S
 binding_told step s x0 = binding_out (behind step) x0 (λ t. t) s

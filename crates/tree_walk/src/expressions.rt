@@ -10,12 +10,12 @@ ghost use Rattle.ml_trees.specs.Events as out;
 ghost use Rattle.ml_trees.specs.Events.{bindings_begin, group_begins, group_ends};
 
 use crate::event::{Event, Visitor};
-use crate::locals::local;
+use crate::locals::walk_local;
 use crate::patterns::{name, pattern};
 use ml_trees::{Argument, Binding, Case, Expr, Field, Fixed, Param, Part, Pat, Variable, Word};
 use rotor_base::Memory;
 
-/// Reports the events of an expression.
+/// Reports the events of an expression. The error is that of the visitor.
 #[cycle(expression_walk)]
 #[tactic(auto, using(ml_trees::proofs::Variants::expr_views, tree_events::proofs::Tells::expr_tells))]
 pub fn expression<V: Visitor>(visitor: &mut V, e: &Expr) -> Result<(), Memory>
@@ -48,7 +48,7 @@ pub fn expression<V: Visitor>(visitor: &mut V, e: &Expr) -> Result<(), Memory>
             body,
             ..
         } => {
-            local(visitor, value)?;
+            walk_local(visitor, value)?;
             visitor.hear(Event::ScopeBegins)?;
             visitor.hear(Event::Brings(word))?;
             expression(visitor, body)?;
@@ -163,7 +163,7 @@ pub fn expression<V: Visitor>(visitor: &mut V, e: &Expr) -> Result<(), Memory>
             rest,
             ..
         } => {
-            optional(visitor, base)?;
+            walk_optional(visitor, base)?;
             field(visitor, first)?;
             more_fields(visitor, rest)
         }
@@ -206,7 +206,7 @@ fn variable<V: Visitor>(visitor: &mut V, variable: &Variable) -> Result<(), Memo
 /// Reports the events of an optional expression.
 #[cycle(expression_walk)]
 #[tactic(auto, using(ml_trees::proofs::Variants::expr_views, tree_events::proofs::Tells::expr_tells))]
-fn optional<V: Visitor>(visitor: &mut V, e: &Option<Box<Expr>>) -> Result<(), Memory>
+fn walk_optional<V: Visitor>(visitor: &mut V, e: &Option<Box<Expr>>) -> Result<(), Memory>
     ensures base { OnOk result (V.state visitor.new ≡ base_told V.step (V.state visitor.old) (maybe e.now)) }
     ensures guard { OnOk result (V.state visitor.new ≡ guard_told V.step (V.state visitor.old) (maybe e.now)) }
 {
@@ -255,7 +255,7 @@ fn operands<V: Visitor>(visitor: &mut V, list: &[(Word, Expr)]) -> Result<(), Me
     Ok(())
 }
 
-/// Reports the events of the bindings of a `let`, which are a group.
+/// Reports the events of the bindings of a `let`, which are a group. The error is that of the visitor.
 #[tactic(auto, using(ml_trees::proofs::Variants::expr_views, tree_events::proofs::Tells::expr_tells))]
 pub fn group<V: Visitor>(visitor: &mut V, first: &Binding, rest: &[Binding]) -> Result<(), Memory>
     ensures { OnOk result (V.state visitor.new ≡ V.step (bindings_told V.step (binding_told V.step (V.step (V.state visitor.old) bindings_begin) (view_binding first.now)) (bindings rest.now)) group_ends) }
@@ -315,7 +315,7 @@ fn case<V: Visitor>(visitor: &mut V, part: &Case) -> Result<(), Memory>
     ensures { OnOk result (V.state visitor.new ≡ case_told V.step (V.state visitor.old) (view_case part.now)) }
 {
     pattern_group(visitor, &part.pat)?;
-    optional(visitor, &part.guard)?;
+    walk_optional(visitor, &part.guard)?;
     expression(visitor, &part.body)
 }
 

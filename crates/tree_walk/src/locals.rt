@@ -12,10 +12,10 @@ use crate::event::{Event, Visitor};
 use ml_trees::{LocalArgument, LocalModule};
 use rotor_base::Memory;
 
-/// Reports the paths of a module and of its arguments.
+/// Reports the paths of a module and of its arguments. The error is that of the visitor.
 #[cycle(local_walk)]
 #[tactic(auto, using(crate::proofs::LocalViews::local_views, tree_events::proofs::Tells::local_tells))]
-pub fn local<V: Visitor>(visitor: &mut V, m: &LocalModule) -> Result<(), Memory>
+pub fn walk_local<V: Visitor>(visitor: &mut V, m: &LocalModule) -> Result<(), Memory>
     ensures { OnOk result (V.state visitor.new ≡ local_told V.step (V.state visitor.old) (view_local m.now)) }
 {
     visitor.hear(Event::ModulePath(&m.path.words))?;
@@ -29,7 +29,7 @@ fn argument<V: Visitor>(visitor: &mut V, part: &LocalArgument) -> Result<(), Mem
     ensures { OnOk result ((more : LocalArguments) → locals_told V.step (V.state visitor.old) (view_local_then part.now more) ≡ locals_told V.step (V.state visitor.new) more) }
 {
     match part {
-        LocalArgument::Module { module, .. } => local(visitor, module),
+        LocalArgument::Module { module, .. } => walk_local(visitor, module),
         LocalArgument::Nothing { .. } => Ok(()),
     }
 }

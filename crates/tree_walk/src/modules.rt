@@ -3,11 +3,11 @@
 //! Each function goes down with its tree, so it takes stack at each level: the parsers build no tree that is deeper
 //! than the bound on levels.
 
-ghost use Rattle.std.specs.Prelude.{◌≡◌, ℕ, OnOk};
-ghost use Rattle.ml_trees.specs.Tree as pure;
+ghost use Rattle.std.specs.Prelude.{◌≡◌, OnOk};
 ghost use Rattle.ml_trees.specs.View.{view_mod, view_mod_argument, view_functor_param, view_mod_type, view_module_name, view_item, view_sig_item, view_file, mod_arguments, functor_params, signature, items, sig_items};
 ghost use Rattle.ml_trees.specs.Events.{scope_begins};
 ghost use Rattle.tree_events.specs.Told.{brings_told, mod_told, mod_argument_told, mod_arguments_told, functor_param_told, functor_params_told, mod_type_told, signature_told, item_told, items_told, sig_item_told, sig_items_told, file_told};
+ghost use Rattle.tree_walk.specs.Heard.{IsBoundIn};
 
 use crate::event::{Event, Visitor};
 use crate::expressions::{expression, group};
@@ -29,7 +29,7 @@ fn bring<V: Visitor>(visitor: &mut V, name: &ModuleName) -> Result<(), Memory>
 /// Reports that the module of an item is bound from here on.
 #[tactic(auto, using(ml_trees::proofs::Variants::item_views))]
 fn bring_name<V: Visitor>(visitor: &mut V, item: &Item) -> Result<(), Memory>
-    ensures { OnOk result ((at : ℕ) (x : pure.ModuleName) (ps : pure.FunctorParams) (s : pure.MaybeType) (eq : ℕ) (m : pure.ModExpr) → view_item item.now ≡ pure.ModuleItem at x ps s eq m → V.state visitor.new ≡ brings_told V.step (V.state visitor.old) x) }
+    ensures { OnOk result (IsBoundIn V.step (view_item item.now) (V.state visitor.old) (V.state visitor.new)) }
 {
     match item {
         Item::Module { name, .. } => bring(visitor, name),
@@ -179,7 +179,7 @@ fn module_type<V: Visitor>(visitor: &mut V, s: &ModType) -> Result<(), Memory>
 
 #[cycle(module_walk)]
 #[tactic(auto, using(ml_trees::proofs::Variants::mod_type_views, tree_events::proofs::Tells::module_tells))]
-fn optional<V: Visitor>(visitor: &mut V, s: &Option<Box<ModType>>) -> Result<(), Memory>
+fn walk_signature<V: Visitor>(visitor: &mut V, s: &Option<Box<ModType>>) -> Result<(), Memory>
     ensures { OnOk result (V.state visitor.new ≡ signature_told V.step (V.state visitor.old) (signature s.now)) }
 {
     match s {
@@ -208,7 +208,7 @@ fn item<V: Visitor>(visitor: &mut V, part: &Item) -> Result<(), Memory>
             ..
         } => {
             scope_with(visitor, params)?;
-            optional(visitor, signature)?;
+            walk_signature(visitor, signature)?;
             module(visitor, body)?;
             visitor.hear(Event::ScopeEnds)?;
             bring_name(visitor, part)
@@ -280,11 +280,7 @@ fn face<V: Visitor>(visitor: &mut V, list: &[SigItem]) -> Result<(), Memory>
     Ok(())
 }
 
-/// Reports the events of a file to a visitor, in the order of its words.
-///
-/// # Errors
-///
-/// What the visitor answers.
+/// Reports the events of a file to a visitor, in the order of its words. The error is that of the visitor.
 #[tactic(auto, using(tree_events::proofs::Tells::module_tells))]
 pub fn walk<V: Visitor>(visitor: &mut V, tree: &FileTree) -> Result<(), Memory>
     ensures { OnOk result (V.state visitor.new ≡ file_told V.step (V.state visitor.old) (view_file tree.now)) }

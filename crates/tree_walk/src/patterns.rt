@@ -13,7 +13,7 @@ use crate::event::{Event, Visitor};
 use ml_trees::{Fixed, Pat, PatField, ValueName};
 use rotor_base::Memory;
 
-/// Reports the name of a value.
+/// Reports the name of a value. The error is that of the visitor.
 pub fn name<V: Visitor>(visitor: &mut V, binds: bool, name: &ValueName) -> Result<(), Memory>
     ensures { OnOk result (V.state visitor.new ≡ V.step (V.state visitor.old) (value binds (view_name name.now))) }
 {
@@ -38,7 +38,7 @@ fn names<V: Visitor>(visitor: &mut V, list: &[ValueName]) -> Result<(), Memory>
     Ok(())
 }
 
-/// Reports the events of a pattern.
+/// Reports the events of a pattern. The error is that of the visitor.
 #[cycle(pattern_walk)]
 #[tactic(auto, using(ml_trees::proofs::Variants::pat_views, ml_trees::proofs::Variants::pat_field_views, tree_events::proofs::Tells::pat_tells))]
 pub fn pattern<V: Visitor>(visitor: &mut V, pat: &Pat) -> Result<(), Memory>

@@ -1,6 +1,6 @@
 -- The places of values in a tree: its binders and its references, in the order of its words (the OCaml manual,
 -- "Names", "Patterns" and "Expressions"). The events of the tree give them, one after another.
-use Rattle.std.specs.Prelude.{ℕ, ◌-◌, take, drop, length, List, [], ◌∷◌, ◌++◌, Bool, true, false, if◌then◌else◌, codes, not, Option, Some, None}
+use Rattle.std.specs.Prelude.{◌≡◌, ℕ, ◌-◌, take, drop, length, List, [], ◌∷◌, ◌++◌, Bool, true, false, if◌then◌else◌, codes, not, Option, Some, None}
 use Rattle.std.specs.List.{filter}
 use Rattle.ml_trees.specs.declared.fixed.Fixed.TheVariants as key
 use Rattle.value_sites.specs.declared.mark.Mark.{Mark}
@@ -42,6 +42,10 @@ operator_sites found binds _ = found
 abbrev pub operated_at : Bool → ℕ → Option (List ℕ) → List Site
 operated_at binds at None = []
 operated_at binds at (Some x) = operated binds at x ∷ []
+
+-- a token with this number is the operator of this name; without a name it is none
+abbrev pub IsOperatorOf : Tok → ℕ → Option (List ℕ) → Type 0
+IsOperatorOf t at name = (found : List Site) (binds : Bool) → operator_sites found binds t ≡ found ++ operated_at binds at name
 
 abbrev pub name_sites : List Site → Bool → ValueName → List Site
 name_sites found binds (PlainName x) = found ++ plain binds x ∷ []

@@ -83,8 +83,8 @@ fn names(rt: HostRuntime) -> Result<(), Fail> {
 fn small_calls(rt: HostRuntime) -> Result<(), Fail> {
     let alloc = rt.alloc();
     let at = Place { file: 0, token: 2 };
-    assert!(rt; Goal::Decl(at).is(Goal::Decl(at)));
-    assert!(rt; !Goal::Decl(at).is(Goal::Outside));
+    assert!(rt; Goal::Decl(at).equals(Goal::Decl(at)));
+    assert!(rt; !Goal::Decl(at).equals(Goal::Outside));
     let mut row = Row::new(alloc);
     row.push(at)?;
     assert_eq!(rt; row.into_vec().as_slice(), [at].as_slice());

@@ -17,11 +17,11 @@ pub loop-rest-preserved : goal.loop-rest-preserved
 loop-rest-preserved c = elim c.match-piece_at.branch [
   | in-Trivia w ↦
       let fits : Within (Trivia w.in-Trivia.len) c.loop-rest.rest.now = rw w.in-Trivia.is at c.piece_at.ensures.within in
-      rw (c.after-rest.ensures, w.tokens-is, w.len-is)
+      rw (c.skip-rest.ensures, w.tokens-is, w.len-is)
       (left_trivia _ _ _ c.loop-rest.invariant _ fits.1 (sym c.piece_at.ensures.value ∙ w.in-Trivia.is))
   | in-Lexeme+in_ok-push-in-Lexeme w ↦
       let fits : Within (Lexeme w.in-Lexeme.class w.in-Lexeme.len) c.loop-rest.rest.now = rw w.in-Lexeme.is at c.piece_at.ensures.within in
-      rw (c.after-rest.ensures, w.len-is)
+      rw (c.skip-rest.ensures, w.len-is)
       (left_lexeme _ _ _ c.loop-rest.invariant _ fits.1 w.in-Lexeme.class _ _ (sym c.piece_at.ensures.value ∙ w.in-Lexeme.is)
       (ap (λ v. v.items) w.tokens-is ∙ w.in_ok-push-in-Lexeme.ensures.items) refl refl refl w.front.ensures)
 ]

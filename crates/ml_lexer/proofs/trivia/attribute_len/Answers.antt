@@ -11,8 +11,8 @@ loop-rest-preserved c =
     let value = c.attribute_part.ensures.value in
     let within = c.attribute_part.ensures.within in
     elim c.match-attribute_part.branch [
-      | in-Opens w ↦ kept_opens kept some value within w.in-Opens.is w.depth-is w.len-is c.after-rest-in-loop-rest.ensures
+      | in-Opens w ↦ kept_opens kept some value within w.in-Opens.is w.depth-is w.len-is c.skip-rest-in-loop-rest.ensures
       | in-Closes-2 w ↦ kept_closes kept some value within w.in-Closes.is (grind (arith, common_steps)) w.depth-is w.len-is
-          c.after-rest-in-loop-rest.ensures
-      | in-Whole w ↦ kept_whole kept some value within w.in-Whole.is w.depth-is w.len-is c.after-rest-in-loop-rest.ensures
+          c.skip-rest-in-loop-rest.ensures
+      | in-Whole w ↦ kept_whole kept some value within w.in-Whole.is w.depth-is w.len-is c.skip-rest-in-loop-rest.ensures
     ]

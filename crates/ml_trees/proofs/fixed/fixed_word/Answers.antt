@@ -7,5 +7,5 @@ returns-in_err-first c = c.from_residual.ensures ∙ none_empty c.args.bytes.now
 
 pub returns : goal.returns
 returns c =
-    found_there (λ s. s.0.now) (λ s. s.1) c.spellings.result.now c.in_ok-first.first.now c.among.result c.args.bytes.now c.spellings.ensures
-    c.in_ok-first.ensures.value c.among.ensures
+    found_there (λ s. s.0.now) (λ s. s.1) c.spellings.result.now c.in_ok-first.first.now c.find_fixed.result c.args.bytes.now c.spellings.ensures
+    c.in_ok-first.ensures.value c.find_fixed.ensures

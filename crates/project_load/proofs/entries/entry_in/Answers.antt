@@ -1,4 +1,4 @@
-use Rattle.line_words.proofs.Cutting.{if_none}
+use Rattle.rotor_base.proofs.SpaceCuts.{if_none}
 use Rattle.project_load.proofs.ListWords.{no_file, no_source}
 use Rattle.project_load.proofs.entries.entry_in.Goals as goal
 

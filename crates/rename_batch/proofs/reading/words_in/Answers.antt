@@ -1,4 +1,4 @@
-use Rattle.line_words.proofs.Cutting.{if_none}
+use Rattle.rotor_base.proofs.SpaceCuts.{if_none}
 use Rattle.rename_batch.proofs.Words.{no_first, no_second}
 use Rattle.rename_batch.proofs.reading.words_in.Goals as goal
 

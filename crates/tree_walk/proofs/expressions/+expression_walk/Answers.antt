@@ -3,12 +3,12 @@ use Rattle.ml_trees.specs.declared.fixed.Fixed.TheVariants as key
 use Rattle.ml_trees.specs.Tok.{fixed}
 use Rattle.ml_trees.specs.View.{view, view_tok, view_binding, view_case, view_argument, view_param, view_part, view_field, links, commas}
 use Rattle.ml_trees.specs.View.{ops, tail_before, otherwise, maybe, bindings, cases, arguments, params, parts, fields}
-use Rattle.tree_events.specs.Told.{expr_told, links_told, tail_told, binding_told, bindings_told, case_told, cases_told, arguments_told}
+use Rattle.tree_events.specs.Told.{expr_told, links_told, binding_told, bindings_told, case_told, cases_told, arguments_told}
 use Rattle.tree_events.specs.Told.{params_told, parts_told, field_told, fields_told}
 use Rattle.tree_events.proofs.Tells.{told_no_link, told_more_link, told_no_binding, told_more_binding, told_no_case, told_more_case}
 use Rattle.tree_events.proofs.Tells.{told_no_argument, told_more_argument, told_no_param, told_more_param, told_no_part, told_more_part}
 use Rattle.tree_events.proofs.Tells.{told_no_field, told_more_field, told_or_if, told_or_else, told_no_else, told_If, told_Let, told_Match}
-use Rattle.tree_events.proofs.Tells.{told_Try, told_Record}
+use Rattle.tree_events.proofs.Tells.{told_Try, told_Record, tail_told}
 use Rattle.ml_trees.specs.Events.{group_ends}
 use Rattle.ml_trees.proofs.Variants.{at_expr_let, at_expr_match, at_expr_try, at_expr_record, at_expr_if}
 use Rattle.tree_walk.proofs.Loops.{goes_further, is_whole, all_gone}
@@ -211,8 +211,8 @@ expression-returns-in_ok-field-in-Record g t c =
     let e = c.in-Record in
     let shape = ap (expr_told step (state c.args.visitor.now)) (ap view e.is ∙ at_expr_record e.at e.base e.first e.rest e.last)
     ∙ told_Record step (state c.args.visitor.now) e.at (maybe e.base) (view_field e.first.value) (fields e.rest.items) e.last in
-    let first = c.in_ok-field-in-Record.ensures ∙ ap (λ x. field_told step (state c.optional.new.visitor) (view_field x)) c.deref-in-Record.ensures
-    ∙ ap (λ z. field_told step z (view_field e.first.value)) c.in_ok-optional-in-Record.ensures.base in
+    let first = c.in_ok-field-in-Record.ensures ∙ ap (λ x. field_told step (state c.walk_optional.new.visitor) (view_field x)) c.deref-in-Record.ensures
+    ∙ ap (λ z. field_told step z (view_field e.first.value)) c.in_ok-walk_optional-in-Record.ensures.base in
     subst (λ z. OnOk c.more_fields.result (state c.more_fields.new.visitor ≡ z))
     (ap (λ l. fields_told step (state c.field.new.visitor) (fields l)) c.deref-in-Record-2.ensures.value
     ∙ ap (λ z. fields_told step z (fields e.rest.items)) first ∙ sym shape)

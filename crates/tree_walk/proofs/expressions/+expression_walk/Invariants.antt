@@ -1,6 +1,7 @@
 use Rattle.std.proofs.Common.{◌≡◌, drop}
 use Rattle.ml_trees.specs.View.{links, commas, ops, tail_before, otherwise, bindings, cases, arguments, params, parts, fields}
-use Rattle.tree_events.specs.Told.{links_told, tail_told, bindings_told, cases_told, arguments_told, params_told, parts_told, fields_told}
+use Rattle.tree_events.specs.Told.{links_told, bindings_told, cases_told, arguments_told, params_told, parts_told, fields_told}
+use Rattle.tree_events.proofs.Tells.{tail_told}
 use Rattle.tree_walk.proofs.expressions.+expression_walk.Given as goal
 
 abbrev pub invariant-steps-loop-e : goal.invariant-steps-loop-e

@@ -82,7 +82,7 @@ item-returns-in_ok-hear-in-Module g t c =
     (view_mod e.body) in
     let scope = c.in_ok-scope_with-in-Module.ensures
     ∙ ap (λ l. functor_params_told step (step (state c.args.visitor.now) scope_begins) (functor_params l)) c.deref-in-Module.ensures.value in
-    let sealing = c.in_ok-optional-in-Module.ensures ∙ ap (λ z. signature_told step z (signature e.signature)) scope in
+    let sealing = c.in_ok-walk_signature-in-Module.ensures ∙ ap (λ z. signature_told step z (signature e.signature)) scope in
     let inside = c.in_ok-module-in-Module.ensures ∙ ap (λ z. mod_told step z (view_mod e.body)) sealing in
     let ends = c.in_ok-hear-in-Module.ensures ∙ ap (λ z. step z scope_ends) inside in
     on_ok c.bring_name.result (λ h. h _ _ _ _ _ _ shape ∙ ap (λ z. brings_told step z (view_module_name e.name)) ends ∙ sym whole)

@@ -5,7 +5,7 @@ use Rattle.std.specs.List.{list_any, position, position_or_len}
 use Rattle.std.proofs.lemmas.Bool.Decides.{nat_tests}
 use Rattle.std.proofs.lemmas.List.Quantifiers.{position-Some}
 use Rattle.std.proofs.lemmas.List.Sums.{fails_before_first}
-use Rattle.line_words.specs.Cut.{IsCut, IsWhole}
+use Rattle.rotor_base.specs.Spaces.{IsCut, IsWhole}
 
 pub is_space : (b : ℕ) → (b == 32) ≡ true → b ≡ 32
 is_space b e = grind (arith, nat_tests)

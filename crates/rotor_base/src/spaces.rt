@@ -1,9 +1,8 @@
 //! Lines that are cut at their first space, as those of a list and of a batch are.
-#![tactic(auto)]
 
 ghost use Rattle.std.specs.Prelude.{◌≡◌, ◌==◌, IfNone, IfSome};
 ghost use Rattle.std.specs.List.{list_any, position};
-ghost use Rattle.line_words.specs.Cut.{IsCut, IsWhole};
+ghost use Rattle.rotor_base.specs.Spaces.{IsCut, IsWhole};
 
 /// Whether some bytes have a space.
 pub fn has_space(bytes: &[u8]) -> bool

@@ -1,7 +1,7 @@
 use Rattle.std.proofs.Common.{◌+◌, ◌∙◌, sym, refl, length-drop, arith}
 use Rattle.std.proofs.lemmas.List.{take_all}
-use Rattle.line_words.proofs.Cutting.{if_none, is_cut, is_whole}
-use Rattle.line_words.proofs.cut_space.Goals as goal
+use Rattle.rotor_base.proofs.SpaceCuts.{if_none, is_cut, is_whole}
+use Rattle.rotor_base.proofs.spaces.cut_space.Goals as goal
 
 pub returns-in_err-at-clause-none : goal.returns-in_err-at-clause-none
 returns-in_err-at-clause-none c = if_none c.from_residual.result _ (is_whole c.args.line.now (sym c.space_in.ensures ∙ c.in_err-at.was))
