@@ -476,64 +476,74 @@ branch_reach c a gc ga wc la wa f r to len =
     let e1 = seq_exact c gc wc f key.Then (expr_then a r) refl (λ h. cc) (λ h. cc) len in
     rw e1 (map_read (λ a. (c, a)) to (sub_expr a ga la wa f r (omega (arith, len, l))))
 
+-- neither an `if` nor a `let`
+abbrev pub NotForm : List Tok → Type 0
+NotForm (placed key.If at ∷ ts) = ⊥
+NotForm (placed key.Let at ∷ ts) = ⊥
+NotForm _ = Unit {0}
+
+path_not_form : (path : List Name) (k : List Tok) → path ≢ [] → NotForm (path_then path k)
+path_not_form [] k h = absurd (h refl)
+path_not_form (x ∷ xs) k h = tt
+
+value_not_form : (path : List Name) (x : ValueName) (k : List Tok) → NotForm (qualified_then path (name_then x k))
+value_not_form [] (PlainName x) k = tt
+value_not_form [] (OperatorName at t) k = tt
+value_not_form (y ∷ ys) x k = tt
+
+bool_not_form : (at : ℕ) (b : Bool) (k : List Tok) → NotForm (placed (truth b) at ∷ k)
+bool_not_form at true k = tt
+bool_not_form at false k = tt
+
+bracket_not_form : (at : ℕ) (b : Bracket) (k : List Tok) → NotForm (placed (opening b) at ∷ k)
+bracket_not_form at bracket.List k = tt
+bracket_not_form at bracket.Array k = tt
+
+pub operand_not_form : (e : Expr) (k : List Tok) → 2 < level e → Wf e → NotForm (expr_then e k)
+operand_not_form (Seq e es last) k h w = absurd (omega (arith, h))
+operand_not_form (Let at recursive b bs e) k h w = absurd (omega (arith, h))
+operand_not_form (LetOpen at at' bang path e) k h w = absurd (omega (arith, h))
+operand_not_form (LetModule at at' x eq m e) k h w = absurd (omega (arith, h))
+operand_not_form (Fun at ps e) k h w = absurd (omega (arith, h))
+operand_not_form (Function at bar c cs) k h w = absurd (omega (arith, h))
+operand_not_form (Match at e bar c cs) k h w = absurd (omega (arith, h))
+operand_not_form (Try at e bar c cs) k h w = absurd (omega (arith, h))
+operand_not_form (If at c a tail) k h w = absurd (omega (arith, h))
+operand_not_form (Chain n e es) k h w = operand_not_form e (links_then es k) (omega (arith, w.0, w.3)) w.4
+operand_not_form (Minus x e) k h w = tt
+operand_not_form (Apply f es) k h w = operand_not_form f (arguments_then es k) (omega (arith, w.0)) w.2
+operand_not_form (ConstrApply path e) k h w = path_not_form path _ w.0
+operand_not_form (TagApply x e) k h w = tt
+operand_not_form (Assert at e) k h w = tt
+operand_not_form (Lazy at e) k h w = tt
+operand_not_form (Postfix e ps) k h w = operand_not_form e (parts_then ps k) (omega (arith, w.0)) w.2
+operand_not_form (Prefixed x e) k h w = tt
+operand_not_form (Literal c x) k h w = tt
+operand_not_form (BoolExpr at b) k h w = bool_not_form at b k
+operand_not_form (Value path x) k h w = value_not_form path x k
+operand_not_form (Constr path) k h w = path_not_form path k w
+operand_not_form (Tag x) k h w = tt
+operand_not_form (UnitExpr at) k h w = tt
+operand_not_form (Paren at e) k h w = tt
+operand_not_form (Typed at e run) k h w = tt
+operand_not_form (Coerced at e from to) k h w = tt
+operand_not_form (EmptyBegin at) k h w = tt
+operand_not_form (Begin at e) k h w = tt
+operand_not_form (EmptyList at b) k h w = bracket_not_form at b _
+operand_not_form (ListExpr at b e es last) k h w = bracket_not_form at b _
+operand_not_form (Record at base f fs last) k h w = tt
+operand_not_form (Opened path e) k h w = path_not_form path _ w.0
+operand_not_form (While at c e) k h w = tt
+operand_not_form (For at x eq a down b e) k h w = tt
+
 -- not an `if`
 abbrev NotIf : List Tok → Type 0
 NotIf (placed key.If at ∷ ts) = ⊥
 NotIf _ = Unit {0}
 
-path_not_if : (path : List Name) (k : List Tok) → path ≢ [] → NotIf (path_then path k)
-path_not_if [] k h = absurd (h refl)
-path_not_if (x ∷ xs) k h = tt
-
-value_not_if : (path : List Name) (x : ValueName) (k : List Tok) → NotIf (qualified_then path (name_then x k))
-value_not_if [] (PlainName x) k = tt
-value_not_if [] (OperatorName at t) k = tt
-value_not_if (y ∷ ys) x k = tt
-
-bool_not_if : (at : ℕ) (b : Bool) (k : List Tok) → NotIf (placed (truth b) at ∷ k)
-bool_not_if at true k = tt
-bool_not_if at false k = tt
-
-bracket_not_if : (at : ℕ) (b : Bracket) (k : List Tok) → NotIf (placed (opening b) at ∷ k)
-bracket_not_if at bracket.List k = tt
-bracket_not_if at bracket.Array k = tt
-
-postfix_not_if : (e : Expr) (k : List Tok) → 2 < level e → Wf e → NotIf (expr_then e k)
-postfix_not_if (Seq e es last) k h w = absurd (omega (arith, h))
-postfix_not_if (Let at recursive b bs e) k h w = absurd (omega (arith, h))
-postfix_not_if (LetOpen at at' bang path e) k h w = absurd (omega (arith, h))
-postfix_not_if (LetModule at at' x eq m e) k h w = absurd (omega (arith, h))
-postfix_not_if (Fun at ps e) k h w = absurd (omega (arith, h))
-postfix_not_if (Function at bar c cs) k h w = absurd (omega (arith, h))
-postfix_not_if (Match at e bar c cs) k h w = absurd (omega (arith, h))
-postfix_not_if (Try at e bar c cs) k h w = absurd (omega (arith, h))
-postfix_not_if (If at c a tail) k h w = absurd (omega (arith, h))
-postfix_not_if (Chain n e es) k h w = postfix_not_if e (links_then es k) (omega (arith, w.0, w.3)) w.4
-postfix_not_if (Minus x e) k h w = tt
-postfix_not_if (Apply f es) k h w = postfix_not_if f (arguments_then es k) (omega (arith, w.0)) w.2
-postfix_not_if (ConstrApply path e) k h w = path_not_if path _ w.0
-postfix_not_if (TagApply x e) k h w = tt
-postfix_not_if (Assert at e) k h w = tt
-postfix_not_if (Lazy at e) k h w = tt
-postfix_not_if (Postfix e ps) k h w = postfix_not_if e (parts_then ps k) (omega (arith, w.0)) w.2
-postfix_not_if (Prefixed x e) k h w = tt
-postfix_not_if (Literal c x) k h w = tt
-postfix_not_if (BoolExpr at b) k h w = bool_not_if at b k
-postfix_not_if (Value path x) k h w = value_not_if path x k
-postfix_not_if (Constr path) k h w = path_not_if path k w
-postfix_not_if (Tag x) k h w = tt
-postfix_not_if (UnitExpr at) k h w = tt
-postfix_not_if (Paren at e) k h w = tt
-postfix_not_if (Typed at e run) k h w = tt
-postfix_not_if (Coerced at e from to) k h w = tt
-postfix_not_if (EmptyBegin at) k h w = tt
-postfix_not_if (Begin at e) k h w = tt
-postfix_not_if (EmptyList at b) k h w = bracket_not_if at b _
-postfix_not_if (ListExpr at b e es last) k h w = bracket_not_if at b _
-postfix_not_if (Record at base f fs last) k h w = tt
-postfix_not_if (Opened path e) k h w = path_not_if path _ w.0
-postfix_not_if (While at c e) k h w = tt
-postfix_not_if (For at x eq a down b e) k h w = tt
+form_not_if : (ts : List Tok) → NotForm ts → NotIf ts
+form_not_if (placed key.If at ∷ ts) h = h
+form_not_if ts h = tt
 
 not_if : (e : Expr) (k : List Tok) → 0 < level e → level e ≢ 2 → Wf e → NotIf (expr_then e k)
 not_if e k lv two w = by e lv two w
@@ -548,8 +558,8 @@ not_if e k lv two w = by e lv two w
     by (Try at e bar c cs) lv two w = tt
     by (If at c a tail) lv two w = absurd (two refl)
     by (Seq e es last) lv two w = absurd (omega (arith, lv))
-    by (Chain n e es) lv two w = postfix_not_if (Chain n e es) k (omega (arith, w.0)) w
-    by e lv two w = postfix_not_if e k (omega arith) w
+    by (Chain n e es) lv two w = form_not_if (expr_then (Chain n e es) k) (operand_not_form (Chain n e es) k (omega (arith, w.0)) w)
+    by e lv two w = form_not_if (expr_then e k) (operand_not_form e k (omega arith) w)
 
 part_ends : (p : Otherwise) (ts r : List Tok) → PartOf p ts r → Headed key.Else ts × (length r < length ts)
 part_ends _ ts r (of_last e _ _ lv two w q) = ((expr_then e r, q), omega (arith, ap length q, expr_more e r))

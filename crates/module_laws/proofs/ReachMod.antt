@@ -40,7 +40,7 @@ use Rattle.expr_laws.proofs.FirstWord.{begins_expr, Begins, expr_begins}
 use Rattle.expr_laws.proofs.FoundExpr.{expr_reads}
 use Rattle.expr_laws.proofs.GoesExpr.{grip, Holds, Begun, Headed, Goes, clash, fixed_begun, by_level, by_form, by_if, by_else, by_bar, by_more}
 use Rattle.expr_laws.proofs.ReachParams.{path_read}
-use Rattle.expr_laws.proofs.ReachForms.{bang_read, bindings_reach, in_exact, binding_opens, last_value}
+use Rattle.expr_laws.proofs.ReachForms.{bang_read, bindings_reach, in_exact, binding_opens, last_value, NotForm, operand_not_form}
 use Rattle.expr_laws.proofs.ReachExpr.{expr_reach, binding_good, bindings_good}
 use Rattle.module_reading.specs.ModReading.{grown_mod, module_name, text_word, optional_private, constraint, next_constraint, more_constraints}
 use Rattle.module_reading.specs.ModReading.{with_clause, with_clauses, external_rest, open_rest, some_bindings, value_rest, named_param, functor_param}
@@ -287,64 +287,6 @@ data IsLet : Expr → Type 0 where
   is_let_open : (at at' : ℕ) (bang : Option Name) (path : List Name) (e : Expr) → IsLet (LetOpen at at' bang path e)
   is_let_module : (at at' : ℕ) (x : Name) (q : ℕ) (m : LocalModule) (e : Expr) → IsLet (LetModule at at' x q m e)
 
-abbrev NotLet : List Tok → Type 0
-NotLet (placed key.Let at ∷ ts) = ⊥
-NotLet _ = Unit {0}
-
-path_not_let : (path : List Name) (k : List Tok) → path ≢ [] → NotLet (path_then path k)
-path_not_let [] k h = absurd (h refl)
-path_not_let (x ∷ xs) k h = tt
-
-value_not_let : (path : List Name) (x : ValueName) (k : List Tok) → NotLet (qualified_then path (name_then x k))
-value_not_let [] (PlainName x) k = tt
-value_not_let [] (OperatorName at t) k = tt
-value_not_let (y ∷ ys) x k = tt
-
-bool_not_let : (at : ℕ) (b : Bool) (k : List Tok) → NotLet (placed (truth b) at ∷ k)
-bool_not_let at true k = tt
-bool_not_let at false k = tt
-
-bracket_not_let : (at : ℕ) (b : Bracket) (k : List Tok) → NotLet (placed (opening b) at ∷ k)
-bracket_not_let at bracket.List k = tt
-bracket_not_let at bracket.Array k = tt
-
-not_let : (e : Expr) (k : List Tok) → 2 < level e → Wf e → NotLet (expr_then e k)
-not_let (Seq e es last) k h w = absurd (omega (arith, h))
-not_let (Let at recursive b bs e) k h w = absurd (omega (arith, h))
-not_let (LetOpen at at' bang path e) k h w = absurd (omega (arith, h))
-not_let (LetModule at at' x eq m e) k h w = absurd (omega (arith, h))
-not_let (Fun at ps e) k h w = absurd (omega (arith, h))
-not_let (Function at bar c cs) k h w = absurd (omega (arith, h))
-not_let (Match at e bar c cs) k h w = absurd (omega (arith, h))
-not_let (Try at e bar c cs) k h w = absurd (omega (arith, h))
-not_let (If at c a tail) k h w = absurd (omega (arith, h))
-not_let (Chain n e es) k h w = not_let e (links_then es k) (omega (arith, w.0, w.3)) w.4
-not_let (Minus x e) k h w = tt
-not_let (Apply f es) k h w = not_let f (arguments_then es k) (omega (arith, w.0)) w.2
-not_let (ConstrApply path e) k h w = path_not_let path _ w.0
-not_let (TagApply x e) k h w = tt
-not_let (Assert at e) k h w = tt
-not_let (Lazy at e) k h w = tt
-not_let (Postfix e ps) k h w = not_let e (parts_then ps k) (omega (arith, w.0)) w.2
-not_let (Prefixed x e) k h w = tt
-not_let (Literal c x) k h w = tt
-not_let (BoolExpr at b) k h w = bool_not_let at b k
-not_let (Value path x) k h w = value_not_let path x k
-not_let (Constr path) k h w = path_not_let path k w
-not_let (Tag x) k h w = tt
-not_let (UnitExpr at) k h w = tt
-not_let (Paren at e) k h w = tt
-not_let (Typed at e run) k h w = tt
-not_let (Coerced at e from to) k h w = tt
-not_let (EmptyBegin at) k h w = tt
-not_let (Begin at e) k h w = tt
-not_let (EmptyList at b) k h w = bracket_not_let at b _
-not_let (ListExpr at b e es last) k h w = bracket_not_let at b _
-not_let (Record at base f fs last) k h w = tt
-not_let (Opened path e) k h w = path_not_let path _ w.0
-not_let (While at c e) k h w = tt
-not_let (For at x eq a down b e) k h w = tt
-
 let_is : (e : Expr) (at : ℕ) (ts k : List Tok) → 0 < level e → Wf e → placed key.Let at ∷ ts ≡ expr_then e k → IsLet e
 let_is (Let at' recursive b bs e) at ts k lv w q = is_let at' recursive b bs e
 let_is (LetOpen at' at'' bang path e) at ts k lv w q = is_let_open at' at'' bang path e
@@ -355,8 +297,8 @@ let_is (Match at' e bar c cs) at ts k lv w q = absurd cc
 let_is (Try at' e bar c cs) at ts k lv w q = absurd cc
 let_is (If at' c a tail) at ts k lv w q = absurd cc
 let_is (Seq e es last) at ts k lv w q = absurd (omega (arith, lv))
-let_is (Chain n e es) at ts k lv w q = absurd (subst NotLet (sym q) (not_let (Chain n e es) k (omega (arith, w.0)) w))
-let_is e at ts k lv w q = absurd (subst NotLet (sym q) (not_let e k (omega arith) w))
+let_is (Chain n e es) at ts k lv w q = absurd (subst NotForm (sym q) (operand_not_form (Chain n e es) k (omega (arith, w.0)) w))
+let_is e at ts k lv w q = absurd (subst NotForm (sym q) (operand_not_form e k (omega arith) w))
 
 -- bindings behind an optional `rec` are read whole, if nothing goes on with them
 bindings_exact : (b : Binding) (bs : Bindings) → WfBinding b → WfBindings bs → (r : List Tok) → Follow r → (f : ℕ)
