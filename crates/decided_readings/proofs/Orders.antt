@@ -6,7 +6,7 @@ use Rattle.std.proofs.lemmas.List.{take_all}
 use Rattle.std.proofs.lemmas.List.Elements.{All-more, All-nil}
 use Rattle.std.proofs.lemmas.List.Sums.{sum_by-cons}
 use Rattle.ml_trees.specs.Tree.{UnitTree}
-use Rattle.unit_order.specs.Heads.{is_among}
+use Rattle.unit_heads.specs.Heads.{is_among}
 use Rattle.unit_order.specs.Order.{IsStuck, LiesOnCycle, derived_order, first_ready, go_on, is_ready, takes_all, taking}
 use Rattle.unit_order.specs.Positions.{blank, unit_at}
 use Rattle.unit_order.proofs.Stuck.{never_stuck, stuck_at}

@@ -5,7 +5,7 @@ use Rattle.value_sites.proofs.SpelledEvents.{spell_event, file_spelled}
 use Rattle.ml_trees.specs.Tree.{FileTree, UpperName, AnyName}
 use Rattle.ml_trees.specs.Events.{Event, said, run_of, module_path, last_path, qualifier, scope_begins, scope_ends, brings}
 use Rattle.tree_events.specs.Behind.{behind}
-use Rattle.unit_order.specs.Heads.{Needed, needed, hears, file_heads}
+use Rattle.unit_heads.specs.Heads.{Needed, needed, hears, file_heads}
 
 -- more says the same of each state
 abbrev SaySame : (Needed → Needed) → (Needed → Needed) → Type 0

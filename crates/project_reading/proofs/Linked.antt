@@ -20,7 +20,7 @@ use Rattle.ml_trees.specs.declared.module.UnitTree as trees
 use Rattle.value_sites.specs.Sound.{AreDistinct}
 use Rattle.ml_trees.specs.Tree.{FileTree, UnitTree}
 use Rattle.ml_trees.specs.View.{view_unit}
-use Rattle.unit_order.specs.Heads.{is_among}
+use Rattle.unit_heads.specs.Heads.{is_among}
 use Rattle.unit_order.specs.Order.{order_of, takes_all, IsListed}
 use Rattle.unit_order.specs.Positions.{unit_at, names_at, views}
 use Rattle.unit_order.proofs.Taken.{AreApart, sorted_apart}

@@ -4,7 +4,7 @@ use Rattle.std.proofs.Common.{nat_eq, refl, ap, ◌∙◌}
 use Rattle.std.specs.Str.{bytes_eq}
 use Rattle.std.proofs.lemmas.List.{length-map}
 use Rattle.ml_trees.specs.Tree.{FileTree, Body, Face, UnitTree}
-use Rattle.unit_order.specs.Heads.{is_among, file_heads, unit_heads}
+use Rattle.unit_heads.specs.Heads.{is_among, file_heads, unit_heads}
 use Rattle.unit_order.specs.Order.{needs_unit, is_ready, first_ready, go_on, taking, derived_order, takes_all, order_of}
 use Rattle.ml_syntax.specs.RespelledSource.{Spellings}
 use Rattle.project_reading.specs.Respelled.{spell_part, spell_unit}

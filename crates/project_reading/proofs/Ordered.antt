@@ -14,7 +14,7 @@ use Rattle.rotor_base.specs.declared.refusal.LoadError.TheVariants.{BadManifest}
 use Rattle.rotor_base.proofs.BadLines.{is_named, and_false, left_named, both_true, names_alone}
 use Rattle.value_sites.specs.Sound.{AreDistinct}
 use Rattle.ml_trees.specs.Tree.{UnitTree}
-use Rattle.unit_order.specs.Heads.{is_among}
+use Rattle.unit_heads.specs.Heads.{is_among}
 use Rattle.unit_order.specs.Order.{is_ready, first_ready, go_on, taking, derived_order, takes_all, is_filled, manifest_order, order_of, IsListed}
 use Rattle.unit_order.specs.Positions.{unit_at}
 use Rattle.unit_order.proofs.Taken.{AreApart, left_of, left_less_at, among_more}

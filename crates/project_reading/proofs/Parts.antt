@@ -13,7 +13,7 @@ use Rattle.rotor_base.specs.declared.source.SourceFile.{SourceFile}
 use Rattle.rotor_base.specs.Stem.{is_body_name}
 use Rattle.rotor_base.specs.Unit.{unit_of}
 use Rattle.ml_trees.specs.Tree.{FileTree, UnitTree}
-use Rattle.unit_order.specs.Heads.{is_among}
+use Rattle.unit_heads.specs.Heads.{is_among}
 use Rattle.project_reading.specs.Units.{unit_names, part_of, unit_from, units_of}
 use Rattle.project_reading.specs.Gathered.{with_part, empty_unit, put_part}
 use Rattle.project_reading.proofs.Names.{IsBelow, same_name, below_too, apart_before, apart_behind, other_behind, not_among, among_insert}

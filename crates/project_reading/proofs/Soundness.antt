@@ -17,7 +17,7 @@ use Rattle.ml_trees.specs.Tree.{FileTree, Body, Face, UnitTree}
 use Rattle.parse_module.specs.declared.files.FileKind.{FileKind}
 use Rattle.parse_module.specs.declared.files.FileKind.TheVariants as kind
 use Rattle.parse_module.specs.Whole.{IsOfFile}
-use Rattle.unit_order.specs.Heads.{is_among}
+use Rattle.unit_heads.specs.Heads.{is_among}
 use Rattle.unit_order.specs.Order.{order_of}
 use Rattle.project_reading.specs.Laws.{ReadIsSound}
 use Rattle.project_reading.specs.Source.{kind_of_source, ReadsAs}

@@ -19,7 +19,7 @@ use Rattle.rotor_base.specs.declared.unit.SourceUnit.{SourceUnit}
 use Rattle.rotor_base.specs.Stem.{is_body_name}
 use Rattle.rotor_base.specs.Unit.{unit_of}
 use Rattle.ml_trees.specs.Tree.{FileTree, Body, no_item, UnitTree}
-use Rattle.unit_order.specs.Heads.{is_among}
+use Rattle.unit_heads.specs.Heads.{is_among}
 use Rattle.project_reading.specs.Laws.{TreesAreParts, PartsAreTrees}
 use Rattle.project_reading.specs.Source.{ReadsAs}
 use Rattle.project_reading.specs.Sources.{ReadAll}

@@ -4,7 +4,7 @@ use Rattle.std.specs.Str.{bytes_eq}
 use Rattle.rotor_base.specs.declared.place.Place.{Place}
 use Rattle.ml_lexer.specs.Lexed.{Lexeme}
 use Rattle.ml_trees.specs.Tree.{FileTree, UnitTree}
-use Rattle.unit_order.specs.Heads.{is_among, unit_heads}
+use Rattle.unit_heads.specs.Heads.{is_among, unit_heads}
 use Rattle.shape_core.specs.Shape.{or_else}
 use Rattle.module_openings.specs.Lexemes.{is, is_upper}
 use Rattle.module_openings.specs.Sources.{file_of, lexemes_of}

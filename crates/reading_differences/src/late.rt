@@ -4,7 +4,7 @@ ghost use Rattle.std.specs.Option.{option_copied};
 ghost use Rattle.rotor_base.specs.Limits.{max_file_bytes};
 ghost use Rattle.ml_lexer.specs.Lexed.{view_tokens};
 ghost use Rattle.ml_trees.specs.View.{view_part_of, view_unit};
-ghost use Rattle.unit_order.specs.Heads.{is_among, unit_heads};
+ghost use Rattle.unit_heads.specs.Heads.{is_among, unit_heads};
 ghost use Rattle.module_openings.specs.Sources.{lexemes_of};
 ghost use Rattle.reading_differences.specs.Late.{first_head as first_head_of, head_in as head_in_of, late, late_behind, late_head as late_head_of, late_needs, needed_head};
 

@@ -9,7 +9,7 @@ use Rattle.token_reading.specs.Tokens.{from}
 use Rattle.token_reading.proofs.Stepping.{some_is}
 use Rattle.parse_module.specs.declared.files.FileKind.TheVariants as kind
 use Rattle.module_reading.specs.ModReading.{body_start, face_start}
-use Rattle.unit_order.specs.Heads.{items_heads, sig_items_heads}
+use Rattle.unit_heads.specs.Heads.{items_heads, sig_items_heads}
 use Rattle.refusal_places.specs.Heads.{heads_of}
 use Rattle.refusal_places.proofs.Fronts.{toks_same, viewed}
 

@@ -7,7 +7,7 @@ use Rattle.rotor_base.specs.declared.token.Class.{Class}
 use Rattle.rotor_base.specs.declared.token.Class.TheVariants as class
 use Rattle.ml_lexer.specs.Lexed.{Lexeme}
 use Rattle.parse_module.specs.declared.files.FileKind.{FileKind}
-use Rattle.unit_order.specs.Heads.{is_among}
+use Rattle.unit_heads.specs.Heads.{is_among}
 use Rattle.refusal_places.specs.Heads.{heads_of}
 
 abbrev pub is_upper : Class → Bool

@@ -13,7 +13,7 @@ use Rattle.refusal_words.specs.Cut.{Cut}
 use Rattle.refusal_words.specs.Parts.{placed}
 use Rattle.refusal_words.specs.Source.{on_cycle}
 use Rattle.refusal_words.specs.Stretches.{no_spot}
-use Rattle.unit_order.specs.Heads.{is_among}
+use Rattle.unit_heads.specs.Heads.{is_among}
 use Rattle.refusal_places.specs.Blanks.{HasNoHead, IsFirstHead}
 use Rattle.refusal_places.specs.Heads.{cut_heads}
 use Rattle.refusal_places.specs.Unread.{lexeme_spot, whole_spot}

@@ -6,7 +6,7 @@ use Rattle.ml_syntax.specs.RespelledFile.{lexeme_toks}
 use Rattle.parse_module.specs.declared.files.FileKind.{FileKind}
 use Rattle.parse_module.specs.declared.files.FileKind.TheVariants as kind
 use Rattle.module_reading.specs.ModReading.{body_start, face_start}
-use Rattle.unit_order.specs.Heads.{items_heads, sig_items_heads}
+use Rattle.unit_heads.specs.Heads.{items_heads, sig_items_heads}
 use Rattle.need_chains.specs.declared.unit_heads.UnitHeads.{UnitHeads}
 use Rattle.project_reading.specs.Source.{kind_of_source}
 use Rattle.refusal_words.specs.Cut.{Cut}

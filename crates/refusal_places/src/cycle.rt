@@ -5,7 +5,7 @@ ghost use Rattle.rotor_base.specs.Limits.{max_file_bytes};
 ghost use Rattle.need_chains.specs.Chains.{IsCircle};
 ghost use Rattle.refusal_words.specs.Cut.{view_cut};
 ghost use Rattle.refusal_words.specs.Stretches.{no_spot as no_spot_of};
-ghost use Rattle.unit_order.specs.Heads.{is_among};
+ghost use Rattle.unit_heads.specs.Heads.{is_among};
 ghost use Rattle.refusal_places.specs.Circle.{AreNeedNotes, IsHeadSpot, IsNeedNote, IsNeedSpot, SaysCircle, arrow, circle_message as circle_message_of, circle_text as circle_text_of, need_text as need_text_of};
 ghost use Rattle.refusal_places.specs.Heads.{cut_heads};
 ghost use Rattle.refusal_places.specs.Unread.{whole_spot};

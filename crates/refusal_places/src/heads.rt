@@ -3,7 +3,7 @@ ghost use Rattle.std.specs.Prelude.{◌≡◌, ◌≤◌, ◌+◌, [], All, IfOk
 ghost use Rattle.rotor_base.specs.Limits.{max_file_bytes};
 ghost use Rattle.ml_lexer.specs.Lexed.{view_tokens};
 ghost use Rattle.ml_trees.specs.View.{view_unit};
-ghost use Rattle.unit_order.specs.Heads.{unit_heads};
+ghost use Rattle.unit_heads.specs.Heads.{unit_heads};
 ghost use Rattle.refusal_words.specs.Cut.{view_cut};
 ghost use Rattle.refusal_places.specs.Heads.{cut_heads as cut_heads_of, heads_of as heads_for};
 

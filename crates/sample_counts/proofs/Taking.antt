@@ -6,7 +6,7 @@ use Rattle.std.specs.Str.{bytes_eq}
 use Rattle.std.proofs.lemmas.List.{append_assoc, length-map}
 use Rattle.std.proofs.lemmas.Slice.Eq.{bytes_eq-Decides}
 use Rattle.ml_trees.specs.Tree.{UnitTree}
-use Rattle.unit_order.specs.Heads.{is_among}
+use Rattle.unit_heads.specs.Heads.{is_among}
 use Rattle.unit_order.specs.Order.{needs_unit, is_ready, first_ready, go_on, taking, derived_order, takes_all}
 use Rattle.unit_order.proofs.Taken.{among_more}
 use Rattle.project_reading.specs.Units.{unit_named, in_order}

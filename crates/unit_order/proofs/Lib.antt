@@ -1,9 +1,6 @@
-pub mod Counted
 pub mod Positioned
-pub mod Heard
 pub mod Chains
 pub mod Spread
-pub mod Stacks
 pub mod Stuck
 pub mod Table
 pub mod Users

@@ -7,7 +7,7 @@ use Rattle.std.proofs.lemmas.List.{get_or-take, get_or-set_same, get_or-set_othe
 use Rattle.std.proofs.lemmas.Slice.Eq.{bytes_eq-Decides}
 use Rattle.name_tables.specs.declared.names.Names.{Names}
 use Rattle.name_tables.specs.Names.{at}
-use Rattle.unit_order.specs.Heads.{is_among}
+use Rattle.unit_heads.specs.Heads.{is_among}
 use Rattle.unit_order.specs.Needs.{ArePositions, is_other_head}
 
 -- no name has a position in a table of nothing

@@ -2,7 +2,7 @@
 use Rattle.std.proofs.Common.{◌≡◌, List, [], ◌∷◌, Some, None, codes, refl, rules, ℕ}
 use Rattle.ml_trees.specs.Tok.{Name}
 use Rattle.ml_trees.specs.Tree as pure
-use Rattle.unit_order.specs.Heads.{unit_heads}
+use Rattle.unit_heads.specs.Heads.{unit_heads}
 use Rattle.unit_order.specs.Order.{taking, derived_order, order_of, IsStuck}
 
 abbrev word : ℕ → List ℕ → Name

@@ -8,7 +8,7 @@ use Rattle.std.proofs.lemmas.List.Sums.{passes_at_first}
 use Rattle.std.proofs.lemmas.List.{drop_more, take-append-drop}
 use Rattle.std.proofs.lemmas.Map.Steps.{length-le_from_distinct_below}
 use Rattle.ml_trees.specs.Tree.{UnitTree}
-use Rattle.unit_order.specs.Heads.{is_among}
+use Rattle.unit_heads.specs.Heads.{is_among}
 use Rattle.unit_order.specs.Order.{needs_unit, is_ready, first_ready, LiesOnCycle, IsStuck}
 use Rattle.unit_order.specs.Positions.{unit_at, blank}
 use Rattle.unit_order.proofs.Chains.{need_first}

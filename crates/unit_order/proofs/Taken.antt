@@ -18,7 +18,7 @@ use Rattle.std.proofs.lemmas.List.Elements.{All-head, All-tail}
 use Rattle.std.specs.Str.{bytes_eq}
 use Rattle.ml_trees.specs.Tree.{UnitTree}
 use Rattle.unit_order.specs.declared.taking.Waiting.{Waiting}
-use Rattle.unit_order.specs.Heads.{is_among}
+use Rattle.unit_heads.specs.Heads.{is_among}
 use Rattle.unit_order.specs.Order.{needs_unit, is_ready, first_ready}
 use Rattle.unit_order.specs.Positions.{blank, unit_at}
 use Rattle.unit_order.specs.Turns.{is_free}

@@ -10,7 +10,7 @@ use Rattle.std.proofs.lemmas.List.Elements.{All-push, All-nil}
 use Rattle.std.proofs.lemmas.List.Quantifiers.{position-Some}
 use Rattle.ml_trees.specs.Tree.{UnitTree}
 use Rattle.unit_order.specs.declared.taking.Waiting.{Waiting}
-use Rattle.unit_order.specs.Heads.{is_among}
+use Rattle.unit_heads.specs.Heads.{is_among}
 use Rattle.unit_order.specs.Order.{needs_unit, first_ready, taking, derived_order, go_on}
 use Rattle.unit_order.specs.Positions.{blank, unit_at, names_at}
 use Rattle.unit_order.specs.Needs.{need_table, positions_from}

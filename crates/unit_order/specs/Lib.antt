@@ -1,5 +1,3 @@
-pub mod Heads
-pub mod Counts
 pub mod Order
 pub mod Positions
 pub mod Needs

@@ -1,5 +1,5 @@
 -- The needs of the units of a list, as a table and as lists of positions (own).
-use Rattle.std.specs.Prelude.{◌≡◌, ◌&&◌, ℕ, ◌+◌, ◌<◌, List, [], ◌∷◌, Bool, All, Some, cond, count_by, get_or, length, map, nat_eq, not}
+use Rattle.std.specs.Prelude.{◌≡◌, ◌&&◌, ◌||◌, ℕ, ◌+◌, ◌<◌, List, [], ◌∷◌, Bool, false, All, Some, cond, count_by, get_or, length, map, nat_eq, not}
 use Rattle.std.specs.List.{list_any}
 use Rattle.std.specs.Str.{bytes_eq}
 use Rattle.name_tables.specs.declared.names.Names.{Names}
@@ -20,6 +20,12 @@ pub record ArePositions (positions : Names ℕ) (names : List (List ℕ)) : Type
 -- a head is the name of a unit, and not that of the unit that has the head
 abbrev pub is_other_head : List ℕ → List ℕ → List ℕ → Bool
 is_other_head own name head = bytes_eq head name && not (bytes_eq head own)
+
+-- a row of the units of these names is marked at the unit that a head names, if that is not the one that has the head
+abbrev pub MarksHead : Names ℕ → List ℕ → List ℕ → List Bool → List Bool → Type 0
+MarksHead positions own head old new =
+    (names : List (List ℕ)) → ArePositions positions names → length old ≡ length names → (p : ℕ) → p < length names
+    → get_or new p false ≡ (get_or old p false || is_other_head own (get_or names p []) head)
 
 -- the positions at which a row says so, counted from one on
 abbrev pub positions_from : ℕ → List Bool → List ℕ

@@ -6,7 +6,7 @@ use Rattle.std.specs.Str.{bytes_eq}
 use Rattle.std.specs.Str.Lines.{lines}
 use Rattle.rotor_base.specs.Files.{bad_manifest}
 use Rattle.ml_trees.specs.Tree.{UnitTree}
-use Rattle.unit_order.specs.Heads.{is_among, unit_heads}
+use Rattle.unit_heads.specs.Heads.{is_among, unit_heads}
 
 -- a unit needs the unit of this name: it is another one, and a head in a tree of the first that is not bound there
 abbrev pub needs_unit : UnitTree → List ℕ → Bool

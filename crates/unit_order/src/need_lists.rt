@@ -7,13 +7,13 @@ ghost use Rattle.std.specs.Ordering.{nat_cmp};
 ghost use Rattle.std.specs.Cmp.Lexicographic.{slice_cmp};
 ghost use Rattle.unit_order.specs.Order.{needs_unit};
 ghost use Rattle.unit_order.specs.Positions.{views};
-ghost use Rattle.unit_order.specs.Needs.{ArePositions, is_other_head, need_table, positions_from, times};
+ghost use Rattle.unit_order.specs.Needs.{ArePositions, MarksHead, need_table, positions_from, times};
 
-use crate::unit_needs::needs;
 use ml_trees::UnitTree;
 use name_tables::Names;
 use rotor_base::Memory;
 use std::alloc::Global;
+use unit_heads::needs;
 
 /// For each unit, the positions of the units that it needs, in ascending order. `Memory` is the only error.
 pub fn need_lists(alloc: Global, units: &[UnitTree]) -> Result<Vec<Vec<usize>>, Memory>
@@ -62,7 +62,7 @@ fn need_row(
 /// Marks the unit of a head, if it is not the unit that has the head.
 fn mark_head(row: &mut [bool], positions: &Names<usize>, own: &[u8], head: &[u8])
     ensures size { length row.new ≡ length row.old }
-    ensures marked { (names : List (List ℕ)) → ArePositions positions.now names → length row.old ≡ length names → (p : ℕ) → p < length names → get_or row.new p false ≡ (get_or row.old p false || is_other_head own.now (get_or names p []) head.now) }
+    ensures marked { MarksHead positions.now own.now head.now row.old row.new }
 {
     if head == own {
         return;

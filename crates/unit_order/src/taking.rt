@@ -5,7 +5,7 @@ ghost use Rattle.std.specs.List.{position};
 ghost use Rattle.std.specs.List.Sorted.{IsStrictlySortedBy};
 ghost use Rattle.std.specs.Ordering.{nat_cmp};
 ghost use Rattle.std.specs.Cmp.Lexicographic.{slice_cmp};
-ghost use Rattle.unit_order.specs.Heads.{is_among};
+ghost use Rattle.unit_heads.specs.Heads.{is_among};
 ghost use Rattle.unit_order.specs.Order.{derived_order, first_ready};
 ghost use Rattle.unit_order.specs.Positions.{views, names_at};
 ghost use Rattle.unit_order.specs.Needs.{need_table, positions_from};
@@ -33,7 +33,7 @@ impl Waiting {
     }
 
     /// How it waits once a further unit is taken, which it needs or not and is or not.
-    fn after(self, needed: bool, itself: bool) -> Self
+    fn wait_on(self, needed: bool, itself: bool) -> Self
         ensures { result ≡ waits_after needed itself self }
     {
         Waiting {
@@ -49,7 +49,7 @@ impl Waiting {
 
 /// The positions of the units in the order in which they are taken, each time the first whose needed units are all
 /// taken, until there is none. The search goes on where it ended, or from the first unit before it that can be taken
-/// now. So all of it costs no more than the units and the units times the needs.
+/// now. So all of it costs no more than the units and the units times the needs. `Memory` is the only error.
 pub fn take_ready(
     alloc: Global,
     units: &[UnitTree],
@@ -102,10 +102,10 @@ fn take_unit(waiting: &mut [Waiting], users: &[usize], at: usize) -> usize
     ensures inside { result ≤ length waiting.new }
     ensures before { NoneFreeBefore result waiting.new }
 {
-    waiting[at] = waiting[at].after(false, true);
+    waiting[at] = waiting[at].wait_on(false, true);
     let mut from = at + 1;
     for user in users {
-        waiting[*user] = waiting[*user].after(true, false);
+        waiting[*user] = waiting[*user].wait_on(true, false);
         if waiting[*user].is_free() {
             from = from.min(*user);
         }

@@ -4,7 +4,7 @@ use Rattle.std.proofs.lemmas.List.{ext_get_or, get_or-map, length-map, take_all,
 use Rattle.std.proofs.lemmas.List.Folds.{list_any_more}
 use Rattle.ml_trees.specs.declared.module.UnitTree.{UnitTree}
 use Rattle.ml_trees.specs.View.{view_unit}
-use Rattle.unit_order.specs.Heads.{is_among, unit_heads}
+use Rattle.unit_heads.specs.Heads.{is_among, unit_heads}
 use Rattle.unit_order.specs.Needs.{is_other_head}
 use Rattle.unit_order.specs.Order.{needs_unit}
 use Rattle.unit_order.proofs.Positioned.{marked_all}

@@ -11,12 +11,12 @@ loop-user-preserved c =
     let from = c.loop-user.from in
     let i = c.loop-user.user-index in
     let user = get_or c.args.users.now i 0 in
-    let unit = c.after-in-loop-user.result in
+    let unit = c.wait_on-in-loop-user.result in
     let within : user < length waiting = omega (arith, c.requires.users i 0 c.loop-user-test.true, c.loop-user.invariant.size) in
     let size : length (set waiting user unit) ≡ length waiting = length-set waiting user unit in
     record {
       size = size ∙ c.loop-user.invariant.size;
-      each = rw c.after-in-loop-user.ensures
+      each = rw c.wait_on-in-loop-user.ensures
           (one_released c.args.waiting.now waiting c.args.users.now i c.args.at _ c.loop-user.invariant.size c.loop-user-test.true within
           c.loop-user.invariant.each);
       inside = elim c.if-is_free.branch [

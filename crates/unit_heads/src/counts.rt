@@ -1,8 +1,8 @@
 //! How often each of some names is in a list.
 
 ghost use Rattle.std.specs.Prelude.{◌≡◌, ◌<◌, ◌++◌, ◌∷◌, [], ℕ, List, OnOk, OnErr};
-ghost use Rattle.unit_order.specs.Counts.{AreCounts, count_of};
-ghost use Rattle.unit_order.specs.Heads.{is_among};
+ghost use Rattle.unit_heads.specs.Counts.{AreCounts, count_of};
+ghost use Rattle.unit_heads.specs.Heads.{is_among};
 
 use name_tables::Names;
 use rotor_base::Memory;

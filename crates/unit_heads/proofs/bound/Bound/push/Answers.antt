@@ -1,7 +1,7 @@
 use Rattle.std.proofs.Common.{◌≡◌, subst, arith}
 use Rattle.std.proofs.lemmas.Grind.{common_steps}
-use Rattle.unit_order.specs.Counts.{AreCounts}
-use Rattle.unit_order.proofs.bound.Bound.push.Goals as goal
+use Rattle.unit_heads.specs.Counts.{AreCounts}
+use Rattle.unit_heads.proofs.bound.Bound.push.Goals as goal
 
 pub invariant_of-self-in-Err : goal.invariant_of-self-in-Err
 invariant_of-self-in-Err c =

@@ -1,6 +1,6 @@
 use Rattle.std.proofs.Common.{◌≡◌, take, vec_len}
-use Rattle.unit_order.specs.Counts.{AreCounts}
-use Rattle.unit_order.proofs.bound.Bound.cut.Given as goal
+use Rattle.unit_heads.specs.Counts.{AreCounts}
+use Rattle.unit_heads.proofs.bound.Bound.cut.Given as goal
 
 abbrev pub invariant-loop-self : goal.invariant-loop-self
 invariant-loop-self l =

@@ -1,7 +1,7 @@
 //! The names of modules that are bound around a tree.
 
 ghost use Rattle.std.specs.Prelude.{◌≡◌, ◌++◌, ◌∷◌, [], OnOk, length, take};
-ghost use Rattle.unit_order.specs.Heads.{is_among};
+ghost use Rattle.unit_heads.specs.Heads.{is_among};
 
 use crate::counts::Counts;
 use rotor_base::{Memory, Name};
@@ -18,7 +18,7 @@ pub struct Bound {
 
 impl Model for Bound {
     ghost use Rattle.std.specs.Prelude.{List, ℕ};
-    ghost use Rattle.unit_order.specs.Counts.{AreCounts};
+    ghost use Rattle.unit_heads.specs.Counts.{AreCounts};
 
     ghost Value = { List (List ℕ) };
 

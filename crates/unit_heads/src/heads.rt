@@ -2,7 +2,7 @@
 
 ghost use Rattle.std.specs.Prelude.{◌≡◌, IfOk, Some, OnOk};
 ghost use Rattle.ml_trees.specs.View.{view_file};
-ghost use Rattle.unit_order.specs.Heads.{file_heads};
+ghost use Rattle.unit_heads.specs.Heads.{file_heads};
 
 use crate::bound::Bound;
 use crate::path::{add_head, add_prefix};
@@ -23,7 +23,7 @@ struct Heads {
 
 impl Visitor for Heads {
     ghost use Rattle.std.specs.Prelude.{reverse};
-    ghost use Rattle.unit_order.specs.Heads.{Needed, needed, hears};
+    ghost use Rattle.unit_heads.specs.Heads.{Needed, needed, hears};
 
     ghost State = { Needed };
 
@@ -63,7 +63,7 @@ impl Visitor for Heads {
     }
 }
 
-/// The heads that were found, and then those of a file.
+/// The heads that were found, and then those of a file. `Memory` is the only error.
 #[tactic(auto, using(crate::proofs::Heard::file_heard))]
 pub fn with_heads(alloc: Global, found: Vec<Name>, file: &FileTree) -> Result<Vec<Name>, Memory>
     ensures { IfOk result (λ heads. heads.items ≡ file_heads found.items (Some (view_file file.now))) }

@@ -1,6 +1,6 @@
 use Rattle.std.proofs.Common.{◌-◌, ap, sym, unwrap_or, ◌∙◌, arith}
-use Rattle.unit_order.proofs.Counted.{count_less, counted}
-use Rattle.unit_order.proofs.counts.Counts.take_out.Goals as goal
+use Rattle.unit_heads.proofs.Counted.{count_less, counted}
+use Rattle.unit_heads.proofs.counts.Counts.take_out.Goals as goal
 
 pub returns-in-Some : goal.returns-in-Some
 returns-in-Some c =

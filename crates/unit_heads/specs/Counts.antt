@@ -2,7 +2,7 @@
 use Rattle.std.specs.Prelude.{◌≡◌, ℕ, List, count_by, unwrap_or}
 use Rattle.std.specs.Str.{bytes_eq}
 use Rattle.name_tables.specs.Names.{at}
-use Rattle.unit_order.specs.declared.counts.Counts.{Counts}
+use Rattle.unit_heads.specs.declared.counts.Counts.{Counts}
 
 -- how often a name is counted
 abbrev pub count_of : Counts → List ℕ → ℕ

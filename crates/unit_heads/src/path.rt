@@ -2,14 +2,14 @@
 
 ghost use Rattle.std.specs.Prelude.{◌≡◌, ◌++◌, ◌∷◌, [], OnOk, if◌then◌else◌};
 ghost use Rattle.ml_trees.specs.View.{view_words};
-ghost use Rattle.unit_order.specs.Heads.{is_among, module_head, prefix_head};
+ghost use Rattle.unit_heads.specs.Heads.{is_among, module_head, prefix_head};
 
 use crate::bound::Bound;
 use ml_trees::Word;
 use rotor_base::{Memory, Name};
 use std::alloc::Global;
 
-/// Adds the head of the path of a module, if it is not bound.
+/// Adds the head of the path of a module, if it is not bound. `Memory` is the only error.
 pub fn add_head(
     alloc: Global,
     bound: &Bound,
@@ -40,7 +40,7 @@ fn add_unless_bound(
     Ok(())
 }
 
-/// Adds the head of the names before the last one of a path, if it is not bound.
+/// Adds the head of the names before the last one of a path, if it is not bound. `Memory` is the only error.
 pub fn add_prefix(
     alloc: Global,
     bound: &Bound,

@@ -6,8 +6,8 @@ use Rattle.std.proofs.lemmas.List.Sums.{sum_by_push, sum_by-cons}
 use Rattle.std.proofs.lemmas.Slice.Eq.{bytes_eq-Decides}
 use Rattle.std.specs.List.{list_any}
 use Rattle.name_tables.specs.Names.{at}
-use Rattle.unit_order.specs.declared.counts.Counts.{Counts}
-use Rattle.unit_order.specs.Counts.{AreCounts, count_of}
+use Rattle.unit_heads.specs.declared.counts.Counts.{Counts}
+use Rattle.unit_heads.specs.Counts.{AreCounts, count_of}
 
 abbrev Is : List ℕ → List ℕ → Bool
 Is name other = bytes_eq other name

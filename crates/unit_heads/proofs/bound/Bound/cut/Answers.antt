@@ -1,7 +1,7 @@
 use Rattle.std.proofs.Common.{◌≤◌, ◌++◌, ◌∷◌, [], ap, length, sym, subst, take, ◌∙◌, arith}
 use Rattle.std.proofs.lemmas.List.{take-append-le}
-use Rattle.unit_order.specs.Counts.{AreCounts}
-use Rattle.unit_order.proofs.bound.Bound.cut.Goals as goal
+use Rattle.unit_heads.specs.Counts.{AreCounts}
+use Rattle.unit_heads.proofs.bound.Bound.cut.Goals as goal
 
 pub loop-self-preserved-in-Some : goal.loop-self-preserved-in-Some
 loop-self-preserved-in-Some c =
