@@ -224,12 +224,16 @@ part_lexemes lists (Some tree) = lexemes_of lists (file_of tree)
 abbrev pub linked_behind : Linked → List ℕ → List Lexeme → List Lexeme → Linked
 linked_behind l name xs ys = record { units = l.units ++ name ∷ []; nested = (l.nested ++ modules_in xs) ++ modules_in ys }
 
+-- the names behind a unit
+abbrev pub linked_unit : List (List Lexeme) → Linked → UnitTree → Linked
+linked_unit lists l u = linked_behind l u.name (part_lexemes lists u.body) (part_lexemes lists u.face)
+
 -- of units in link order
 abbrev pub opened_units : List (List Lexeme) → Linked → List UnitTree → List OpenedUse
 opened_units lists l [] = []
 opened_units lists l (u ∷ us) =
     opened_file lists l u.body ++ opened_file lists l u.face
-    ++ opened_units lists (linked_behind l u.name (part_lexemes lists u.body) (part_lexemes lists u.face)) us
+    ++ opened_units lists (linked_unit lists l u) us
 
 abbrev pub opened_modules : List (List Lexeme) → List UnitTree → List OpenedUse
 opened_modules lists us = opened_units lists (record { units = []; nested = [] }) us

@@ -5,7 +5,7 @@ ghost use Rattle.ml_lexer.specs.Lexed.{view_token, view_tokens};
 ghost use Rattle.ml_trees.specs.View.{view_part_of, view_unit};
 ghost use Rattle.module_openings.specs.Named.{view_linked, view_meant, view_names};
 ghost use Rattle.module_openings.specs.Sources.{lexemes_of};
-ghost use Rattle.module_openings.specs.Opened.{depth_behind as depth_behind_of, is_first as is_first_of, is_head as is_head_of, linked_behind, opened_file, opened_in, opened_modules, opened_source, opened_units, part_lexemes, use_at, uses_behind, uses_of};
+ghost use Rattle.module_openings.specs.Opened.{depth_behind as depth_behind_of, is_first as is_first_of, is_head as is_head_of, linked_unit, opened_file, opened_in, opened_modules, opened_source, opened_units, part_lexemes, use_at, uses_behind, uses_of};
 
 use crate::lexemes::{begins_nest, ends_nest, is_upper, is_word};
 use crate::name_list::NameList;
@@ -104,7 +104,7 @@ fn pass_unit(
     unit: &UnitTree,
 ) -> Result<(), Memory>
     requires { All (λ list. length list.items ≤ max_file_bytes) sources.now }
-    ensures { OnOk result (view_linked linked.new ≡ linked_behind (view_linked linked.old) (view_unit unit.now).name (part_lexemes (map (λ list. view_tokens list.items) sources.now) (view_unit unit.now).body) (part_lexemes (map (λ list. view_tokens list.items) sources.now) (view_unit unit.now).face)) }
+    ensures { OnOk result (view_linked linked.new ≡ linked_unit (map (λ list. view_tokens list.items) sources.now) (view_linked linked.old) (view_unit unit.now)) }
 {
     let body = part_tokens(sources, &unit.body);
     let face = part_tokens(sources, &unit.face);

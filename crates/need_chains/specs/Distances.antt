@@ -1,7 +1,7 @@
 -- The fewest needs that lead from units to another (own).
-use Rattle.std.specs.Prelude.{◌+◌, ℕ, zero, suc, List, [], ◌∷◌, Bool, false, Option, Some, None, cond, get_or, map, nat_eq}
+use Rattle.std.specs.Prelude.{◌≡◌, ◌≤◌, ◌<◌, ◌++◌, ◌+◌, ℕ, zero, suc, List, [], ◌∷◌, Bool, false, Option, Some, None, cond, get_or, map, nat_eq}
 use Rattle.std.specs.List.{list_any}
-use Rattle.need_chains.specs.Chains.{leads}
+use Rattle.need_chains.specs.Chains.{chain, first_marked, leads, next_marks}
 use Rattle.need_chains.specs.declared.unit_heads.UnitHeads.{UnitHeads}
 
 abbrev pub least_or : Option ℕ → Bool → ℕ → Option ℕ
@@ -39,3 +39,16 @@ abbrev pub farther : ℕ → List (Option ℕ) → List (List ℕ) → List (Opt
 farther n numbers [] left = []
 farther n numbers (row ∷ rows) [] = []
 farther n numbers (row ∷ rows) (number ∷ left) = farther_one n numbers row number ∷ farther n numbers rows left
+
+-- These numbers are the distances to a unit, up to more needs than these; and no chain of fewer needs, but none, leads to
+-- it from a unit. Then this is the next unit of the chain.
+abbrev pub IsNextUnit : ℕ → List UnitHeads → List ℕ → List (Option ℕ) → Option (List ℕ) → Type 0
+IsNextUnit needs sources unit numbers next = (to : List ℕ) (n : ℕ) → needs < n → numbers ≡ distances n sources to
+    → ((d : ℕ) → d < needs → leads (suc d) sources to unit ≡ false)
+    → next ≡ first_marked None sources (next_marks needs sources to unit)
+
+-- in the same case the new names are the old ones, and those of the chain
+abbrev pub AddsChain : ℕ → List UnitHeads → List ℕ → List (Option ℕ) → List (List ℕ) → List (List ℕ) → Type 0
+AddsChain needs sources unit numbers old new = (to : List ℕ) (n : ℕ) → needs ≤ n → numbers ≡ distances n sources to
+    → ((d : ℕ) → suc d < needs → leads (suc d) sources to unit ≡ false)
+    → new ≡ old ++ chain needs sources to unit

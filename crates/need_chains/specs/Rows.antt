@@ -1,7 +1,8 @@
 -- The sources that units need, as rows of positions (own).
-use Rattle.std.specs.Prelude.{◌≡◌, ◌<◌, ℕ, List, [], Bool, ◌&&◌, not, Option, Some, None, get_or, is_some, length, map}
+use Rattle.std.specs.Prelude.{◌≡◌, ◌<◌, ℕ, List, [], Bool, true, ◌&&◌, ◌||◌, not, Option, Some, None, get_or, is_some, length, map}
 use Rattle.std.specs.List.{list_any}
 use Rattle.std.specs.Str.{bytes_eq}
+use Rattle.std.specs.Global.{Vec}
 use Rattle.name_tables.specs.declared.names.Names.{Names}
 use Rattle.name_tables.specs.Names.{at}
 use Rattle.need_chains.specs.Distances.{any_at, is_number}
@@ -42,3 +43,21 @@ hits sources n number row = any_at n (map (λ s. number s.unit) sources) row
 abbrev pub AreRows : List UnitHeads → (List ℕ → List ℕ) → Type 0
 AreRows sources row = (unit : List ℕ) (n : ℕ) (number : List ℕ → Option ℕ)
     → hits sources n number (row unit) ≡ list_any (λ s. needs sources unit s.unit && is_number n (number s.unit)) sources
+
+-- the new row has a unit with a number if the old one has, or a head names another unit with it
+abbrev pub AddsHead : Names ℕ → List ℕ → List ℕ → List ℕ → List ℕ → Type 0
+AddsHead places unit head old new = (sources : List UnitHeads) → ArePlaces places sources → (n : ℕ) (number : List ℕ → Option ℕ)
+    → hits sources n number new ≡ (hits sources n number old || is_hit sources unit n number head)
+
+-- the same of several heads
+abbrev pub AddsHeads : Names ℕ → List ℕ → List (List ℕ) → List ℕ → List ℕ → Type 0
+AddsHeads places unit heads old new = (sources : List UnitHeads) → ArePlaces places sources → (n : ℕ) (number : List ℕ → Option ℕ)
+    → hits sources n number new ≡ (hits sources n number old || list_any (is_hit sources unit n number) heads)
+
+-- the same of the row of a source's unit, for the heads of the source; in the other rows nothing changes
+abbrev pub AddsSource : Names ℕ → UnitHeads → List (Vec ℕ) → List (Vec ℕ) → Type 0
+AddsSource places source old new = (sources : List UnitHeads) → ArePlaces places sources → length old ≡ length sources
+    → is_unit sources source.unit ≡ true → (unit : List ℕ) (n : ℕ) (number : List ℕ → Option ℕ)
+    → hits sources n number (row_at (map (λ row. row.items) new) (at places unit))
+    ≡ (hits sources n number (row_at (map (λ row. row.items) old) (at places unit))
+    || (bytes_eq source.unit unit && list_any (is_hit sources unit n number) source.heads))

@@ -1,8 +1,7 @@
 //! The units of a chain.
-ghost use Rattle.std.specs.Prelude.{◌≡◌, ◌≤◌, ◌<◌, ◌++◌, ℕ, suc, false, List, IfOk, None, OnOk};
+ghost use Rattle.std.specs.Prelude.{IfOk, OnOk};
 ghost use Rattle.std.specs.Option.{option_copied};
-ghost use Rattle.need_chains.specs.Chains.{chain, first_marked as first_marked_of, leads, next_marks};
-ghost use Rattle.need_chains.specs.Distances.{distances as distances_of};
+ghost use Rattle.need_chains.specs.Distances.{AddsChain, IsNextUnit};
 
 use crate::marks::first_marked;
 use crate::needs::needed_at;
@@ -20,7 +19,7 @@ pub(crate) fn push_chain(
     unit: &[u8],
     needs: usize,
 ) -> Result<(), Memory>
-    ensures { OnOk result ((to : List ℕ) (n : ℕ) → needs ≤ n → distances.now ≡ distances_of n sources.now to → ((d : ℕ) → suc d < needs → leads (suc d) sources.now to unit.now ≡ false) → names.new.items ≡ names.old.items ++ chain needs sources.now to unit.now) }
+    ensures { OnOk result (AddsChain needs sources.now unit.now distances.now names.old.items names.new.items) }
 {
     if needs == 0 {
         return Ok(());
@@ -42,7 +41,7 @@ fn next_unit<'a>(
     unit: &[u8],
     needs: usize,
 ) -> Result<Option<&'a [u8]>, Memory>
-    ensures { IfOk result (λ next. (to : List ℕ) (n : ℕ) → needs < n → distances.now ≡ distances_of n sources.now to → ((d : ℕ) → d < needs → leads (suc d) sources.now to unit.now ≡ false) → option_copied next ≡ first_marked_of None sources.now (next_marks needs sources.now to unit.now)) }
+    ensures { IfOk result (λ next. IsNextUnit needs sources.now unit.now distances.now (option_copied next)) }
 {
     let marks = needed_at(alloc, sources, distances, unit, needs)?;
     Ok(first_marked(sources, &marks))

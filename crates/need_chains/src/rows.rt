@@ -1,9 +1,7 @@
 //! The sources that units need, as rows of positions.
-ghost use Rattle.std.specs.Prelude.{◌≡◌, ◌&&◌, ◌||◌, ℕ, List, Option, IfOk, OnOk, length, map, replicate, [], true};
-ghost use Rattle.std.specs.List.{list_any};
-ghost use Rattle.std.specs.Str.{bytes_eq};
+ghost use Rattle.std.specs.Prelude.{◌≡◌, IfOk, OnOk, length, map, replicate, []};
 ghost use Rattle.name_tables.specs.Names.{at};
-ghost use Rattle.need_chains.specs.Rows.{AreRows, ArePlaces, hits, is_hit, is_unit, row_at};
+ghost use Rattle.need_chains.specs.Rows.{AddsHead, AddsHeads, AddsSource, ArePlaces, AreRows, row_at};
 
 use crate::unit_heads::UnitHeads;
 use name_tables::Names;
@@ -55,7 +53,7 @@ fn push_source(
     source: &UnitHeads,
 ) -> Result<(), Memory>
     ensures size { length rows.new ≡ length rows.old }
-    ensures row { OnOk result ((sources : List _) → ArePlaces places.now sources → length rows.old ≡ length sources → is_unit sources source.now.unit ≡ true → (unit : List ℕ) (n : ℕ) (number : List ℕ → Option ℕ) → hits sources n number (row_at (map (λ row. row.items) rows.new) (at places.now unit)) ≡ (hits sources n number (row_at (map (λ row. row.items) rows.old) (at places.now unit)) || (bytes_eq source.now.unit unit && list_any (is_hit sources unit n number) source.now.heads))) }
+    ensures row { OnOk result (AddsSource places.now source.now rows.old rows.new) }
 {
     let unit = source.unit.as_bytes();
     if let Some(user) = places.get(unit) {
@@ -73,7 +71,7 @@ fn push_needs(
     unit: &[u8],
     heads: &[Name],
 ) -> Result<(), Memory>
-    ensures { OnOk result ((sources : List _) → ArePlaces places.now sources → (n : ℕ) (number : List ℕ → Option ℕ) → hits sources n number row.new.items ≡ (hits sources n number row.old.items || list_any (is_hit sources unit.now n number) heads.now)) }
+    ensures { OnOk result (AddsHeads places.now unit.now heads.now row.old.items row.new.items) }
 {
     for head in heads {
         push_need(row, places, unit, head.as_bytes())?;
@@ -88,7 +86,7 @@ fn push_need(
     unit: &[u8],
     head: &[u8],
 ) -> Result<(), Memory>
-    ensures { OnOk result ((sources : List _) → ArePlaces places.now sources → (n : ℕ) (number : List ℕ → Option ℕ) → hits sources n number row.new.items ≡ (hits sources n number row.old.items || is_hit sources unit.now n number head.now)) }
+    ensures { OnOk result (AddsHead places.now unit.now head.now row.old.items row.new.items) }
 {
     if head == unit {
         return Ok(());
