@@ -4,14 +4,13 @@ ghost use Rattle.std.specs.Prelude.{◌≤◌, ◌<◌, ◌+◌, length, Some};
 ghost use Rattle.rotor_base.specs.Limits.{max_file_bytes};
 ghost use Rattle.ml_trees.specs.Tree as pure;
 ghost use Rattle.ml_trees.specs.View.{view, view_argument, view_part, arguments, parts};
-ghost use Rattle.token_reading.specs.Steps.{many, always};
 ghost use Rattle.token_reading.specs.Gives.{Gives};
 ghost use Rattle.token_reading.specs.Tokens.{from};
 ghost use Rattle.expr_reading.specs.ExprReading as r;
 ghost use Rattle.expr_reading.specs.ExprReading.{read_expr};
 ghost use Rattle.expr_parts.specs.Reads.{Nests};
 ghost use Rattle.expr_atoms.specs.Parts.{part_after};
-ghost use Rattle.expr_parts.specs.Rows.{given, wrapped_by, with_parts};
+ghost use Rattle.expr_parts.specs.Rows.{given, more_parts, wrapped_by, with_parts};
 
 use crate::readers::Atoms;
 use expr_parts::{grown_apply, grown_postfix, has_colon, is_bare, is_constr, push_boxed};
@@ -94,7 +93,7 @@ impl<
     ) -> Result<(Vec<Part>, usize), ReadError>
         requires nests { Nests self.now.grammar.depth (F.pre self.now.grammar.sub) (F.post self.now.grammar.sub) }
         requires few { length tokens.now ≤ max_file_bytes }
-        ensures { Gives (λ x. (parts x.0.items, from tokens.now x.1)) result (Some (many pure.no_part pure.more_part always (r.part_behind (read_expr self.now.grammar.depth) self.now.grammar.depth) self.now.grammar.depth (from tokens.now at))) }
+        ensures { Gives (λ x. (parts x.0.items, from tokens.now x.1)) result (Some (more_parts self.now.grammar.depth (from tokens.now at))) }
     {
         let mut found = Vec::new(self.grammar.alloc);
         let mut at = at;
@@ -130,7 +129,7 @@ impl<
         Ok((grown_postfix(self.grammar.alloc, first, rest)?, at))
     }
 
-    /// An expression of level 15 or 16.
+    /// An expression of level 15 or 16. The errors are `Syntax` and `Memory`.
     #[tactic(auto, unfolding(expr_reading::specs::ExprReading::postfix))]
     #[inline(never)]
     pub fn postfix(
@@ -142,7 +141,7 @@ impl<
         requires few { length tokens.now ≤ max_file_bytes }
         ensures { Gives (λ x. (view x.0.value, from tokens.now x.1)) result (r.postfix (read_expr self.now.grammar.depth) self.now.grammar.depth (from tokens.now at)) }
     {
-        let (first, at) = self.prefixed(tokens, at)?;
+        let (first, at) = self.read_prefixed(tokens, at)?;
         self.with_parts(tokens, first, at)
     }
 
@@ -153,7 +152,7 @@ impl<
         requires few { length tokens.now ≤ max_file_bytes }
         ensures { Gives (λ x. (view x.0, from tokens.now x.1)) result (r.postfix (read_expr self.now.grammar.depth) self.now.grammar.depth (from tokens.now at)) }
     {
-        let (value, at) = self.deeper()?.postfix(tokens, at)?;
+        let (value, at) = self.go_deeper()?.postfix(tokens, at)?;
         Ok((Box::into_inner(value), at))
     }
 
@@ -194,7 +193,7 @@ impl<
     ) -> Result<(Vec<Argument>, usize), ReadError>
         requires nests { Nests self.now.grammar.depth (F.pre self.now.grammar.sub) (F.post self.now.grammar.sub) }
         requires few { length tokens.now ≤ max_file_bytes }
-        ensures { Gives (λ x. (arguments x.0.items, from tokens.now x.1)) result (Some (many pure.no_argument pure.more_argument always (r.argument (read_expr self.now.grammar.depth) self.now.grammar.depth) self.now.grammar.depth (from tokens.now at))) }
+        ensures { Gives (λ x. (arguments x.0.items, from tokens.now x.1)) result (Some (r.more_arguments (read_expr self.now.grammar.depth) self.now.grammar.depth (from tokens.now at))) }
     {
         let mut found = Vec::new(self.grammar.alloc);
         let mut at = at;
@@ -214,7 +213,7 @@ impl<
     /// What it is applied to: a constructor or a tag to one expression at most.
     #[tactic(auto, using(crate::proofs::Lone::constructors))]
     #[inline(never)]
-    pub(crate) fn applied(
+    pub(crate) fn read_applied(
         &self,
         tokens: &TokenTable<'_>,
         head: Box<Expr>,
@@ -238,7 +237,7 @@ impl<
         }
     }
 
-    /// An expression of levels 14 to 16.
+    /// An expression of levels 14 to 16. The errors are `Syntax` and `Memory`.
     #[tactic(auto, unfolding(expr_reading::specs::ExprReading::apply))]
     #[inline(never)]
     pub fn application(
@@ -255,7 +254,7 @@ impl<
             Kind::Fixed(Fixed::Lazy) => self.lazy_value(tokens, at),
             _ => {
                 let (head, after) = self.postfix(tokens, at)?;
-                self.applied(tokens, head, after)
+                self.read_applied(tokens, head, after)
             }
         }
     }

@@ -36,7 +36,7 @@ impl<
     /// What may follow a module path and a `.` too.
     #[tactic(auto, unfolding(expr_reading::specs::ExprReading::enclosed))]
     #[inline(never)]
-    pub(crate) fn enclosed(
+    pub(crate) fn read_enclosed(
         &self,
         tokens: &TokenTable<'_>,
         at: usize,
@@ -47,9 +47,9 @@ impl<
     {
         match kind_at(tokens, at) {
             Kind::Word(Class::Lower) => value(self.grammar.alloc, tokens, at),
-            Kind::Fixed(Fixed::LeftParen) => self.parenthesized(tokens, at),
-            Kind::Fixed(Fixed::LeftBracket) => self.bracketed(tokens, Bracket::List, at),
-            Kind::Fixed(Fixed::LeftArray) => self.bracketed(tokens, Bracket::Array, at),
+            Kind::Fixed(Fixed::LeftParen) => self.read_parenthesized(tokens, at),
+            Kind::Fixed(Fixed::LeftBracket) => self.read_bracketed(tokens, Bracket::List, at),
+            Kind::Fixed(Fixed::LeftArray) => self.read_bracketed(tokens, Bracket::Array, at),
             Kind::Fixed(Fixed::LeftBrace) => self.record(tokens, at),
             _ => Err(ReadError::Syntax),
         }
@@ -57,7 +57,7 @@ impl<
 
     /// The same behind a `.`.
     #[inline(never)]
-    pub(crate) fn behind_dot(
+    pub(crate) fn read_behind_dot(
         &self,
         tokens: &TokenTable<'_>,
         at: usize,
@@ -67,7 +67,7 @@ impl<
         ensures { Gives (λ x. (view x.0.value, from tokens.now x.1)) result (dot_enclosed self.now.grammar.depth (from tokens.now at)) }
     {
         let at = expect(tokens, Fixed::Dot, at)?;
-        self.enclosed(tokens, at)
+        self.read_enclosed(tokens, at)
     }
 
     /// After the name of a module or constructor at a place.
@@ -84,8 +84,8 @@ impl<
         ensures { Gives (λ x. (view x.0.value, from tokens.now x.1)) result (r.upper_expr (read_expr self.now.grammar.depth) self.now.grammar.depth (name_at tokens.now at) (from tokens.now (at + 1))) }
     {
         let (path, at) = path_from(self.grammar.alloc, tokens, self.grammar.depth, at)?;
-        match self.behind_dot(tokens, at) {
-            Ok((inner, after)) => qualified(self.grammar.alloc, tokens, path, at, inner, after),
+        match self.read_behind_dot(tokens, at) {
+            Ok((inner, after)) => qualify(self.grammar.alloc, tokens, path, at, inner, after),
             Err(ReadError::Syntax) => Ok((Box::new(self.grammar.alloc, Expr::Constr(path))?, at)),
             Err(ReadError::Memory) => Err(ReadError::Memory),
         }
@@ -115,9 +115,9 @@ impl<
                 if is_literal(class) {
                     return literal(self.grammar.alloc, tokens, class, at);
                 }
-                self.enclosed(tokens, at)
+                self.read_enclosed(tokens, at)
             }
-            _ => self.enclosed(tokens, at),
+            _ => self.read_enclosed(tokens, at),
         }
     }
 
@@ -142,10 +142,10 @@ impl<
         ))
     }
 
-    /// An expression of level 16.
+    /// An expression of level 16. The errors are `Syntax` and `Memory`.
     #[tactic(auto, unfolding(expr_reading::specs::ExprReading::prefixed))]
     #[inline(never)]
-    pub fn prefixed(
+    pub fn read_prefixed(
         &self,
         tokens: &TokenTable<'_>,
         at: usize,
@@ -224,7 +224,7 @@ fn value(alloc: Global, tokens: &TokenTable<'_>, at: usize) -> Result<(Box<Expr>
 /// A module path, a `.` and the expression behind it, if that may follow them; else the path, as a constructor.
 #[tactic(auto, using(crate::proofs::Lone::qualifications, ml_trees::proofs::Variants::expr_views))]
 #[inline(never)]
-fn qualified(
+fn qualify(
     alloc: Global,
     tokens: &TokenTable<'_>,
     path: Path,

@@ -4,18 +4,17 @@ ghost use Rattle.std.specs.Prelude.{◌≤◌, ◌<◌, ◌+◌, [], true, lengt
 ghost use Rattle.rotor_base.specs.Limits.{max_file_bytes};
 ghost use Rattle.ml_trees.specs.Tree as pure;
 ghost use Rattle.ml_trees.specs.View.{view, view_name, links};
-ghost use Rattle.token_reading.specs.Steps.{many};
 ghost use Rattle.token_reading.specs.Gives.{Gives};
 ghost use Rattle.token_reading.specs.Tokens.{from};
 ghost use Rattle.expr_reading.specs.declared.wanted.Wanted.TheVariants as wanted;
 ghost use Rattle.expr_reading.specs.ExprReading as r;
 ghost use Rattle.expr_reading.specs.ExprReading.{read_expr};
 ghost use Rattle.expr_parts.specs.Reads.{Nests};
-ghost use Rattle.expr_parts.specs.Rows.{link_of, item_of, row_rest, paren_of};
+ghost use Rattle.expr_parts.specs.Rows.{link_of, item_of, more_items, row_rest, paren_of};
 
 use crate::readers::Atoms;
 use expr_parts::{
-    Edge, closing, direction, on_edge, read_closed, row_ends, semicolon_if, variable,
+    Edge, direction, find_closing, on_edge, read_closed, row_ends, semicolon_if, variable,
 };
 use expr_reading::Wanted;
 use ml_trees::{Bracket, Expr, Fixed, ValueName};
@@ -57,7 +56,7 @@ impl<
     ) -> Result<(Vec<Expr>, usize), ReadError>
         requires nests { Nests self.now.grammar.depth (F.pre self.now.grammar.sub) (F.post self.now.grammar.sub) }
         requires few { length tokens.now ≤ max_file_bytes }
-        ensures { Gives (λ x. (links x.0.items, from tokens.now x.1)) result (Some (many pure.no_link r.cons_link (λ x. r.no_form x.1) (r.semicolon_part (read_expr self.now.grammar.depth) self.now.grammar.depth (item_of self.now.grammar.depth true)) self.now.grammar.depth (from tokens.now at))) }
+        ensures { Gives (λ x. (links x.0.items, from tokens.now x.1)) result (Some (more_items self.now.grammar.depth true (from tokens.now at))) }
     {
         let mut found = Vec::new(self.grammar.alloc);
         let mut at = at;
@@ -116,7 +115,7 @@ impl<
     {
         let (first, at) = self.grammar.sub(tokens, Wanted::Expression, at)?;
         let ((rest, last), at) = self.rest_of_items(tokens, &first, at)?;
-        let at = expect(tokens, closing(bracket), at)?;
+        let at = expect(tokens, find_closing(bracket), at)?;
         Ok((
             Box::new(
                 self.grammar.alloc,
@@ -135,7 +134,7 @@ impl<
     /// After the `[` or `[|` at a place.
     #[tactic(auto, unfolding(expr_reading::specs::ExprReading::bracket_expr), using(ml_trees::proofs::Variants::expr_views))]
     #[inline(never)]
-    pub(crate) fn bracketed(
+    pub(crate) fn read_bracketed(
         &self,
         tokens: &TokenTable<'_>,
         bracket: Bracket,
@@ -146,7 +145,7 @@ impl<
         requires within { at < length tokens.now }
         ensures { Gives (λ x. (view x.0.value, from tokens.now x.1)) result (r.bracket_expr (read_expr self.now.grammar.depth) self.now.grammar.depth (at + 1) bracket (from tokens.now (at + 1))) }
     {
-        if has_fixed(tokens, closing(bracket), at + 1) {
+        if has_fixed(tokens, find_closing(bracket), at + 1) {
             return Ok((
                 Box::new(
                     self.grammar.alloc,
@@ -163,7 +162,7 @@ impl<
 
     /// An expression, and what closes the `(` at a place.
     #[inline(never)]
-    pub(crate) fn inner(
+    pub(crate) fn read_inner(
         &self,
         tokens: &TokenTable<'_>,
         at: usize,
@@ -180,7 +179,7 @@ impl<
     /// After the `(` at a place.
     #[tactic(auto, unfolding(expr_reading::specs::ExprReading::paren_expr), using(ml_trees::proofs::Variants::expr_views))]
     #[inline(never)]
-    pub(crate) fn parenthesized(
+    pub(crate) fn read_parenthesized(
         &self,
         tokens: &TokenTable<'_>,
         at: usize,
@@ -198,7 +197,7 @@ impl<
         }
         match operator(self.grammar.alloc, tokens, at) {
             Ok((name, after)) => Ok((operator_value(self.grammar.alloc, name)?, after)),
-            Err(ReadError::Syntax) => self.inner(tokens, at),
+            Err(ReadError::Syntax) => self.read_inner(tokens, at),
             Err(ReadError::Memory) => Err(ReadError::Memory),
         }
     }

@@ -28,13 +28,13 @@ impl<
 > Atoms<F> {
     /// The same readers, one level deeper.
     #[inline(never)]
-    pub(crate) fn deeper(&self) -> Result<Atoms<F>, ReadError>
+    pub(crate) fn go_deeper(&self) -> Result<Atoms<F>, ReadError>
         ensures depth { IfOk result (λ r. r.grammar.depth ≡ self.now.grammar.depth) }
         ensures sub { IfOk result (λ r. r.grammar.sub ≡ self.now.grammar.sub) }
         ensures memory { IfErr result (λ e. e ≡ unread.Memory) }
     {
         Ok(Atoms {
-            grammar: self.grammar.deeper()?,
+            grammar: self.grammar.go_deeper()?,
         })
     }
 }

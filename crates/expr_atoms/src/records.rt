@@ -4,14 +4,13 @@ ghost use Rattle.std.specs.Prelude.{◌≤◌, ◌<◌, ◌+◌, length, Some};
 ghost use Rattle.rotor_base.specs.Limits.{max_file_bytes};
 ghost use Rattle.ml_trees.specs.Tree as pure;
 ghost use Rattle.ml_trees.specs.View.{view, view_word, view_words, view_type, view_field, maybe, fields};
-ghost use Rattle.token_reading.specs.Steps.{many};
 ghost use Rattle.token_reading.specs.Gives.{Gives};
 ghost use Rattle.token_reading.specs.Tokens.{from};
 ghost use Rattle.expr_reading.specs.declared.wanted.Wanted.TheVariants as wanted;
 ghost use Rattle.expr_reading.specs.ExprReading as r;
 ghost use Rattle.expr_reading.specs.ExprReading.{read_expr};
 ghost use Rattle.expr_parts.specs.Reads.{Nests};
-ghost use Rattle.expr_parts.specs.Rows.{fields_rest, base_with};
+ghost use Rattle.expr_parts.specs.Rows.{fields_rest, more_fields, base_with};
 
 use crate::readers::Atoms;
 use expr_parts::{ends_field, fields_end, push_boxed, semicolon_if};
@@ -48,7 +47,7 @@ impl<
         let (run, at) = optional_type(self.grammar.alloc, tokens, at)?;
         match self.grammar.equals_value(tokens, at) {
             Ok(((equals, value), after)) => Ok((
-                assigned(self.grammar.alloc, path, label, run, equals, value)?,
+                make_assigned(self.grammar.alloc, path, label, run, equals, value)?,
                 after,
             )),
             Err(ReadError::Syntax) => Ok((field_pun(self.grammar.alloc, path, label, run)?, at)),
@@ -80,7 +79,7 @@ impl<
     ) -> Result<(Vec<Field>, usize), ReadError>
         requires nests { Nests self.now.grammar.depth (F.pre self.now.grammar.sub) (F.post self.now.grammar.sub) }
         requires few { length tokens.now ≤ max_file_bytes }
-        ensures { Gives (λ x. (fields x.0.items, from tokens.now x.1)) result (Some (many pure.no_field pure.more_field r.ends_field (r.next_field (read_expr self.now.grammar.depth) self.now.grammar.depth) self.now.grammar.depth (from tokens.now at))) }
+        ensures { Gives (λ x. (fields x.0.items, from tokens.now x.1)) result (Some (more_fields self.now.grammar.depth (from tokens.now at))) }
     {
         let mut found = Vec::new(self.grammar.alloc);
         let mut at = at;
@@ -184,7 +183,7 @@ impl<
 /// A field and its value.
 #[inline(never)]
 #[tactic(auto, using(ml_trees::proofs::Variants::field_views))]
-fn assigned(
+fn make_assigned(
     alloc: Global,
     path: Vec<Word>,
     label: Word,

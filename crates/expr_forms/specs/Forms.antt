@@ -2,12 +2,13 @@
 use Rattle.std.specs.Prelude.{ℕ, List, ◌∷◌, Bool, Option, Some, None}
 use Rattle.ml_trees.specs.declared.fixed.Fixed.TheVariants as key
 use Rattle.ml_trees.specs.Tok.{Name, Tok, placed}
-use Rattle.ml_trees.specs.Tree.{Pat, Expr, LetModule, Param, DefaultParam}
+use Rattle.ml_trees.specs.Tree.{Pat, Expr, LetModule, Case, Cases, no_case, more_case, Tail, no_else, Param, DefaultParam}
 use Rattle.ml_trees.specs.View.{view}
-use Rattle.token_reading.specs.Steps.{Read, ◌>>=◌, expect, expect_at}
+use Rattle.token_reading.specs.Steps.{Read, ◌>>=◌, expect, expect_at, many}
 use Rattle.token_reading.specs.Pieces.{lower_word, optional_type}
 use Rattle.expr_reading.specs.declared.wanted.Wanted.TheVariants as wanted
-use Rattle.expr_reading.specs.ExprReading.{Otherwise, last_branch, read_expr, read_local, wrapped_end}
+use Rattle.expr_reading.specs.ExprReading.{Otherwise, last_branch, cons_branch, branch_ends, else_branch, no_cases, next_case, read_expr, read_local}
+use Rattle.expr_reading.specs.ExprReading.{wrapped_end}
 use Rattle.expr_forms.specs.declared.branches.Otherwise.{Otherwise as Behind}
 use Rattle.expr_forms.specs.declared.branches.Otherwise.TheVariants as behind
 use Rattle.expr_parts.specs.Rows.{branch_of}
@@ -16,6 +17,18 @@ use Rattle.expr_parts.specs.Rows.{branch_of}
 abbrev pub otherwise_of : Behind → Otherwise
 otherwise_of (behind.Last e) = last_branch (view e.value)
 otherwise_of (behind.If b) = branch_of b
+
+-- each `else if`, and the last `else`
+abbrev pub else_tail : ℕ → List Tok → Tail × List Tok
+else_tail d ts = many no_else cons_branch branch_ends (else_branch (read_expr d) d) d ts
+
+-- what is made of cases: whether a `|` is before the first, the first, and the others
+abbrev pub OfCases : Type 0
+OfCases = Bool → Case → Cases → Expr
+
+-- further cases
+abbrev pub more_cases : ℕ → List Tok → Cases × List Tok
+more_cases d ts = many no_case more_case no_cases (next_case (read_expr d) d) d ts
 
 -- after the pattern of a default value and its type
 abbrev pub default_end : ℕ → Name → ℕ → Pat → Option (List Tok) → Read Param

@@ -4,8 +4,7 @@ ghost use Rattle.std.specs.Prelude.{◌≤◌, length, Some};
 ghost use Rattle.rotor_base.specs.Limits.{max_file_bytes};
 ghost use Rattle.ml_trees.specs.Tree as pure;
 ghost use Rattle.ml_trees.specs.View.{view, view_name, view_type, view_pat, view_binding, bindings, params};
-ghost use Rattle.token_reading.specs.Steps.{many, always};
-ghost use Rattle.token_reading.specs.Gives.{Gives};
+ghost use Rattle.token_reading.specs.Gives.{Gives, GivesAt};
 ghost use Rattle.token_reading.specs.Tokens.{from};
 ghost use Rattle.expr_reading.specs.ExprReading as r;
 ghost use Rattle.expr_reading.specs.ExprReading.{read_expr};
@@ -29,7 +28,7 @@ impl<
             usize,
         ) -> Result<(Box<Expr>, usize), ReadError>,
 > Forms<F> {
-    /// A type or none, `=` and an expression.
+    /// A type or none, `=` and an expression. The errors are `Syntax` and `Memory`.
     #[tactic(auto, unfolding(expr_reading::specs::ExprReading::bound))]
     #[inline(never)]
     pub fn read_bound(
@@ -47,7 +46,7 @@ impl<
         Ok(((run, equals, value), at))
     }
 
-    /// A pattern and what it is bound to.
+    /// A pattern and what it is bound to. The errors are `Syntax` and `Memory`.
     #[tactic(auto, using(ml_trees::proofs::Variants::binding_views))]
     #[inline(never)]
     pub fn plain_binding(
@@ -78,7 +77,7 @@ impl<
     ) -> Result<(Box<Binding>, usize), ReadError>
         requires nests { Nests self.now.grammar.depth (F.pre self.now.grammar.sub) (F.post self.now.grammar.sub) }
         requires few { length tokens.now ≤ max_file_bytes }
-        ensures { Gives (λ x. (view_binding x.0.value, from tokens.now x.1)) result (r.named_binding (read_expr self.now.grammar.depth) self.now.grammar.depth (from tokens.now start) (view_name name) (params given.items) (from tokens.now at)) }
+        ensures { GivesAt (λ b. view_binding b.value) tokens.now result (r.named_binding (read_expr self.now.grammar.depth) self.now.grammar.depth (from tokens.now start) (view_name name) (params given.items) (from tokens.now at)) }
     {
         if given.len() == 0 {
             return self.plain_binding(tokens, start);
@@ -90,7 +89,7 @@ impl<
         ))
     }
 
-    /// A binding.
+    /// A binding. The errors are `Syntax` and `Memory`.
     #[tactic(auto, unfolding(expr_reading::specs::ExprReading::binding))]
     #[inline(never)]
     pub fn binding(
@@ -112,7 +111,7 @@ impl<
         }
     }
 
-    /// The next binding, behind its `and`.
+    /// The next binding, behind its `and`. The errors are `Syntax` and `Memory`.
     #[inline(never)]
     pub fn next_binding(
         &self,
@@ -127,7 +126,7 @@ impl<
         self.binding(tokens, at)
     }
 
-    /// Further bindings, as long as each can be read whole.
+    /// Further bindings, as long as each can be read whole. `Memory` is the only error.
     #[inline(never)]
     pub fn more_bindings(
         &self,
@@ -136,7 +135,7 @@ impl<
     ) -> Result<(Vec<Binding>, usize), ReadError>
         requires nests { Nests self.now.grammar.depth (F.pre self.now.grammar.sub) (F.post self.now.grammar.sub) }
         requires few { length tokens.now ≤ max_file_bytes }
-        ensures { Gives (λ x. (bindings x.0.items, from tokens.now x.1)) result (Some (many pure.no_binding pure.more_binding always (r.next_binding (read_expr self.now.grammar.depth) self.now.grammar.depth) self.now.grammar.depth (from tokens.now at))) }
+        ensures { Gives (λ x. (bindings x.0.items, from tokens.now x.1)) result (Some (r.more_bindings (read_expr self.now.grammar.depth) self.now.grammar.depth (from tokens.now at))) }
     {
         let mut found = Vec::new(self.grammar.alloc);
         let mut at = at;
@@ -153,7 +152,7 @@ impl<
         Ok((found, at))
     }
 
-    /// Bindings between `and`.
+    /// Bindings between `and`. The errors are `Syntax` and `Memory`.
     #[tactic(auto, unfolding(expr_reading::specs::ExprReading::bindings))]
     #[inline(never)]
     pub fn all_bindings(

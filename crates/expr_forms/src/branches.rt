@@ -2,15 +2,13 @@
 
 ghost use Rattle.std.specs.Prelude.{◌≤◌, ◌<◌, ◌+◌, length, Some};
 ghost use Rattle.rotor_base.specs.Limits.{max_file_bytes};
-ghost use Rattle.ml_trees.specs.Tree as pure;
 ghost use Rattle.ml_trees.specs.View.{view, tail};
-ghost use Rattle.token_reading.specs.Steps.{many};
 ghost use Rattle.token_reading.specs.Gives.{Gives};
 ghost use Rattle.token_reading.specs.Tokens.{from};
 ghost use Rattle.expr_reading.specs.ExprReading as r;
 ghost use Rattle.expr_reading.specs.ExprReading.{read_expr};
 ghost use Rattle.expr_parts.specs.Reads.{Nests};
-ghost use Rattle.expr_forms.specs.Forms.{otherwise_of};
+ghost use Rattle.expr_forms.specs.Forms.{else_tail, otherwise_of};
 
 use crate::readers::Forms;
 use expr_parts::{Edge, on_edge};
@@ -37,7 +35,7 @@ impl<
             usize,
         ) -> Result<(Box<Expr>, usize), ReadError>,
 > Forms<F> {
-    /// A condition, `then` and a branch.
+    /// A condition, `then` and a branch. The errors are `Syntax` and `Memory`.
     #[tactic(auto, unfolding(expr_reading::specs::ExprReading::then_branch))]
     #[inline(never)]
     pub fn then_branch(
@@ -55,7 +53,7 @@ impl<
         Ok(((test, then), at))
     }
 
-    /// An `else` and a branch, or an `else if`.
+    /// An `else` and a branch, or an `else if`. The errors are `Syntax` and `Memory`.
     #[tactic(auto, unfolding(expr_reading::specs::ExprReading::else_branch))]
     #[inline(never)]
     pub fn else_branch(
@@ -81,7 +79,7 @@ impl<
         Ok((Otherwise::Last(last), at))
     }
 
-    /// Each `else if`, and the last `else`.
+    /// Each `else if`, and the last `else`. `Memory` is the only error.
     #[inline(never)]
     pub fn if_tail(
         &self,
@@ -90,7 +88,7 @@ impl<
     ) -> Result<((Vec<Branch>, Option<Box<Expr>>), usize), ReadError>
         requires nests { Nests self.now.grammar.depth (F.pre self.now.grammar.sub) (F.post self.now.grammar.sub) }
         requires few { length tokens.now ≤ max_file_bytes }
-        ensures { Gives (λ x. (tail x.0.0.items x.0.1, from tokens.now x.1)) result (Some (many pure.no_else r.cons_branch r.branch_ends (r.else_branch (read_expr self.now.grammar.depth) self.now.grammar.depth) self.now.grammar.depth (from tokens.now at))) }
+        ensures { Gives (λ x. (tail x.0.0.items x.0.1, from tokens.now x.1)) result (Some (else_tail self.now.grammar.depth (from tokens.now at))) }
     {
         let mut found = Vec::new(self.grammar.alloc);
         let mut at = at;
@@ -116,7 +114,7 @@ impl<
         Ok(((found, None), at))
     }
 
-    /// The same behind a branch, if it cannot take them.
+    /// The same behind a branch, if it cannot take them. `Memory` is the only error.
     #[inline(never)]
     pub fn rest_branches(
         &self,
@@ -134,7 +132,7 @@ impl<
         self.if_tail(tokens, at)
     }
 
-    /// After the `if` at a place.
+    /// After the `if` at a place. The errors are `Syntax` and `Memory`.
     #[tactic(auto, unfolding(expr_reading::specs::ExprReading::if_expr), using(ml_trees::proofs::Variants::expr_views))]
     #[inline(never)]
     pub fn if_expr(

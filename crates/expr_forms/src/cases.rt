@@ -4,12 +4,12 @@ ghost use Rattle.std.specs.Prelude.{◌≡◌, ◌≤◌, ◌<◌, ◌+◌, Bool
 ghost use Rattle.rotor_base.specs.Limits.{max_file_bytes};
 ghost use Rattle.ml_trees.specs.Tree as pure;
 ghost use Rattle.ml_trees.specs.View.{view, view_pat, view_case, maybe, cases};
-ghost use Rattle.token_reading.specs.Steps.{many};
-ghost use Rattle.token_reading.specs.Gives.{Gives};
+ghost use Rattle.token_reading.specs.Gives.{Gives, GivesAt};
 ghost use Rattle.token_reading.specs.Tokens.{from};
 ghost use Rattle.expr_reading.specs.ExprReading as r;
 ghost use Rattle.expr_reading.specs.ExprReading.{read_expr};
 ghost use Rattle.expr_parts.specs.Reads.{Nests};
+ghost use Rattle.expr_forms.specs.Forms.{more_cases, OfCases};
 
 use crate::readers::Forms;
 use expr_parts::{Edge, first_bar, on_edge, push_boxed};
@@ -29,7 +29,7 @@ impl<
             usize,
         ) -> Result<(Box<Expr>, usize), ReadError>,
 > Forms<F> {
-    /// A `when` and a guard, or none.
+    /// A `when` and a guard, or none. The errors are `Syntax` and `Memory`.
     #[inline(never)]
     pub fn guard(
         &self,
@@ -49,7 +49,7 @@ impl<
         }
     }
 
-    /// A case.
+    /// A case. The errors are `Syntax` and `Memory`.
     #[tactic(auto, unfolding(expr_reading::specs::ExprReading::one_case))]
     #[inline(never)]
     pub fn case(&self, tokens: &TokenTable<'_>, at: usize) -> Result<(Box<Case>, usize), ReadError>
@@ -64,7 +64,7 @@ impl<
         Ok((case_of(self.grammar.alloc, pat, guard, body)?, at))
     }
 
-    /// The next case, behind its `|`.
+    /// The next case, behind its `|`. The errors are `Syntax` and `Memory`.
     #[inline(never)]
     pub fn next_case(
         &self,
@@ -79,7 +79,8 @@ impl<
         self.case(tokens, at)
     }
 
-    /// Further cases, as long as each can be read whole and none of the last one could take them.
+    /// Further cases, as long as each can be read whole and none of the last one could take them. `Memory` is the only
+    /// error.
     #[inline(never)]
     pub fn more_cases(
         &self,
@@ -88,7 +89,7 @@ impl<
     ) -> Result<(Vec<Case>, usize), ReadError>
         requires nests { Nests self.now.grammar.depth (F.pre self.now.grammar.sub) (F.post self.now.grammar.sub) }
         requires few { length tokens.now ≤ max_file_bytes }
-        ensures { Gives (λ x. (cases x.0.items, from tokens.now x.1)) result (Some (many pure.no_case pure.more_case r.no_cases (r.next_case (read_expr self.now.grammar.depth) self.now.grammar.depth) self.now.grammar.depth (from tokens.now at))) }
+        ensures { Gives (λ x. (cases x.0.items, from tokens.now x.1)) result (Some (more_cases self.now.grammar.depth (from tokens.now at))) }
     {
         let mut found = Vec::new(self.grammar.alloc);
         let mut at = at;
@@ -109,7 +110,7 @@ impl<
         Ok((found, at))
     }
 
-    /// The cases behind the first, if it cannot take them.
+    /// The cases behind the first, if it cannot take them. `Memory` is the only error.
     #[inline(never)]
     pub fn rest_cases(
         &self,
@@ -127,7 +128,7 @@ impl<
         self.more_cases(tokens, at)
     }
 
-    /// Cases between `|`, with or without a `|` before the first.
+    /// Cases between `|`, with or without a `|` before the first. The errors are `Syntax` and `Memory`.
     #[tactic(auto, unfolding(expr_reading::specs::ExprReading::all_cases))]
     #[inline(never)]
     pub fn all_cases(
@@ -137,7 +138,7 @@ impl<
     ) -> Result<((bool, Box<Case>, Vec<Case>), usize), ReadError>
         requires nests { Nests self.now.grammar.depth (F.pre self.now.grammar.sub) (F.post self.now.grammar.sub) }
         requires few { length tokens.now ≤ max_file_bytes }
-        ensures { (grown : Bool → pure.Case → pure.Cases → pure.Expr) → Gives (λ x. (grown x.0.0 (view_case x.0.1.value) (cases x.0.2.items), from tokens.now x.1)) result (r.all_cases (read_expr self.now.grammar.depth) self.now.grammar.depth grown (from tokens.now at)) }
+        ensures { (grown : OfCases) → GivesAt (λ c. grown c.0 (view_case c.1.value) (cases c.2.items)) tokens.now result (r.all_cases (read_expr self.now.grammar.depth) self.now.grammar.depth grown (from tokens.now at)) }
     {
         let (bar, at) = first_bar(tokens, at);
         let (first, at) = self.case(tokens, at)?;
@@ -145,7 +146,7 @@ impl<
         Ok(((bar, first, rest), at))
     }
 
-    /// After the `function` at a place.
+    /// After the `function` at a place. The errors are `Syntax` and `Memory`.
     #[tactic(auto, using(ml_trees::proofs::Variants::expr_views))]
     #[inline(never)]
     pub fn function_expr(
@@ -173,7 +174,7 @@ impl<
         ))
     }
 
-    /// After the `match` at a place.
+    /// After the `match` at a place. The errors are `Syntax` and `Memory`.
     #[tactic(auto, unfolding(expr_reading::specs::ExprReading::match_expr), using(ml_trees::proofs::Variants::expr_views))]
     #[inline(never)]
     pub fn match_expr(
@@ -204,7 +205,7 @@ impl<
         ))
     }
 
-    /// After the `try` at a place.
+    /// After the `try` at a place. The errors are `Syntax` and `Memory`.
     #[tactic(auto, unfolding(expr_reading::specs::ExprReading::match_expr), using(ml_trees::proofs::Variants::expr_views))]
     #[inline(never)]
     pub fn try_expr(

@@ -29,7 +29,7 @@ impl<
             usize,
         ) -> Result<(Box<Expr>, usize), ReadError>,
 > Forms<F> {
-    /// The bindings and the body of the `let` at `start`.
+    /// The bindings and the body of the `let` at `start`. The errors are `Syntax` and `Memory`.
     #[tactic(auto, unfolding(expr_reading::specs::ExprReading::let_values), using(ml_trees::proofs::Variants::expr_views))]
     #[inline(never)]
     pub fn let_values(
@@ -58,7 +58,7 @@ impl<
         Ok((Box::new(self.grammar.alloc, whole)?, at))
     }
 
-    /// After the `let open` at `start`.
+    /// After the `let open` at `start`. The errors are `Syntax` and `Memory`.
     #[tactic(auto, unfolding(expr_reading::specs::ExprReading::let_open), using(ml_trees::proofs::Variants::expr_views))]
     #[inline(never)]
     pub fn let_open(
@@ -167,7 +167,7 @@ impl<
         self.module_named(tokens, start, name, at)
     }
 
-    /// After the `let` at a place.
+    /// After the `let` at a place. The errors are `Syntax` and `Memory`.
     #[tactic(auto, unfolding(expr_reading::specs::ExprReading::let_expr))]
     #[inline(never)]
     pub fn let_expr(
@@ -217,7 +217,7 @@ impl<
         Ok((Box::new(self.grammar.alloc, whole)?, at))
     }
 
-    /// After the `fun` at a place.
+    /// After the `fun` at a place. The errors are `Syntax` and `Memory`.
     #[tactic(auto, unfolding(expr_reading::specs::ExprReading::fun_expr))]
     #[inline(never)]
     pub fn fun_expr(

@@ -6,7 +6,7 @@ ghost use Rattle.ml_trees.specs.Tree as pure;
 ghost use Rattle.ml_trees.specs.View.{view, view_word, view_words, view_type, view_pat, view_param, params};
 ghost use Rattle.token_reading.specs.Steps.{many, always};
 ghost use Rattle.token_reading.specs.PatReading.{read_pat};
-ghost use Rattle.token_reading.specs.Gives.{name_at, Gives};
+ghost use Rattle.token_reading.specs.Gives.{name_at, Gives, GivesAt};
 ghost use Rattle.token_reading.specs.Tokens.{from};
 ghost use Rattle.expr_reading.specs.ExprReading as r;
 ghost use Rattle.expr_reading.specs.ExprReading.{read_expr};
@@ -37,7 +37,7 @@ impl<
             usize,
         ) -> Result<(Box<Expr>, usize), ReadError>,
 > Forms<F> {
-    /// A pattern.
+    /// A pattern. The errors are `Syntax` and `Memory`.
     #[inline(never)]
     pub fn pattern(&self, tokens: &TokenTable<'_>, at: usize) -> Result<(Pat, usize), ReadError>
         requires few { length tokens.now ≤ max_file_bytes }
@@ -52,7 +52,7 @@ impl<
         )
     }
 
-    /// The same, in a box.
+    /// The same, in a box. The errors are `Syntax` and `Memory`.
     #[inline(never)]
     pub fn boxed_pattern(
         &self,
@@ -66,9 +66,13 @@ impl<
         Ok((Box::new(self.grammar.alloc, pat)?, at))
     }
 
-    /// A Simple pattern.
+    /// A Simple pattern. The errors are `Syntax` and `Memory`.
     #[inline(never)]
-    pub fn simple(&self, tokens: &TokenTable<'_>, at: usize) -> Result<(Box<Pat>, usize), ReadError>
+    pub fn read_simple(
+        &self,
+        tokens: &TokenTable<'_>,
+        at: usize,
+    ) -> Result<(Box<Pat>, usize), ReadError>
         requires few { length tokens.now ≤ max_file_bytes }
         ensures { Gives (λ x. (view_pat x.0.value, from tokens.now x.1)) result (r.simple_at self.now.grammar.depth (from tokens.now at)) }
     {
@@ -127,7 +131,7 @@ impl<
         self.default_end(tokens, label, paren, pat, run, at)
     }
 
-    /// The parameter that the label at a place begins.
+    /// The parameter that the label at a place begins. The errors are `Syntax` and `Memory`.
     #[tactic(auto, using(ml_trees::proofs::Variants::param_views))]
     #[inline(never)]
     pub fn label_param(
@@ -144,7 +148,7 @@ impl<
         if !has_colon(text(tokens, at)) {
             return Ok((Box::new(self.grammar.alloc, Param::Label(label))?, at + 1));
         }
-        match self.simple(tokens, at + 1) {
+        match self.read_simple(tokens, at + 1) {
             Ok((pat, after)) => Ok((with_label(self.grammar.alloc, label, pat)?, after)),
             Err(ReadError::Syntax) => {
                 if !is_optional(text(tokens, at)) {
@@ -176,7 +180,7 @@ impl<
         ensures { Gives (λ x. (view_param x.0.value, from tokens.now x.1)) result (r.wrapped_end (read_expr self.now.grammar.depth) self.now.grammar.depth (first + 1) optional paren (view_word name) (view_type run) (from tokens.now at)) }
     {
         if has_fixed(tokens, Fixed::RightParen, at) {
-            let param = wrapped(
+            let param = make_wrapped(
                 self.grammar.alloc,
                 number(first),
                 optional,
@@ -193,7 +197,15 @@ impl<
         let (value, at) = self.grammar.sub(tokens, Wanted::Expression, at)?;
         let at = expect(tokens, Fixed::RightParen, at)?;
         let first = number(first);
-        let param = wrapped_default(self.grammar.alloc, first, paren, name, run, equals, value)?;
+        let param = make_wrapped_default(
+            self.grammar.alloc,
+            first,
+            paren,
+            name,
+            run,
+            equals,
+            value,
+        )?;
         Ok((param, at))
     }
 
@@ -235,7 +247,7 @@ impl<
         self.wrapped_label(tokens, at, optional, paren, after)
     }
 
-    /// Names of types.
+    /// Names of types. `Memory` is the only error.
     #[inline(never)]
     pub fn more_types(
         &self,
@@ -284,7 +296,7 @@ impl<
         Ok((Param::Types { open, names }, after))
     }
 
-    /// After the `( type` at a place: names of types.
+    /// After the `( type` at a place: names of types. The errors are `Syntax` and `Memory`.
     #[inline(never)]
     pub fn types_param(
         &self,
@@ -294,14 +306,14 @@ impl<
         requires nests { Nests self.now.grammar.depth (F.pre self.now.grammar.sub) (F.post self.now.grammar.sub) }
         requires few { length tokens.now ≤ max_file_bytes }
         requires within { at < length tokens.now }
-        ensures { Gives (λ x. (view_param x.0.value, from tokens.now x.1)) result (r.types_end (read_expr self.now.grammar.depth) self.now.grammar.depth (at + 1) (many [] ◌∷◌ always lower_word self.now.grammar.depth (from tokens.now (at + 2)))) }
+        ensures { GivesAt (λ p. view_param p.value) tokens.now result (r.types_end (read_expr self.now.grammar.depth) self.now.grammar.depth (at + 1) (many [] ◌∷◌ always lower_word self.now.grammar.depth (from tokens.now (at + 2)))) }
     {
         let (names, after) = self.more_types(tokens, at + 2)?;
         let (param, after) = self.types_end(tokens, at, names, after)?;
         Ok((Box::new(self.grammar.alloc, param)?, after))
     }
 
-    /// A parameter.
+    /// A parameter. The errors are `Syntax` and `Memory`.
     #[tactic(auto, unfolding(expr_reading::specs::ExprReading::param), using(ml_trees::proofs::Variants::param_views))]
     #[inline(never)]
     pub fn param(
@@ -321,17 +333,17 @@ impl<
                 if has_fixed(tokens, Fixed::Type, at + 1) {
                     return self.types_param(tokens, at);
                 }
-                let (pat, after) = self.simple(tokens, at)?;
+                let (pat, after) = self.read_simple(tokens, at)?;
                 Ok((pattern_param(self.grammar.alloc, pat)?, after))
             }
             _ => {
-                let (pat, after) = self.simple(tokens, at)?;
+                let (pat, after) = self.read_simple(tokens, at)?;
                 Ok((pattern_param(self.grammar.alloc, pat)?, after))
             }
         }
     }
 
-    /// Further parameters, as long as each can be read whole.
+    /// Further parameters, as long as each can be read whole. `Memory` is the only error.
     #[inline(never)]
     pub fn more_params(
         &self,
@@ -340,7 +352,7 @@ impl<
     ) -> Result<(Vec<Param>, usize), ReadError>
         requires nests { Nests self.now.grammar.depth (F.pre self.now.grammar.sub) (F.post self.now.grammar.sub) }
         requires few { length tokens.now ≤ max_file_bytes }
-        ensures { Gives (λ x. (params x.0.items, from tokens.now x.1)) result (Some (many pure.no_param pure.more_param always (r.param (read_expr self.now.grammar.depth) self.now.grammar.depth) self.now.grammar.depth (from tokens.now at))) }
+        ensures { Gives (λ x. (params x.0.items, from tokens.now x.1)) result (Some (r.more_params (read_expr self.now.grammar.depth) self.now.grammar.depth (from tokens.now at))) }
     {
         let mut found = Vec::new(self.grammar.alloc);
         let mut at = at;
@@ -409,7 +421,7 @@ fn with_default(
 /// A label in parentheses, and its type or none.
 #[inline(never)]
 #[tactic(auto, using(ml_trees::proofs::Variants::param_views))]
-fn wrapped(
+fn make_wrapped(
     alloc: Global,
     at: u32,
     optional: bool,
@@ -434,7 +446,7 @@ fn wrapped(
 /// The same with a default value.
 #[inline(never)]
 #[tactic(auto, using(ml_trees::proofs::Variants::param_views))]
-fn wrapped_default(
+fn make_wrapped_default(
     alloc: Global,
     at: u32,
     paren: u32,

@@ -1,18 +1,17 @@
 -- The parts of a reading, as the functions of the code read them (own).
 use Rattle.std.specs.Prelude.{ℕ, ◌-◌, List, [], ◌∷◌, Bool, true, false, not, Option, Some, None}
 use Rattle.rotor_base.specs.declared.token.Class.TheVariants as class
-use Rattle.ml_trees.specs.declared.word.Word.{Word}
 use Rattle.ml_trees.specs.declared.expression.Expr.{Expr as Source}
 use Rattle.ml_trees.specs.declared.expression.Branch.{Branch}
 use Rattle.ml_trees.specs.declared.expression.LocalArgument.{LocalArgument}
 use Rattle.ml_trees.specs.declared.expression.LocalArgument.TheBlock as l
 use Rattle.ml_trees.specs.declared.fixed.Fixed.TheVariants as key
 use Rattle.ml_trees.specs.Tok.{Name, Tok, fixed, word}
-use Rattle.ml_trees.specs.Tree.{no_part, more_part, Expr, Constr, Tag, ConstrApply, TagApply, LocalPath, Links, no_link, Field, Fields, no_field}
+use Rattle.ml_trees.specs.Tree.{Parts, no_part, more_part, Expr, Constr, Tag, ConstrApply, TagApply, LocalPath, Links, no_link, Field, Fields, no_field}
 use Rattle.ml_trees.specs.Tree.{more_field}
 use Rattle.ml_trees.specs.WellFormed.{op_level, is_constr}
-use Rattle.ml_trees.specs.View.{view, view_tok, view_path, view_locals}
-use Rattle.token_reading.specs.Steps.{Read, ◌>>=◌, expect, many_if, always}
+use Rattle.ml_trees.specs.View.{view, view_path, view_locals}
+use Rattle.token_reading.specs.Steps.{Read, ◌>>=◌, expect, many, many_if, always}
 use Rattle.expr_reading.specs.declared.wanted.Wanted.TheVariants as wanted
 use Rattle.expr_reading.specs.ExprReading.{part_behind, grown_postfix, grown_seq, tier, operator_part, goes_on, cons_operand, grown_chain, read_expr}
 use Rattle.expr_reading.specs.ExprReading.{expr, enclosed, closed_by, no_form, last_of, ends_field, last_field, next_field, semicolon_if}
@@ -48,12 +47,20 @@ abbrev pub item_of : ℕ → Bool → Read Expr
 item_of d true = read_expr d wanted.Expression
 item_of d false = expr (read_expr d) d
 
+-- further items of a list, or of a sequence
+abbrev pub more_items : ℕ → Bool → List Tok → Links × List Tok
+more_items d deep ts = many no_link cons_link (λ x. no_form x.1) (semicolon_part (read_expr d) d (item_of d deep)) d ts
+
 -- what follows the first item
 abbrev pub row_rest : ℕ → Bool → Expr → List Tok → (Links × Bool) × List Tok
 row_rest d deep e ts =
     let more = many_if (no_form e) no_link cons_link (λ x. no_form x.1) (semicolon_part (read_expr d) d (item_of d deep)) d ts in
     let last = semicolon_if (no_form (last_of e more.0)) more.1 in
     ((more.0, last.0), last.1)
+
+-- further fields of a record
+abbrev pub more_fields : ℕ → List Tok → Fields × List Tok
+more_fields d ts = many no_field more_field ends_field (next_field (read_expr d) d) d ts
 
 -- what follows the first field
 abbrev pub fields_rest : ℕ → Field → List Tok → (Fields × Bool) × List Tok
@@ -74,14 +81,6 @@ base_with o = o >>= λ e. expect key.With e.1 >>= λ r. Some (e.0, r)
 abbrev pub dot_enclosed : ℕ → Read Expr
 dot_enclosed d ts = expect key.Dot ts >>= λ r. enclosed (read_expr d) d r
 
--- an operator and an operand behind which more was read
-abbrev pub operand_of : Word × Source → Tok × Expr × Bool
-operand_of x = (view_tok x.0, view x.1, true)
-
--- an expression behind a `,` behind which more was read
-abbrev pub comma_of : Source → Tok × Expr × Bool
-comma_of e = (fixed key.Comma, view e, true)
-
 -- a constructor or a tag with its argument
 abbrev pub given : Expr → Expr → Expr
 given (Constr path) e = ConstrApply path e
@@ -97,6 +96,10 @@ abbrev pub grown_tier : ℕ → ℕ → Expr → List Tok → Expr × List Tok
 grown_tier d m e ts =
     let more = many_if (goes_on e ts) no_link cons_operand (λ x. x.2) (operator_part (read_expr d) d (12 - m) (tier (read_expr d) d m)) d ts in
     (grown_chain (12 - m) e more.0, more.1)
+
+-- further parts behind an expression
+abbrev pub more_parts : ℕ → List Tok → Parts × List Tok
+more_parts d ts = many no_part more_part always (part_behind (read_expr d) d) d ts
 
 -- the parts behind an expression
 abbrev pub with_parts : ℕ → Expr → List Tok → Expr × List Tok

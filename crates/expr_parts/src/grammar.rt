@@ -38,7 +38,7 @@ impl<
             usize,
         ) -> Result<(Box<Expr>, usize), ReadError>,
 > Grammar<F> {
-    /// What is wanted at a place, read by `sub`, and the place after it.
+    /// What is wanted at a place, read by `sub`, and the place after it. The errors are `Syntax` and `Memory`.
     #[inline(never)]
     pub fn sub(
         &self,
@@ -53,7 +53,7 @@ impl<
         (self.sub)(self.alloc, tokens, self.depth, self.levels, wanted, at)
     }
 
-    /// The same, by value.
+    /// The same, by value. The errors are `Syntax` and `Memory`.
     #[inline(never)]
     pub fn value(
         &self,
@@ -69,7 +69,7 @@ impl<
         Ok((Box::into_inner(value), at))
     }
 
-    /// An `=` and an expression.
+    /// An `=` and an expression. The errors are `Syntax` and `Memory`.
     #[inline(never)]
     pub fn equals_value(
         &self,
@@ -85,9 +85,9 @@ impl<
         Ok(((equals, value), at))
     }
 
-    /// The same readers, one level deeper: an operand is deeper than its operator.
+    /// The same readers, one level deeper: an operand is deeper than its operator. `Memory` is the only error.
     #[inline(never)]
-    pub fn deeper(&self) -> Result<Grammar<F>, ReadError>
+    pub fn go_deeper(&self) -> Result<Grammar<F>, ReadError>
         ensures depth { IfOk result (λ g. g.depth ≡ self.now.depth) }
         ensures sub { IfOk result (λ g. g.sub ≡ self.now.sub) }
         ensures memory { IfErr result (λ e. e ≡ unread.Memory) }

@@ -11,7 +11,7 @@ use ml_trees::{Argument, Expr, Part, Word};
 use std::alloc::Global;
 use token_reading::ReadError;
 
-/// Adds to a row what a box holds.
+/// Adds to a row what a box holds. `Memory` is the only error.
 #[inline(never)]
 pub fn push_boxed<T: Drop>(row: &mut Vec<T>, next: Box<T>) -> Result<(), ReadError>
     ensures items { OnOk result (row.new.items ≡ row.old.items ++ next.value ∷ []) }
@@ -21,7 +21,7 @@ pub fn push_boxed<T: Drop>(row: &mut Vec<T>, next: Box<T>) -> Result<(), ReadErr
     Ok(())
 }
 
-/// Expressions between `;`, with or without a last `;`.
+/// Expressions between `;`, with or without a last `;`. `Memory` is the only error.
 #[tactic(auto, using(crate::proofs::Rows::grown, ml_trees::proofs::Variants::expr_views))]
 #[inline(never)]
 pub fn grown_seq(
@@ -38,7 +38,7 @@ pub fn grown_seq(
     Ok(Box::new(alloc, Expr::Seq { first, rest, last })?)
 }
 
-/// Operands between `:=` or `<-`.
+/// Operands between `:=` or `<-`. `Memory` is the only error.
 #[tactic(auto, using(crate::proofs::Rows::grown, ml_trees::proofs::Variants::expr_views))]
 #[inline(never)]
 pub fn grown_assign(
@@ -54,7 +54,7 @@ pub fn grown_assign(
     Ok(Box::new(alloc, Expr::Assign { first, rest })?)
 }
 
-/// Operands between `,`.
+/// Operands between `,`. `Memory` is the only error.
 #[tactic(auto, using(crate::proofs::Rows::grown, ml_trees::proofs::Variants::expr_views))]
 #[inline(never)]
 pub fn grown_tuple(alloc: Global, first: Box<Expr>, rest: Vec<Expr>) -> Result<Box<Expr>, ReadError>
@@ -66,7 +66,7 @@ pub fn grown_tuple(alloc: Global, first: Box<Expr>, rest: Vec<Expr>) -> Result<B
     Ok(Box::new(alloc, Expr::Tuple { first, rest })?)
 }
 
-/// Operands between operators of one level.
+/// Operands between operators of one level. `Memory` is the only error.
 #[tactic(auto, using(crate::proofs::Rows::grown, ml_trees::proofs::Variants::expr_views))]
 #[inline(never)]
 pub fn grown_chain(
@@ -83,7 +83,7 @@ pub fn grown_chain(
     Ok(Box::new(alloc, Expr::Chain { level, first, rest })?)
 }
 
-/// A function and its arguments.
+/// A function and its arguments. `Memory` is the only error.
 #[tactic(auto, using(crate::proofs::Rows::grown, ml_trees::proofs::Variants::expr_views))]
 #[inline(never)]
 pub fn grown_apply(
@@ -105,7 +105,7 @@ pub fn grown_apply(
     )?)
 }
 
-/// An expression and the parts behind it.
+/// An expression and the parts behind it. `Memory` is the only error.
 #[tactic(auto, using(crate::proofs::Rows::grown, ml_trees::proofs::Variants::expr_views))]
 #[inline(never)]
 pub fn grown_postfix(

@@ -18,6 +18,6 @@ pub use grown::{
 pub use local::local_module;
 pub use operators::level_at;
 pub use pieces::{
-    bang, closing, direction, first_bar, has_colon, is_literal, is_optional, path, path_from,
+    bang, direction, find_closing, first_bar, has_colon, is_literal, is_optional, path, path_from,
     read_closed, read_typed, semicolon_if, upper_word, variable,
 };

@@ -73,7 +73,8 @@ fn local_arguments(
     Ok((found, at))
 }
 
-/// The module of a `let module`, nested at most so deep and over at most so many levels.
+/// The module of a `let module`, nested at most so deep and over at most so many levels. The errors are `Syntax` and
+/// `Memory`.
 #[cycle(local)]
 #[tactic(auto, unfolding(expr_reading::specs::ExprReading::read_local, expr_reading::specs::ExprReading::local_module))]
 #[inline(never)]

@@ -48,7 +48,7 @@ pub fn first_bar(tokens: &TokenTable<'_>, at: usize) -> (bool, usize)
     }
 }
 
-/// An optional `!` behind `open`.
+/// An optional `!` behind `open`. `Memory` is the only error.
 #[inline(never)]
 pub fn bang(
     alloc: Global,
@@ -69,7 +69,7 @@ pub fn bang(
     }
 }
 
-/// A name of class Upper.
+/// A name of class Upper. The errors are `Syntax` and `Memory`.
 #[inline(never)]
 pub fn upper_word(
     alloc: Global,
@@ -85,7 +85,7 @@ pub fn upper_word(
     }
 }
 
-/// The path of a module.
+/// The path of a module. The errors are `Syntax` and `Memory`.
 #[inline(never)]
 pub fn path(
     alloc: Global,
@@ -102,7 +102,7 @@ pub fn path(
     }
 }
 
-/// The path that begins with the name at a place.
+/// The path that begins with the name at a place. `Memory` is the only error.
 #[inline(never)]
 pub fn path_from(
     alloc: Global,
@@ -120,7 +120,7 @@ pub fn path_from(
     Ok((Path { words }, after))
 }
 
-/// The variable of a `for`.
+/// The variable of a `for`. The errors are `Syntax` and `Memory`.
 #[inline(never)]
 pub fn variable(
     alloc: Global,
@@ -140,7 +140,7 @@ pub fn variable(
     }
 }
 
-/// Whether a `for` counts down.
+/// Whether a `for` counts down. The errors are `Syntax` and `Memory`.
 #[inline(never)]
 pub fn direction(tokens: &TokenTable<'_>, at: usize) -> Result<(bool, usize), ReadError>
     requires few { length tokens.now ≤ max_file_bytes }
@@ -154,6 +154,7 @@ pub fn direction(tokens: &TokenTable<'_>, at: usize) -> Result<(bool, usize), Re
 }
 
 /// After an expression in parentheses and its type: a `)`, or `:>`, a type and a `)`. `paren` is the place of the `(`.
+/// The errors are `Syntax` and `Memory`.
 #[tactic(auto, using(ml_trees::proofs::Variants::expr_views))]
 #[inline(never)]
 pub fn read_typed(
@@ -200,7 +201,8 @@ pub fn read_typed(
     }
 }
 
-/// After an expression in parentheses: a `)`, or a type and a `)`. `paren` is the place of the `(`.
+/// After an expression in parentheses: a `)`, or a type and a `)`. `paren` is the place of the `(`. The errors are
+/// `Syntax` and `Memory`.
 #[tactic(auto, using(ml_trees::proofs::Variants::expr_views))]
 #[inline(never)]
 pub fn read_closed(
@@ -284,7 +286,7 @@ pub fn is_optional(label: &[u8]) -> bool
 
 /// The word that closes a bracket.
 #[inline(never)]
-pub fn closing(bracket: Bracket) -> Fixed
+pub fn find_closing(bracket: Bracket) -> Fixed
     ensures value { result ≡ closing bracket }
     ensures plain { is_placed result ≡ false }
 {

@@ -79,7 +79,7 @@ fn with_arrow(
     }
 }
 
-/// The same for each arrow, from the last on.
+/// The same for each arrow, from the last on. The errors are `Syntax` and `Memory`.
 pub fn with_arrows(
     alloc: Global,
     before: Vec<Domain>,

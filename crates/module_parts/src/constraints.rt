@@ -39,7 +39,7 @@ fn sign(alloc: Global, tokens: &TokenTable<'_>, at: usize) -> Result<(Word, usiz
 }
 
 /// An optional `private` before a type, and the place after it.
-fn private(tokens: &TokenTable<'_>, at: usize) -> (bool, usize)
+fn read_private(tokens: &TokenTable<'_>, at: usize) -> (bool, usize)
     requires { length tokens.now ≤ max_file_bytes }
     ensures { (result.0, from tokens.now result.1) ≡ r.optional_private (from tokens.now at) }
 {
@@ -62,7 +62,7 @@ fn constraint(
     let at = expect(tokens, Fixed::Type, at)?;
     let (left, at) = type_run(alloc, tokens, at)?;
     let (sign, at) = sign(alloc, tokens, at)?;
-    let (private, at) = private(tokens, at);
+    let (private, at) = read_private(tokens, at);
     let (right, at) = type_run(alloc, tokens, at)?;
     Ok((
         Constraint {
@@ -130,7 +130,7 @@ fn with_clause(
     Ok((WithClause { first, rest }, at))
 }
 
-/// Each `with`, as long as it can be read whole.
+/// Each `with`, as long as it can be read whole. `Memory` is the only error.
 pub fn with_clauses(
     alloc: Global,
     tokens: &TokenTable<'_>,

@@ -12,4 +12,4 @@ mod sig_items;
 pub use arrows::{Domain, Step, with_arrows};
 pub use constraints::with_clauses;
 pub use modules::Modules;
-pub use names::{external, module_name, opened};
+pub use names::{external, module_name, read_opened};

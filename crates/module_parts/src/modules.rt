@@ -31,7 +31,7 @@ impl<
     G: Copy
         + Fn(Global, &TokenTable<'_>, usize, usize, usize) -> Result<(ModType, usize), ReadError>,
 > Modules<F, G> {
-    /// A module expression, read by `modules`.
+    /// A module expression, read by `modules`. The errors are `Syntax` and `Memory`.
     pub fn sub_module(
         &self,
         tokens: &TokenTable<'_>,
@@ -45,7 +45,7 @@ impl<
         (self.modules)(self.alloc, tokens, self.depth, self.levels, at)
     }
 
-    /// A module type, read by `types`.
+    /// A module type, read by `types`. The errors are `Syntax` and `Memory`.
     pub fn sub_type(
         &self,
         tokens: &TokenTable<'_>,

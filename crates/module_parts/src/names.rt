@@ -17,7 +17,7 @@ use token_reading::{
     Kind, ReadError, TokenTable, expect, expect_at, kind_at, number, type_run, value_name, word,
 };
 
-/// The name of a module, or `_`.
+/// The name of a module, or `_`. The errors are `Syntax` and `Memory`.
 pub fn module_name(
     alloc: Global,
     tokens: &TokenTable<'_>,
@@ -98,7 +98,7 @@ fn external_end(
     ))
 }
 
-/// After `external`: a name, its type, `=` and texts.
+/// After `external`: a name, its type, `=` and texts. The errors are `Syntax` and `Memory`.
 #[tactic(auto, unfolding(module_reading::specs::ModReading::external_rest))]
 pub fn external(
     alloc: Global,
@@ -117,9 +117,9 @@ pub fn external(
     external_end(name, run, equals, texts, at, tokens)
 }
 
-/// After `open`: a `!` or none, and the path of a module.
+/// After `open`: a `!` or none, and the path of a module. The errors are `Syntax` and `Memory`.
 #[tactic(auto, unfolding(module_reading::specs::ModReading::open_rest))]
-pub fn opened(
+pub fn read_opened(
     alloc: Global,
     tokens: &TokenTable<'_>,
     depth: usize,

@@ -2,13 +2,11 @@
 
 ghost use Rattle.std.specs.Prelude.{◌≤◌, ◌<◌, ◌+◌, length, Some};
 ghost use Rattle.rotor_base.specs.Limits.{max_file_bytes};
-ghost use Rattle.ml_trees.specs.Tree as pure;
 ghost use Rattle.ml_trees.specs.View as v;
 ghost use Rattle.token_reading.specs.Gives.{Gives};
 ghost use Rattle.token_reading.specs.Tokens.{from};
 ghost use Rattle.module_reading.specs.ModReading as r;
 ghost use Rattle.module_reading.specs.ModReading.{read_mod, read_type};
-ghost use Rattle.token_reading.specs.Steps.{many, always};
 ghost use Rattle.module_parts.specs.Reads.{ReadsModules, ReadsTypes};
 
 use crate::modules::Modules;
@@ -53,7 +51,7 @@ impl<
         ))
     }
 
-    /// A parameter.
+    /// A parameter. The errors are `Syntax` and `Memory`.
     #[tactic(auto, unfolding(module_reading::specs::ModReading::functor_param), using(ml_trees::proofs::Variants::functor_param_views))]
     #[inline(never)]
     pub fn functor_param(
@@ -75,7 +73,7 @@ impl<
         self.named_param(tokens, at, at + 1)
     }
 
-    /// Parameters, as long as each can be read whole.
+    /// Parameters, as long as each can be read whole. `Memory` is the only error.
     #[inline(never)]
     pub fn functor_params(
         &self,
@@ -85,7 +83,7 @@ impl<
         requires modules { ReadsModules self.now.depth (F.pre self.now.modules) (F.post self.now.modules) }
         requires types { ReadsTypes self.now.depth (G.pre self.now.types) (G.post self.now.types) }
         requires few { length tokens.now ≤ max_file_bytes }
-        ensures { Gives (λ x. (v.functor_params x.0.items, from tokens.now x.1)) result (Some (many pure.no_functor_param pure.more_functor_param always (r.functor_param (read_mod self.now.depth) (read_type self.now.depth) self.now.depth) self.now.depth (from tokens.now at))) }
+        ensures { Gives (λ x. (v.functor_params x.0.items, from tokens.now x.1)) result (Some (r.functor_params (read_mod self.now.depth) (read_type self.now.depth) self.now.depth (from tokens.now at))) }
     {
         let mut found = Vec::new(self.alloc);
         let mut at = at;
@@ -102,7 +100,7 @@ impl<
         Ok((found, at))
     }
 
-    /// A `:` and a module type, or none.
+    /// A `:` and a module type, or none. The errors are `Syntax` and `Memory`.
     #[inline(never)]
     pub fn signature(
         &self,

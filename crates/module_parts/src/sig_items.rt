@@ -2,10 +2,8 @@
 
 ghost use Rattle.std.specs.Prelude.{◌≡◌, ◌≤◌, ◌<◌, ◌+◌, ◌∷◌, length, Some};
 ghost use Rattle.rotor_base.specs.Limits.{max_file_bytes};
-ghost use Rattle.ml_trees.specs.Tree as pure;
 ghost use Rattle.ml_trees.specs.declared.fixed.Fixed.TheVariants as key;
 ghost use Rattle.ml_trees.specs.Tok.{placed};
-ghost use Rattle.token_reading.specs.Steps.{many, always};
 ghost use Rattle.ml_trees.specs.View as v;
 ghost use Rattle.token_reading.specs.Gives.{Gives};
 ghost use Rattle.token_reading.specs.Tokens.{from};
@@ -15,7 +13,7 @@ ghost use Rattle.module_parts.specs.Parts as p;
 ghost use Rattle.module_parts.specs.Reads.{ReadsModules, ReadsTypes};
 
 use crate::modules::Modules;
-use crate::names::{external, module_name, opened};
+use crate::names::{external, module_name, read_opened};
 use expr_parts::{path, upper_word};
 use ml_trees::{Fixed, ModExpr, ModType, Open, SigItem};
 use rotor_base::Class;
@@ -185,7 +183,7 @@ impl<
             }
             Kind::Fixed(Fixed::Module) => self.module_sig(tokens, at),
             Kind::Fixed(Fixed::Open) => {
-                let ((bang, path), after) = opened(self.alloc, tokens, self.depth, at + 1)?;
+                let ((bang, path), after) = read_opened(self.alloc, tokens, self.depth, at + 1)?;
                 let at = number(at);
                 Ok((SigItem::SigOpen(Open { at, bang, path }), after))
             }
@@ -198,7 +196,7 @@ impl<
         }
     }
 
-    /// Items, as long as each can be read whole.
+    /// Items, as long as each can be read whole. `Memory` is the only error.
     #[inline(never)]
     pub fn sig_items(
         &self,
@@ -208,7 +206,7 @@ impl<
         requires modules { ReadsModules self.now.depth (F.pre self.now.modules) (F.post self.now.modules) }
         requires types { ReadsTypes self.now.depth (G.pre self.now.types) (G.post self.now.types) }
         requires few { length tokens.now ≤ max_file_bytes }
-        ensures { Gives (λ x. (v.sig_items x.0.items, from tokens.now x.1)) result (Some (many pure.no_sig_item pure.more_sig_item always (r.sig_item (read_mod self.now.depth) (read_type self.now.depth) self.now.depth) self.now.depth (from tokens.now at))) }
+        ensures { Gives (λ x. (v.sig_items x.0.items, from tokens.now x.1)) result (Some (r.sig_items (read_mod self.now.depth) (read_type self.now.depth) self.now.depth (from tokens.now at))) }
     {
         let mut found = Vec::new(self.alloc);
         let mut at = at;

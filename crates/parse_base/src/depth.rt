@@ -328,7 +328,7 @@ pub fn scan_depth(alloc: Global, tokens: &[Token<'_>]) -> Result<Option<u32>, Me
     deep_token(alloc, &table)
 }
 
-/// The same of a table of the tokens.
+/// The same of a table of the tokens. `Memory` is the only error.
 pub fn deep_token(alloc: Global, tokens: &TokenTable<'_>) -> Result<Option<u32>, Memory>
     requires { length tokens.now ≤ max_file_bytes }
     ensures { IfOk result (DeepIs tokens.now) }

@@ -15,7 +15,15 @@ use Rattle.ml_trees.specs.View.{view, view_tok, ops, commas}
 use Rattle.token_reading.specs.Steps.{Read, ◌>>=◌, expect}
 use Rattle.token_reading.proofs.Turns.{before, before_last, Left, pushed, turn_off}
 use Rattle.expr_reading.specs.ExprReading.{cons_operand, operator_part, goes_on, read_expr, unary, tier}
-use Rattle.expr_parts.specs.Rows.{operand_of, comma_of, grown_tier}
+use Rattle.expr_parts.specs.Rows.{grown_tier}
+
+-- an operator and an operand behind which more was read
+abbrev pub operand_of : Word × Source → Tok × Expr × Bool
+operand_of x = (view_tok x.0, view x.1, true)
+
+-- an expression behind a `,` behind which more was read
+abbrev pub comma_of : Source → Tok × Expr × Bool
+comma_of e = (fixed key.Comma, view e, true)
 
 pub ops_before : (xs : List (Word × Source)) → before cons_operand (map operand_of xs) no_link ≡ ops xs
 ops_before [] = refl

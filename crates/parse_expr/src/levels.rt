@@ -5,7 +5,6 @@ ghost use Rattle.rotor_base.specs.Limits.{max_file_bytes};
 ghost use Rattle.ml_trees.specs.Tree as pure;
 ghost use Rattle.ml_trees.specs.declared.fixed.Fixed.TheVariants as key;
 ghost use Rattle.ml_trees.specs.View.{view, view_tok, links, commas, ops};
-ghost use Rattle.token_reading.specs.Steps.{many};
 ghost use Rattle.token_reading.specs.Gives.{name_at, Gives};
 ghost use Rattle.token_reading.specs.Tokens.{from};
 ghost use Rattle.expr_reading.specs.declared.wanted.Wanted.TheVariants as wanted;
@@ -13,8 +12,8 @@ ghost use Rattle.expr_reading.specs.ExprReading as r;
 ghost use Rattle.expr_reading.specs.ExprReading.{read_expr};
 ghost use Rattle.expr_parts.specs.Reads.{Nests};
 ghost use Rattle.ml_trees.specs.Tok.{fixed};
-ghost use Rattle.parse_expr.specs.Parts.{operator_of};
-ghost use Rattle.expr_parts.specs.Rows.{link_of, item_of, row_rest, wrapped_by, grown_tier, with_steps};
+ghost use Rattle.parse_expr.specs.Parts.{operator_of, next_operand, more_operands, next_in_tuple, more_in_tuple};
+ghost use Rattle.expr_parts.specs.Rows.{link_of, item_of, more_items, row_rest, wrapped_by, grown_tier, with_steps};
 
 use crate::readers::Readers;
 use expr_atoms::Atoms;
@@ -66,7 +65,7 @@ impl<
     /// A form of level 1 or 2, or an expression of levels 13 to 16.
     #[tactic(auto, unfolding(expr_reading::specs::ExprReading::unary), using(crate::proofs::Lets::unary_lacks))]
     #[inline(never)]
-    pub(crate) fn unary(
+    pub(crate) fn read_unary(
         &self,
         tokens: &TokenTable<'_>,
         at: usize,
@@ -116,10 +115,10 @@ impl<
         requires nests { Nests self.now.grammar.depth (F.pre self.now.grammar.sub) (F.post self.now.grammar.sub) }
         requires few { length tokens.now ≤ max_file_bytes }
         requires low { tier ≤ 9 }
-        ensures { Gives (λ x. ((view_tok x.0.0, view x.0.1, x.0.2), from tokens.now x.1)) result (r.operator_part (read_expr self.now.grammar.depth) self.now.grammar.depth (12 - tier) (r.tier (read_expr self.now.grammar.depth) self.now.grammar.depth tier) (from tokens.now at)) }
+        ensures { Gives (λ x. ((view_tok x.0.0, view x.0.1, x.0.2), from tokens.now x.1)) result (next_operand self.now.grammar.depth tier (from tokens.now at)) }
     {
         let (operator, at) = operator_word(self.grammar.alloc, tokens, 12 - tier, at)?;
-        let (operand, at) = self.deeper()?.tier(tokens, tier, at)?;
+        let (operand, at) = self.go_deeper()?.tier(tokens, tier, at)?;
         let goes_on = goes_on(&operand, tokens, at);
         Ok(((operator, Box::into_inner(operand), goes_on), at))
     }
@@ -136,7 +135,7 @@ impl<
         requires nests { Nests self.now.grammar.depth (F.pre self.now.grammar.sub) (F.post self.now.grammar.sub) }
         requires few { length tokens.now ≤ max_file_bytes }
         requires low { tier ≤ 9 }
-        ensures { Gives (λ x. (ops x.0.items, from tokens.now x.1)) result (Some (many pure.no_link r.cons_operand (λ x. x.2) (r.operator_part (read_expr self.now.grammar.depth) self.now.grammar.depth (12 - tier) (r.tier (read_expr self.now.grammar.depth) self.now.grammar.depth tier)) self.now.grammar.depth (from tokens.now at))) }
+        ensures { Gives (λ x. (ops x.0.items, from tokens.now x.1)) result (Some (more_operands self.now.grammar.depth tier (from tokens.now at))) }
     {
         let mut found = Vec::new(self.grammar.alloc);
         let mut at = at;
@@ -206,7 +205,7 @@ impl<
         requires low { tier ≤ 10 }
         ensures { Gives (λ x. (view x.0.value, from tokens.now x.1)) result (r.tier (read_expr self.now.grammar.depth) self.now.grammar.depth tier (from tokens.now at)) }
     {
-        let (first, after) = self.unary(tokens, at)?;
+        let (first, after) = self.read_unary(tokens, at)?;
         let mut whole = first;
         let mut end = after;
         for above in 0..tier {
@@ -228,11 +227,11 @@ impl<
     ) -> Result<((Expr, bool), usize), ReadError>
         requires nests { Nests self.now.grammar.depth (F.pre self.now.grammar.sub) (F.post self.now.grammar.sub) }
         requires few { length tokens.now ≤ max_file_bytes }
-        ensures { Gives (λ x. ((fixed key.Comma, view x.0.0, x.0.1), from tokens.now x.1)) result (r.operator_part (read_expr self.now.grammar.depth) self.now.grammar.depth 4 (r.tier (read_expr self.now.grammar.depth) self.now.grammar.depth 8) (from tokens.now at)) }
+        ensures { Gives (λ x. ((fixed key.Comma, view x.0.0, x.0.1), from tokens.now x.1)) result (next_in_tuple self.now.grammar.depth (from tokens.now at)) }
     {
         match expect(tokens, Fixed::Comma, at) {
             Ok(next) => {
-                let (operand, after) = self.deeper()?.tier(tokens, 8, next)?;
+                let (operand, after) = self.go_deeper()?.tier(tokens, 8, next)?;
                 let goes_on = goes_on(&operand, tokens, after);
                 Ok(((Box::into_inner(operand), goes_on), after))
             }
@@ -251,7 +250,7 @@ impl<
     ) -> Result<(Vec<Expr>, usize), ReadError>
         requires nests { Nests self.now.grammar.depth (F.pre self.now.grammar.sub) (F.post self.now.grammar.sub) }
         requires few { length tokens.now ≤ max_file_bytes }
-        ensures { Gives (λ x. (commas x.0.items, from tokens.now x.1)) result (Some (many pure.no_link r.cons_operand (λ x. x.2) (r.operator_part (read_expr self.now.grammar.depth) self.now.grammar.depth 4 (r.tier (read_expr self.now.grammar.depth) self.now.grammar.depth 8)) self.now.grammar.depth (from tokens.now at))) }
+        ensures { Gives (λ x. (commas x.0.items, from tokens.now x.1)) result (Some (more_in_tuple self.now.grammar.depth (from tokens.now at))) }
     {
         let mut found = Vec::new(self.grammar.alloc);
         let mut at = at;
@@ -298,7 +297,7 @@ impl<
         ensures { Gives (λ x. (link_of x.0, from tokens.now x.1)) result (r.semicolon_part (read_expr self.now.grammar.depth) self.now.grammar.depth (item_of self.now.grammar.depth false) (from tokens.now at)) }
     {
         let at = expect(tokens, Fixed::Semicolon, at)?;
-        let (step, at) = self.deeper()?.expression(tokens, at)?;
+        let (step, at) = self.go_deeper()?.expression(tokens, at)?;
         Ok((Box::into_inner(step), at))
     }
 
@@ -311,7 +310,7 @@ impl<
     ) -> Result<(Vec<Expr>, usize), ReadError>
         requires nests { Nests self.now.grammar.depth (F.pre self.now.grammar.sub) (F.post self.now.grammar.sub) }
         requires few { length tokens.now ≤ max_file_bytes }
-        ensures { Gives (λ x. (links x.0.items, from tokens.now x.1)) result (Some (many pure.no_link r.cons_link (λ x. r.no_form x.1) (r.semicolon_part (read_expr self.now.grammar.depth) self.now.grammar.depth (item_of self.now.grammar.depth false)) self.now.grammar.depth (from tokens.now at))) }
+        ensures { Gives (λ x. (links x.0.items, from tokens.now x.1)) result (Some (more_items self.now.grammar.depth false (from tokens.now at))) }
     {
         let mut found = Vec::new(self.grammar.alloc);
         let mut at = at;

@@ -22,7 +22,8 @@ use token_reading::{ReadError, TokenTable};
 /// fourteen nodes higher at each level.
 const LEVELS_PER_TEST: usize = 16;
 
-/// What is wanted at a place, nested at most so deep and of at most so many levels, and the place after it.
+/// What is wanted at a place, nested at most so deep and of at most so many levels, and the place after it. The errors
+/// are `Syntax` and `Memory`.
 #[inline(never)]
 pub fn read(
     alloc: Global,
@@ -35,7 +36,7 @@ pub fn read(
     requires { length tokens.now ≤ max_file_bytes }
     ensures { Gives (λ x. (view x.0.value, from tokens.now x.1)) result (read_expr depth wanted (from tokens.now at)) }
 {
-    let (tree, end) = nested(alloc, tokens, depth, levels, wanted, at)?;
+    let (tree, end) = read_nested(alloc, tokens, depth, levels, wanted, at)?;
     if !is_low(&tree, end.saturating_sub(at), levels) {
         return Err(ReadError::Memory);
     }
@@ -45,7 +46,7 @@ pub fn read(
 /// The same, but that the tree may have more levels: it is tested at every sixteenth one.
 #[tactic(auto, unfolding(expr_reading::specs::ExprReading::read_expr))]
 #[inline(never)]
-fn nested(
+fn read_nested(
     alloc: Global,
     tokens: &TokenTable<'_>,
     depth: usize,
@@ -67,7 +68,7 @@ fn nested(
             alloc,
             depth: depth - 1,
             levels: levels - 1,
-            sub: nested,
+            sub: read_nested,
         },
     };
     let (tree, end) = readers.read_wanted(tokens, wanted, at)?;
@@ -114,9 +115,9 @@ impl<
         match wanted {
             Wanted::Sequence => self.sequence(tokens, at),
             Wanted::Expression => self.expression(tokens, at),
-            Wanted::Operand => self.unary(tokens, at),
+            Wanted::Operand => self.read_unary(tokens, at),
             Wanted::Postfix => atoms.postfix(tokens, at),
-            Wanted::Prefixed => atoms.prefixed(tokens, at),
+            Wanted::Prefixed => atoms.read_prefixed(tokens, at),
         }
     }
 }

@@ -17,7 +17,7 @@ use crate::readers::Readers;
 use crate::values::{sequence, value_item};
 use expr_parts::upper_word;
 use ml_trees::{Fixed, Item, ModExpr, ModType, Open};
-use module_parts::{external, module_name, opened};
+use module_parts::{external, module_name, read_opened};
 use std::alloc::Global;
 use token_reading::{
     Kind, ReadError, TokenTable, declaration_run, expect_at, has_fixed, kind_at, number,
@@ -152,7 +152,7 @@ impl<
             }
             Kind::Fixed(Fixed::Module) => self.module_item(tokens, at),
             Kind::Fixed(Fixed::Open) => {
-                let ((bang, path), after) = opened(
+                let ((bang, path), after) = read_opened(
                     self.parts.alloc,
                     tokens,
                     self.parts.depth,

@@ -2,13 +2,11 @@
 
 ghost use Rattle.std.specs.Prelude.{◌≤◌, ◌<◌, ◌+◌, length, Some};
 ghost use Rattle.rotor_base.specs.Limits.{max_file_bytes};
-ghost use Rattle.ml_trees.specs.Tree as pure;
 ghost use Rattle.ml_trees.specs.View as v;
-ghost use Rattle.token_reading.specs.Gives.{Gives};
+ghost use Rattle.token_reading.specs.Gives.{Gives, GivesAt};
 ghost use Rattle.token_reading.specs.Tokens.{from};
 ghost use Rattle.module_reading.specs.ModReading as r;
 ghost use Rattle.module_reading.specs.ModReading.{read_mod, read_type};
-ghost use Rattle.token_reading.specs.Steps.{many, always};
 ghost use Rattle.module_parts.specs.Reads.{ReadsModules, ReadsTypes};
 
 use crate::readers::Readers;
@@ -124,7 +122,7 @@ impl<
         requires types { ReadsTypes self.now.parts.depth (G.pre self.now.parts.types) (G.post self.now.parts.types) }
         requires few { length tokens.now ≤ max_file_bytes }
         requires begun { start < length tokens.now }
-        ensures { Gives (λ x. (v.view_mod_argument x.0, from tokens.now x.1)) result (r.argument_closed (read_mod self.now.parts.depth) (read_type self.now.parts.depth) self.now.parts.depth (start + 1) (v.view_mod given) (from tokens.now at)) }
+        ensures { GivesAt v.view_mod_argument tokens.now result (r.argument_closed (read_mod self.now.parts.depth) (read_type self.now.parts.depth) self.now.parts.depth (start + 1) (v.view_mod given) (from tokens.now at)) }
     {
         match kind_at(tokens, at) {
             Kind::Fixed(Fixed::RightParen) => {
@@ -184,7 +182,7 @@ impl<
         requires modules { ReadsModules self.now.parts.depth (F.pre self.now.parts.modules) (F.post self.now.parts.modules) }
         requires types { ReadsTypes self.now.parts.depth (G.pre self.now.parts.types) (G.post self.now.parts.types) }
         requires few { length tokens.now ≤ max_file_bytes }
-        ensures { Gives (λ x. (v.mod_arguments x.0.items, from tokens.now x.1)) result (Some (many pure.no_mod_argument pure.more_mod_argument always (r.mod_argument (read_mod self.now.parts.depth) (read_type self.now.parts.depth) self.now.parts.depth) self.now.parts.depth (from tokens.now at))) }
+        ensures { Gives (λ x. (v.mod_arguments x.0.items, from tokens.now x.1)) result (Some (r.mod_arguments (read_mod self.now.parts.depth) (read_type self.now.parts.depth) self.now.parts.depth (from tokens.now at))) }
     {
         let mut found = Vec::new(self.parts.alloc);
         let mut at = at;
@@ -233,7 +231,7 @@ impl<
         requires types { ReadsTypes self.now.parts.depth (G.pre self.now.parts.types) (G.post self.now.parts.types) }
         requires few { length tokens.now ≤ max_file_bytes }
         requires begun { start < length tokens.now }
-        ensures { Gives (λ x. (v.view_mod x.0, from tokens.now x.1)) result (r.functor_end (read_mod self.now.parts.depth) (read_type self.now.parts.depth) self.now.parts.depth (start + 1) (v.functor_params params.items) (from tokens.now at)) }
+        ensures { GivesAt v.view_mod tokens.now result (r.functor_end (read_mod self.now.parts.depth) (read_type self.now.parts.depth) self.now.parts.depth (start + 1) (v.functor_params params.items) (from tokens.now at)) }
     {
         if params.len() == 0 {
             return Err(ReadError::Syntax);

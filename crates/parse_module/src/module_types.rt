@@ -113,7 +113,7 @@ impl<
         after: usize,
     ) -> Result<(Step, usize), ReadError>
         requires few { length tokens.now ≤ max_file_bytes }
-        ensures { Steps self.now.parts.depth tokens.now result (Some (r.with_or (read_mod self.now.parts.depth) (read_type self.now.parts.depth) self.now.parts.depth (v.view_mod_type body) (from tokens.now at) (map v.view_with clauses.items, from tokens.now after))) }
+        ensures { Steps self.now.parts.depth tokens.now result (Some (p.with_or self.now.parts.depth (v.view_mod_type body) (from tokens.now at) (map v.view_with clauses.items, from tokens.now after))) }
     {
         if clauses.len() > 0 {
             let body = Box::new(self.parts.alloc, body)?;

@@ -18,7 +18,7 @@ use std::alloc::Global;
 use token_reading::{Kind, ReadError, TokenTable, kind_at, number};
 
 /// What is wanted at a place, as the function that the readers of bindings call.
-fn nested(
+fn read_nested(
     alloc: Global,
     tokens: &TokenTable<'_>,
     depth: usize,
@@ -67,7 +67,7 @@ fn some_bindings(
             alloc,
             depth,
             levels,
-            sub: nested,
+            sub: read_nested,
         },
     };
     let ((first, rest), at) = forms.all_bindings(tokens, at)?;

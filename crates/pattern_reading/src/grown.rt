@@ -9,6 +9,7 @@ use ml_trees::{Pat, ValueName};
 use std::alloc::Global;
 use token_reading::ReadError;
 
+/// A pattern and the names behind it, as one pattern. `Memory` is the only error.
 #[tactic(auto, using(crate::proofs::Lone::grown, ml_trees::proofs::Variants::pat_views))]
 #[inline(never)]
 pub fn grown_as(alloc: Global, first: Pat, names: Vec<ValueName>) -> Result<Pat, ReadError>
@@ -21,6 +22,7 @@ pub fn grown_as(alloc: Global, first: Pat, names: Vec<ValueName>) -> Result<Pat,
     Ok(Pat::As { pat, names })
 }
 
+/// A pattern and those behind it between `|`, as one pattern. `Memory` is the only error.
 #[tactic(auto, using(crate::proofs::Lone::grown, ml_trees::proofs::Variants::pat_views))]
 #[inline(never)]
 pub fn grown_or(alloc: Global, first: Pat, rest: Vec<Pat>) -> Result<Pat, ReadError>
@@ -33,6 +35,7 @@ pub fn grown_or(alloc: Global, first: Pat, rest: Vec<Pat>) -> Result<Pat, ReadEr
     Ok(Pat::Or { first, rest })
 }
 
+/// A pattern and those behind it between `,`, as one pattern. `Memory` is the only error.
 #[tactic(auto, using(crate::proofs::Lone::grown, ml_trees::proofs::Variants::pat_views))]
 #[inline(never)]
 pub fn grown_tuple(alloc: Global, first: Pat, rest: Vec<Pat>) -> Result<Pat, ReadError>
@@ -45,6 +48,7 @@ pub fn grown_tuple(alloc: Global, first: Pat, rest: Vec<Pat>) -> Result<Pat, Rea
     Ok(Pat::Tuple { first, rest })
 }
 
+/// A pattern and those behind it between `::`, as one pattern. `Memory` is the only error.
 #[tactic(auto, using(crate::proofs::Lone::grown, ml_trees::proofs::Variants::pat_views))]
 #[inline(never)]
 pub fn grown_cons(alloc: Global, first: Pat, rest: Vec<Pat>) -> Result<Pat, ReadError>

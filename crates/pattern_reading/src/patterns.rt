@@ -17,7 +17,7 @@ ghost use Rattle.token_reading.specs.PatReading as r;
 ghost use Rattle.ml_trees.specs.Tok.{is_placed};
 ghost use Rattle.ml_trees.specs.Events.{closing};
 ghost use Rattle.ml_trees.specs.WellFormed.{is_minus, is_number, is_literal};
-ghost use Rattle.token_reading.specs.Rows.{path_from, inner_pat};
+ghost use Rattle.token_reading.specs.Rows.{path_from, inner_pat, with_argument};
 ghost use Rattle.token_reading.specs.PatReading.{read_pat};
 ghost use Rattle.token_reading.specs.Gives.{name_at, text_at, Gives, Nests};
 ghost use Rattle.token_reading.specs.Tokens.{from};
@@ -105,7 +105,11 @@ impl<
 
     /// After the `(` at a place.
     #[tactic(auto, unfolding(token_reading::specs::PatReading::paren_pat), using(ml_trees::proofs::Variants::pat_views))]
-    fn parenthesized(&self, tokens: &TokenTable<'_>, at: usize) -> Result<(Pat, usize), ReadError>
+    fn read_parenthesized(
+        &self,
+        tokens: &TokenTable<'_>,
+        at: usize,
+    ) -> Result<(Pat, usize), ReadError>
         requires within { at < length tokens.now }
         requires nests { Nests self.now.depth (F.pre self.now.sub) (F.post self.now.sub) }
         requires few { length tokens.now ≤ max_file_bytes }
@@ -195,7 +199,7 @@ impl<
     fn more_items(&self, tokens: &TokenTable<'_>, at: usize) -> Result<(Vec<Pat>, usize), ReadError>
         requires nests { Nests self.now.depth (F.pre self.now.sub) (F.post self.now.sub) }
         requires few { length tokens.now ≤ max_file_bytes }
-        ensures { Gives (λ x. (pats x.0.items, from tokens.now x.1)) result (Some (many pure.no_pat pure.more_pat always (r.next_pat (read_pat self.now.depth) self.now.depth key.Semicolon (read_pat self.now.depth)) self.now.depth (from tokens.now at))) }
+        ensures { Gives (λ x. (pats x.0.items, from tokens.now x.1)) result (Some (r.more_pats (read_pat self.now.depth) self.now.depth key.Semicolon (read_pat self.now.depth) (from tokens.now at))) }
     {
         let mut found = Vec::new(self.alloc);
         let mut at = at;
@@ -215,7 +219,7 @@ impl<
     /// After the `[` or `[|` at a place.
     #[tactic(auto, unfolding(token_reading::specs::PatReading::bracket_pat), using(ml_trees::proofs::Variants::pat_views))]
     #[inline(never)]
-    fn bracketed(
+    fn read_bracketed(
         &self,
         tokens: &TokenTable<'_>,
         bracket: Bracket,
@@ -226,7 +230,7 @@ impl<
         requires few { length tokens.now ≤ max_file_bytes }
         ensures { Gives (λ x. (view_pat x.0, from tokens.now x.1)) result (r.bracket_pat (read_pat self.now.depth) self.now.depth (at + 1) bracket (from tokens.now (at + 1))) }
     {
-        let close = closing(bracket);
+        let close = find_closing(bracket);
         if has_fixed(tokens, close, at + 1) {
             return Ok((
                 Pat::Empty {
@@ -358,7 +362,7 @@ impl<
     /// A `-` or `-.` and a number.
     #[tactic(auto, using(ml_trees::proofs::Variants::pat_views))]
     #[inline(never)]
-    fn negative(&self, tokens: &TokenTable<'_>, at: usize) -> Result<(Pat, usize), ReadError>
+    fn read_negative(&self, tokens: &TokenTable<'_>, at: usize) -> Result<(Pat, usize), ReadError>
         requires within { at < length tokens.now }
         requires few { length tokens.now ≤ max_file_bytes }
         ensures { Gives (λ x. (view_pat x.0, from tokens.now x.1)) result (if is_minus (text_at tokens.now at) then r.negative (name_at tokens.now at) (from tokens.now (at + 1)) else None) }
@@ -420,7 +424,7 @@ impl<
             }
             Class::Tag => Ok((Pat::Tag(word(self.alloc, tokens, Class::Tag, at)?), at + 1)),
             Class::Char => self.character(tokens, at),
-            Class::Infix => self.negative(tokens, at),
+            Class::Infix => self.read_negative(tokens, at),
             class => {
                 if is_literal(class) {
                     return Ok((Pat::Literal(word(self.alloc, tokens, class, at)?), at + 1));
@@ -430,9 +434,9 @@ impl<
         }
     }
 
-    /// A Simple pattern.
+    /// A Simple pattern. The errors are `Syntax` and `Memory`.
     #[tactic(auto, unfolding(token_reading::specs::PatReading::simple_pat), using(ml_trees::proofs::Variants::pat_views))]
-    pub fn simple(&self, tokens: &TokenTable<'_>, at: usize) -> Result<(Pat, usize), ReadError>
+    pub fn read_simple(&self, tokens: &TokenTable<'_>, at: usize) -> Result<(Pat, usize), ReadError>
         requires nests { Nests self.now.depth (F.pre self.now.sub) (F.post self.now.sub) }
         requires few { length tokens.now ≤ max_file_bytes }
         ensures { Gives (λ x. (view_pat x.0, from tokens.now x.1)) result (r.simple_pat (read_pat self.now.depth) self.now.depth (from tokens.now at)) }
@@ -453,9 +457,9 @@ impl<
                 },
                 at + 1,
             )),
-            Kind::Fixed(Fixed::LeftParen) => self.parenthesized(tokens, at),
-            Kind::Fixed(Fixed::LeftBracket) => self.bracketed(tokens, Bracket::List, at),
-            Kind::Fixed(Fixed::LeftArray) => self.bracketed(tokens, Bracket::Array, at),
+            Kind::Fixed(Fixed::LeftParen) => self.read_parenthesized(tokens, at),
+            Kind::Fixed(Fixed::LeftBracket) => self.read_bracketed(tokens, Bracket::List, at),
+            Kind::Fixed(Fixed::LeftArray) => self.read_bracketed(tokens, Bracket::Array, at),
             Kind::Fixed(Fixed::LeftBrace) => self.record(tokens, at),
             Kind::Word(Class::Upper) => self.read_upper(tokens, at),
             Kind::Word(class) => self.read_free(tokens, class, at),
@@ -474,11 +478,11 @@ impl<
     ) -> Result<(Pat, usize), ReadError>
         requires nests { Nests self.now.depth (F.pre self.now.sub) (F.post self.now.sub) }
         requires few { length tokens.now ≤ max_file_bytes }
-        ensures { Gives (λ x. (view_pat x.0, from tokens.now x.1)) result (Some (r.applied_to (view_pat head) (from tokens.now at) (if r.can_apply (view_pat head) then r.simple_pat (read_pat self.now.depth) self.now.depth (from tokens.now at) else None))) }
+        ensures { Gives (λ x. (view_pat x.0, from tokens.now x.1)) result (Some (with_argument self.now.depth (view_pat head) (from tokens.now at))) }
     {
         let mut head = head;
         match &mut head {
-            Pat::Constr(path) => match self.simple(tokens, at) {
+            Pat::Constr(path) => match self.read_simple(tokens, at) {
                 Ok((argument, after)) => {
                     let path = take_path(self.alloc, path);
                     let argument = Box::new(self.alloc, argument)?;
@@ -487,7 +491,7 @@ impl<
                 Err(ReadError::Syntax) => Ok((head, at)),
                 Err(ReadError::Memory) => Err(ReadError::Memory),
             },
-            Pat::Tag(tag) => match self.simple(tokens, at) {
+            Pat::Tag(tag) => match self.read_simple(tokens, at) {
                 Ok((argument, after)) => {
                     let tag = take_word(tag);
                     let argument = Box::new(self.alloc, argument)?;
@@ -509,7 +513,7 @@ impl<
     {
         match kind_at(tokens, at) {
             Kind::Fixed(Fixed::Lazy) => {
-                let (pat, after) = self.simple(tokens, at + 1)?;
+                let (pat, after) = self.read_simple(tokens, at + 1)?;
                 let pat = Box::new(self.alloc, pat)?;
                 Ok((
                     Pat::Lazy {
@@ -520,7 +524,7 @@ impl<
                 ))
             }
             _ => {
-                let (head, after) = self.simple(tokens, at)?;
+                let (head, after) = self.read_simple(tokens, at)?;
                 self.argument(tokens, head, after)
             }
         }
@@ -528,7 +532,7 @@ impl<
 
     /// The same, or behind an `exception`.
     #[tactic(auto, unfolding(token_reading::specs::PatReading::applied_pat), using(ml_trees::proofs::Variants::pat_views))]
-    fn applied(&self, tokens: &TokenTable<'_>, at: usize) -> Result<(Pat, usize), ReadError>
+    fn read_applied(&self, tokens: &TokenTable<'_>, at: usize) -> Result<(Pat, usize), ReadError>
         requires nests { Nests self.now.depth (F.pre self.now.sub) (F.post self.now.sub) }
         requires few { length tokens.now ≤ max_file_bytes }
         ensures { Gives (λ x. (view_pat x.0, from tokens.now x.1)) result (r.applied_pat (read_pat self.now.depth) self.now.depth (from tokens.now at)) }
@@ -556,7 +560,7 @@ impl<
         ensures { Gives (λ x. (view_pat x.0, from tokens.now x.1)) result (r.next_pat (read_pat self.now.depth) self.now.depth key.ColonColon (r.applied_pat (read_pat self.now.depth) self.now.depth) (from tokens.now at)) }
     {
         let at = expect(tokens, Fixed::ColonColon, at)?;
-        self.applied(tokens, at)
+        self.read_applied(tokens, at)
     }
 
     /// Further parts, as long as each can be read whole.
@@ -568,7 +572,7 @@ impl<
     ) -> Result<(Vec<Pat>, usize), ReadError>
         requires nests { Nests self.now.depth (F.pre self.now.sub) (F.post self.now.sub) }
         requires few { length tokens.now ≤ max_file_bytes }
-        ensures { Gives (λ x. (pats x.0.items, from tokens.now x.1)) result (Some (many pure.no_pat pure.more_pat always (r.next_pat (read_pat self.now.depth) self.now.depth key.ColonColon (r.applied_pat (read_pat self.now.depth) self.now.depth)) self.now.depth (from tokens.now at))) }
+        ensures { Gives (λ x. (pats x.0.items, from tokens.now x.1)) result (Some (r.more_pats (read_pat self.now.depth) self.now.depth key.ColonColon (r.applied_pat (read_pat self.now.depth) self.now.depth) (from tokens.now at))) }
     {
         let mut found = Vec::new(self.alloc);
         let mut at = at;
@@ -592,7 +596,7 @@ impl<
         requires few { length tokens.now ≤ max_file_bytes }
         ensures { Gives (λ x. (view_pat x.0, from tokens.now x.1)) result (r.cons_pat (read_pat self.now.depth) self.now.depth (from tokens.now at)) }
     {
-        let (first, at) = self.applied(tokens, at)?;
+        let (first, at) = self.read_applied(tokens, at)?;
         let (rest, at) = self.more_applied(tokens, at)?;
         Ok((grown_cons(self.alloc, first, rest)?, at))
     }
@@ -612,7 +616,7 @@ impl<
     fn more_cons(&self, tokens: &TokenTable<'_>, at: usize) -> Result<(Vec<Pat>, usize), ReadError>
         requires nests { Nests self.now.depth (F.pre self.now.sub) (F.post self.now.sub) }
         requires few { length tokens.now ≤ max_file_bytes }
-        ensures { Gives (λ x. (pats x.0.items, from tokens.now x.1)) result (Some (many pure.no_pat pure.more_pat always (r.next_pat (read_pat self.now.depth) self.now.depth key.Comma (r.cons_pat (read_pat self.now.depth) self.now.depth)) self.now.depth (from tokens.now at))) }
+        ensures { Gives (λ x. (pats x.0.items, from tokens.now x.1)) result (Some (r.more_pats (read_pat self.now.depth) self.now.depth key.Comma (r.cons_pat (read_pat self.now.depth) self.now.depth) (from tokens.now at))) }
     {
         let mut found = Vec::new(self.alloc);
         let mut at = at;
@@ -660,7 +664,7 @@ impl<
     ) -> Result<(Vec<Pat>, usize), ReadError>
         requires nests { Nests self.now.depth (F.pre self.now.sub) (F.post self.now.sub) }
         requires few { length tokens.now ≤ max_file_bytes }
-        ensures { Gives (λ x. (pats x.0.items, from tokens.now x.1)) result (Some (many pure.no_pat pure.more_pat always (r.next_pat (read_pat self.now.depth) self.now.depth key.Bar (r.tuple_pat (read_pat self.now.depth) self.now.depth)) self.now.depth (from tokens.now at))) }
+        ensures { Gives (λ x. (pats x.0.items, from tokens.now x.1)) result (Some (r.more_pats (read_pat self.now.depth) self.now.depth key.Bar (r.tuple_pat (read_pat self.now.depth) self.now.depth) (from tokens.now at))) }
     {
         let mut found = Vec::new(self.alloc);
         let mut at = at;
@@ -738,7 +742,7 @@ impl<
 }
 
 /// The word that closes a bracket.
-fn closing(bracket: Bracket) -> Fixed
+fn find_closing(bracket: Bracket) -> Fixed
     ensures value { result ≡ closing bracket }
     ensures plain { is_placed result ≡ false }
 {
@@ -789,6 +793,7 @@ fn is_literal(class: Class) -> bool
 }
 
 /// The longest pattern from a place, nested at most so deep and over at most so many levels, and the place after it.
+/// The errors are `Syntax` and `Memory`.
 #[tactic(auto, unfolding(token_reading::specs::PatReading::read_pat))]
 pub fn pattern(
     alloc: Global,
@@ -815,7 +820,7 @@ pub fn pattern(
     grammar.alias(tokens, at)
 }
 
-/// The Simple pattern at a place, as a parameter is one.
+/// The Simple pattern at a place, as a parameter is one. The errors are `Syntax` and `Memory`.
 pub fn simple_pattern(
     alloc: Global,
     tokens: &TokenTable<'_>,
@@ -832,5 +837,5 @@ pub fn simple_pattern(
         levels,
         sub: pattern,
     };
-    grammar.simple(tokens, at)
+    grammar.read_simple(tokens, at)
 }

@@ -55,7 +55,7 @@ pub(crate) struct Reading<'a> {
 }
 
 impl<'a> Reading<'a> {
-    /// A reading from the first token.
+    /// A reading from the first token. `Memory` is the only error.
     pub fn new(alloc: Global, tokens: &'a TokenTable<'a>, rule: Rule) -> Result<Self, Memory> {
         let mut without_next = Vec::new(alloc);
         without_next.resize(tokens.len(), false)?;
@@ -74,7 +74,7 @@ impl<'a> Reading<'a> {
         Ok(reading)
     }
 
-    /// Takes one step. The answer is whether there are more.
+    /// Takes one step. The answer is whether there are more. `Memory` is the only error.
     pub fn advance(&mut self) -> Result<bool, Memory> {
         match self.steps {
             [] | [Step::Or, ..] => self.leave(),

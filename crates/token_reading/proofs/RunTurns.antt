@@ -14,7 +14,12 @@ use Rattle.ml_trees.specs.Runs.{bracketing, after_bracket}
 use Rattle.token_reading.specs.Pieces.{or_none, one_more, longest, cut_at, type_run, declaration_run}
 use Rattle.token_reading.specs.declared.runs.RunKind.{RunKind}
 use Rattle.token_reading.specs.declared.runs.RunKind.TheVariants as run
-use Rattle.token_reading.specs.RunRows.{is_inside, is_beside, is_first, first_after, StepsTo, count_after, run_length, counted, or_later}
+use Rattle.token_reading.specs.RunRows.{is_inside, is_beside, is_first, first_after, StepsTo, count_after, run_length, counted}
+
+-- behind so many tokens: the longest run that ends later, or else the one that was found
+abbrev pub or_later : ℕ → ℕ → Option ℕ → Option ℕ
+or_later count done (Some n) = Some (done + n)
+or_later count done None = counted count
 
 pub type_by_length : (ts : List Tok) → type_run ts ≡ cut_at ts (run_length run.Type ts)
 unfolding type_run

@@ -69,6 +69,10 @@ abbrev pub Gives : {A X : Type 0} → (X → A) → Result X ReadError → Optio
 Gives view (Ok x) read = read ≡ Some (view x)
 Gives view (Err e) read = Fails e read
 
+-- the same of what is read by a view, and the tokens after it
+abbrev pub GivesAt : {A X : Type 0} → (X → A) → List Token → Result (X × ℕ) ReadError → Option (A × List Tok) → Type 0
+GivesAt view ts r read = Gives (λ x. (view x.0, from ts x.1)) r read
+
 -- What a function value that reads patterns does, to a depth.
 pub record Nests (depth : ℕ) (pre : Global → Bor (List Token) → ℕ → ℕ → ℕ → Type 0)
     (post : Global → Bor (List Token) → ℕ → ℕ → ℕ → Result (Source × ℕ) ReadError → Type 0) : Type 0 where

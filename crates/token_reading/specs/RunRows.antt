@@ -1,5 +1,5 @@
 -- The steps of reading a run, as the code takes them (own).
-use Rattle.std.specs.Prelude.{◌≡◌, ℕ, ◌+◌, ◌==◌, Bool, true, false, length, List, [], ◌∷◌, Option, Some, None, if◌then◌else◌}
+use Rattle.std.specs.Prelude.{◌≡◌, ℕ, ◌==◌, Bool, true, false, length, List, [], ◌∷◌, Option, Some, None, if◌then◌else◌}
 use Rattle.ml_trees.specs.declared.fixed.Fixed.{Fixed}
 use Rattle.ml_trees.specs.Tok.{Tok}
 use Rattle.ml_trees.specs.Runs.{Bracketing, opens, closes, neither, bracketing, after_bracket, beside_type, begins_type, in_type, in_declaration}
@@ -53,11 +53,6 @@ run_length k (t ∷ ts) = one_more (longest (is_beside k) (is_inside k) (after_b
 -- a number of tokens; if it is 0, none
 abbrev pub counted : ℕ → Option ℕ
 counted n = if n == 0 then None else Some n
-
--- behind so many tokens: the longest run that ends later, or else the one that was found
-abbrev pub or_later : ℕ → ℕ → Option ℕ → Option ℕ
-or_later count done (Some n) = Some (done + n)
-or_later count done None = counted count
 
 -- how many tokens are read if all brackets are closed, or else those that were found before
 abbrev pub count_after : List Fixed → ℕ → ℕ → ℕ

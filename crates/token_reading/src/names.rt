@@ -31,7 +31,7 @@ fn dot_upper(alloc: Global, tokens: &TokenTable<'_>, at: usize) -> Result<(Word,
     }
 }
 
-/// Names of modules, each behind a `.`, at most so many.
+/// Names of modules, each behind a `.`, at most so many. `Memory` is the only error.
 pub fn more_uppers(
     alloc: Global,
     tokens: &TokenTable<'_>,
@@ -72,7 +72,7 @@ fn upper_dot(alloc: Global, tokens: &TokenTable<'_>, at: usize) -> Result<(Word,
     }
 }
 
-/// Names of modules, each before a `.`, at most so many.
+/// Names of modules, each before a `.`, at most so many. `Memory` is the only error.
 pub fn qualifiers(
     alloc: Global,
     tokens: &TokenTable<'_>,
@@ -97,7 +97,7 @@ pub fn qualifiers(
     Ok((found, at))
 }
 
-/// A lower-case name.
+/// A lower-case name. The errors are `Syntax` and `Memory`.
 pub fn lower_word(
     alloc: Global,
     tokens: &TokenTable<'_>,
@@ -148,7 +148,7 @@ pub fn is_minus(bytes: &[u8]) -> bool
     bytes == b"-".as_slice() || bytes == b"-.".as_slice()
 }
 
-/// An operator and a `)`, behind the `(` at a place.
+/// An operator and a `)`, behind the `(` at a place. The errors are `Syntax` and `Memory`.
 #[inline(never)]
 pub fn operator(
     alloc: Global,
@@ -175,7 +175,7 @@ pub fn operator(
     ))
 }
 
-/// The name of a value: a lower-case name, or an operator in parentheses.
+/// The name of a value: a lower-case name, or an operator in parentheses. The errors are `Syntax` and `Memory`.
 #[inline(never)]
 pub fn value_name(
     alloc: Global,

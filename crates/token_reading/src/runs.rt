@@ -298,7 +298,7 @@ fn words(alloc: Global, tokens: &TokenTable<'_>, count: usize, at: usize) -> Res
     Ok(Run { words })
 }
 
-/// The longest type from a place.
+/// The longest type from a place. The errors are `Syntax` and `Memory`.
 #[inline(never)]
 pub fn type_run(
     alloc: Global,
@@ -315,7 +315,7 @@ pub fn type_run(
     }
 }
 
-/// The longest declaration from a place.
+/// The longest declaration from a place. The errors are `Syntax` and `Memory`.
 pub fn declaration_run(
     alloc: Global,
     tokens: &TokenTable<'_>,
@@ -331,7 +331,7 @@ pub fn declaration_run(
     }
 }
 
-/// A `:` and a type, if there is a `:` and a type begins behind it.
+/// A `:` and a type, if there is a `:` and a type begins behind it. `Memory` is the only error.
 #[inline(never)]
 pub fn optional_type(
     alloc: Global,

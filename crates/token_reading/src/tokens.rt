@@ -41,7 +41,7 @@ pub fn number(at: usize) -> u32
     at as u32 + 1
 }
 
-/// The token at a place, as a word of a class.
+/// The token at a place, as a word of a class. `Memory` is the only error.
 pub fn word(alloc: Global, tokens: &TokenTable<'_>, class: Class, at: usize) -> Result<Word, Memory>
     requires within { at < length tokens.now }
     requires few { length tokens.now ≤ max_file_bytes }
@@ -55,7 +55,7 @@ pub fn word(alloc: Global, tokens: &TokenTable<'_>, class: Class, at: usize) -> 
     })
 }
 
-/// The token at a place, as a word with its own class: an operator, or a word of a run.
+/// The token at a place, as a word with its own class: an operator, or a word of a run. `Memory` is the only error.
 pub fn token_word(alloc: Global, tokens: &TokenTable<'_>, at: usize) -> Result<Word, Memory>
     requires within { at < length tokens.now }
     requires few { length tokens.now ≤ max_file_bytes }
@@ -88,7 +88,7 @@ pub fn has_fixed(tokens: &TokenTable<'_>, fixed: Fixed, at: usize) -> bool
     }
 }
 
-/// The place after this fixed word, whose token no tree keeps.
+/// The place after this fixed word, whose token no tree keeps. The errors are `Syntax` and `Memory`.
 pub fn expect(tokens: &TokenTable<'_>, fixed: Fixed, at: usize) -> Result<usize, ReadError>
     requires plain { is_placed fixed ≡ false }
     requires few { length tokens.now ≤ max_file_bytes }
@@ -100,7 +100,7 @@ pub fn expect(tokens: &TokenTable<'_>, fixed: Fixed, at: usize) -> Result<usize,
     Err(ReadError::Syntax)
 }
 
-/// The number of this fixed word, whose token trees keep, and the place after it.
+/// The number of this fixed word, whose token trees keep, and the place after it. The errors are `Syntax` and `Memory`.
 pub fn expect_at(
     tokens: &TokenTable<'_>,
     fixed: Fixed,

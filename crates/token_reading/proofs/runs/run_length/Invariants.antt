@@ -1,6 +1,7 @@
 use Rattle.std.proofs.Common.{◌≡◌, ◌+◌, ◌-◌, ◌<◌, ◌≤◌, [], reverse, Some}
 use Rattle.token_reading.specs.Pieces.{longest}
-use Rattle.token_reading.specs.RunRows.{is_inside, is_beside, run_length, or_later}
+use Rattle.token_reading.specs.RunRows.{is_inside, is_beside, run_length}
+use Rattle.token_reading.proofs.RunTurns.{or_later}
 use Rattle.token_reading.specs.Tokens.{from}
 use Rattle.token_reading.proofs.runs.run_length.Given as goal
 

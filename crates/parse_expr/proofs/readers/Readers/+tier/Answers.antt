@@ -6,9 +6,8 @@ use Rattle.token_reading.specs.Steps.{expect}
 use Rattle.token_reading.specs.Tokens.{from}
 use Rattle.expr_reading.specs.ExprReading as r
 use Rattle.expr_reading.specs.ExprReading.{read_expr}
-use Rattle.expr_parts.specs.Rows.{operand_of, comma_of}
 use Rattle.token_reading.proofs.Turns.{turn_none, turn_end}
-use Rattle.parse_expr.proofs.Operands.{ops_before, commas_before, operand_on, operand_off, comma_none, tier_first, tier_more}
+use Rattle.parse_expr.proofs.Operands.{operand_of, comma_of, ops_before, commas_before, operand_on, operand_off, comma_none, tier_first, tier_more}
 use Rattle.parse_expr.proofs.readers.Readers.+tier.Goals as goal
 
 pub more_operands-returns-in-Err-Syntax : goal.more_operands-returns-in-Err-Syntax

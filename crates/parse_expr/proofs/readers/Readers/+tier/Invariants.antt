@@ -5,8 +5,8 @@ use Rattle.token_reading.specs.Steps.{many}
 use Rattle.token_reading.specs.Tokens.{from}
 use Rattle.expr_reading.specs.ExprReading as r
 use Rattle.expr_reading.specs.ExprReading.{read_expr}
-use Rattle.expr_parts.specs.Rows.{operand_of, comma_of}
 use Rattle.token_reading.proofs.Turns.{Left}
+use Rattle.parse_expr.proofs.Operands.{operand_of, comma_of}
 use Rattle.parse_expr.proofs.readers.Readers.+tier.Given as goal
 
 abbrev pub invariant-more_operands-loop-turn : goal.invariant-more_operands-loop-turn

@@ -9,7 +9,7 @@ use Rattle.token_reading.specs.Tokens.{from}
 use Rattle.token_reading.proofs.Stepping.{some_is}
 use Rattle.expr_reading.specs.ExprReading.{opened_or, qualified}
 use Rattle.expr_atoms.proofs.Lone.{plain_value}
-use Rattle.expr_atoms.proofs.atoms.qualified.Goals as goal
+use Rattle.expr_atoms.proofs.atoms.qualify.Goals as goal
 
 pub returns-then-len-eq0 : goal.returns-then-len-eq0
 returns-then-len-eq0 c =

@@ -2,7 +2,7 @@ use Rattle.std.proofs.Common.{arith}
 use Rattle.token_reading.specs.Tokens.{from}
 use Rattle.token_reading.proofs.Turns.{deeper}
 use Rattle.expr_reading.specs.ExprReading.{read_expr}
-use Rattle.parse_expr.proofs.reading.+nested.Goals as goal
+use Rattle.parse_expr.proofs.reading.+read_nested.Goals as goal
 
 pub returns : goal.returns
 unfolding read_expr

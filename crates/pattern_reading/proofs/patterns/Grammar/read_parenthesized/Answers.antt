@@ -5,7 +5,7 @@ use Rattle.token_reading.specs.Pieces.{operator_at}
 use Rattle.token_reading.specs.PatReading.{read_pat}
 use Rattle.token_reading.specs.Tokens.{from}
 use Rattle.token_reading.proofs.Operators.{paren_operator, paren_other}
-use Rattle.pattern_reading.proofs.patterns.Grammar.parenthesized.Goals as goal
+use Rattle.pattern_reading.proofs.patterns.Grammar.read_parenthesized.Goals as goal
 
 pub returns-in-Ok : goal.returns-in-Ok
 returns-in-Ok g c =
