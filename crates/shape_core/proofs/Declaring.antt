@@ -18,9 +18,9 @@ use Rattle.rotor_base.proofs.Places.{place_found, place_total}
 use Rattle.shape_core.specs.declared.shared.SharedEntry.{SharedEntry}
 use Rattle.shape_core.specs.declared.shared.SharedEntry.TheVariants as e
 use Rattle.shape_core.specs.declared.index.Spot.{Spot}
-use Rattle.shape_core.specs.declared.declarations.Stand.{Stand}
+use Rattle.shape_core.specs.declared.declarations.LastValue.{LastValue}
 use Rattle.shape_core.specs.declared.declarations.Declarations.{Declarations}
-use Rattle.shape_core.specs.Declarations.{HasDeclarations, declared_in, later, spot_of, stand_of}
+use Rattle.shape_core.specs.Declarations.{HasDeclarations, declared_in, later, spot_of, last_value_of}
 use Rattle.shape_core.specs.Looks as looks
 use Rattle.shape_core.specs.Looks.{last_where, in_foot, some_place}
 use Rattle.shape_core.specs.Members.{behind, behind_dark, final, spot_at, spots_of}
@@ -84,13 +84,13 @@ pub kept_without : (t : Declarations) (list : List SharedEntry) (d : SharedEntry
     → HasDeclarations t (list ++ d ∷ [])
 kept_without t list d h has p =
     has p
-    ∙ ap (λ ss. stand_of (final ss)) (sym (spots_more (p ∷ []) list d
+    ∙ ap (λ ss. last_value_of (final ss)) (sym (spots_more (p ∷ []) list d
     ∙ ap (λ ss. spots_of (p ∷ []) list ++ ss) (no_spot p (length list) (length (darks (entries_of list))) d h)
     ∙ append-nil (spots_of (p ∷ []) list)))
 
-put_last : (b : Bool) (s : Spot) (ss : List Spot) → cond b (stand_of (Some s)) (stand_of (final ss)) ≡ stand_of (final (ss ++ cond b (s ∷ []) []))
-put_last true s ss = ap stand_of (sym (final_more ss s))
-put_last false s ss = ap (λ l. stand_of (final l)) (sym (append-nil ss))
+put_last : (b : Bool) (s : Spot) (ss : List Spot) → cond b (last_value_of (Some s)) (last_value_of (final ss)) ≡ last_value_of (final (ss ++ cond b (s ∷ []) []))
+put_last true s ss = ap last_value_of (sym (final_more ss s))
+put_last false s ss = ap (λ l. last_value_of (final l)) (sym (append-nil ss))
 
 declares : (g : Goal) (q : Place) → decl_of g ≡ Some q → g ≡ Decl q
 declares (Decl p) q h = let same : p ≡ q = cc in ap Decl same
@@ -99,25 +99,25 @@ declares Missing q h = absurd cc
 declares Hidden q h = absurd cc
 declares (Blur by n behind) q h = absurd cc
 
-value_kept : (t t' : Declarations) (list : List SharedEntry) (x : List ℕ) (g : Goal) (q : Place) (s : Stand) → g ≡ Decl q
+value_kept : (t t' : Declarations) (list : List SharedEntry) (x : List ℕ) (g : Goal) (q : Place) (s : LastValue) → g ≡ Decl q
     → s.position ≡ length list → s.darks ≡ length (darks (entries_of list))
-    → ((p : Place) → get place_cmp t'.stands p ≡ cond (is_at (place_cmp q) p) (Some s) (get place_cmp t.stands p)) → HasDeclarations t list
+    → ((p : Place) → get place_cmp t'.last_values p ≡ cond (is_at (place_cmp q) p) (Some s) (get place_cmp t.last_values p)) → HasDeclarations t list
     → HasDeclarations t' (list ++ e.Val x g ∷ [])
 value_kept t t' list x g q s is at count put has p =
     let here : Spot = record { goal = g; position = length list; darks = length (darks (entries_of list)) } in
-    let stand : Some s ≡ stand_of (Some here) = ap (λ n. Some (record { position = n; darks = s.darks })) at
+    let last : Some s ≡ last_value_of (Some here) = ap (λ n. Some (record { position = n; darks = s.darks })) at
     ∙ ap (λ n. Some (record { position = length list; darks = n })) count in
     let member : is_at (place_cmp q) p ≡ is_among (p ∷ []) g = sym (among_one p q) ∙ ap (is_among (p ∷ [])) (sym is) in
     put p
     ∙ ap (λ o. cond (is_at (place_cmp q) p) (Some s) o) (has p)
-    ∙ ap (λ o. cond (is_at (place_cmp q) p) o (stand_of (final (spots_of (p ∷ []) list)))) stand
-    ∙ ap (λ b. cond b (stand_of (Some here)) (stand_of (final (spots_of (p ∷ []) list)))) member
+    ∙ ap (λ o. cond (is_at (place_cmp q) p) o (last_value_of (final (spots_of (p ∷ []) list)))) last
+    ∙ ap (λ b. cond b (last_value_of (Some here)) (last_value_of (final (spots_of (p ∷ []) list)))) member
     ∙ put_last (is_among (p ∷ []) g) here (spots_of (p ∷ []) list)
-    ∙ ap (λ ss. stand_of (final ss)) (sym (spots_more (p ∷ []) list (e.Val x g)))
+    ∙ ap (λ ss. last_value_of (final ss)) (sym (spots_more (p ∷ []) list (e.Val x g)))
 
-pub kept_with : (t t' : Declarations) (list : List SharedEntry) (d : SharedEntry) (q : Place) (s : Stand) → declared_in d ≡ Some q
+pub kept_with : (t t' : Declarations) (list : List SharedEntry) (d : SharedEntry) (q : Place) (s : LastValue) → declared_in d ≡ Some q
     → s.position ≡ length list → s.darks ≡ length (darks (entries_of list))
-    → ((p : Place) → get place_cmp t'.stands p ≡ cond (is_at (place_cmp q) p) (Some s) (get place_cmp t.stands p)) → HasDeclarations t list
+    → ((p : Place) → get place_cmp t'.last_values p ≡ cond (is_at (place_cmp q) p) (Some s) (get place_cmp t.last_values p)) → HasDeclarations t list
     → HasDeclarations t' (list ++ d ∷ [])
 kept_with t t' list (e.Val x g) q s is = value_kept t t' list x g q s (declares g q is)
 kept_with t t' list (e.Mod x u) q s is = absurd cc
@@ -160,12 +160,12 @@ all_of p (e.Mod x s ∷ es) = of_behind p (spots_of (p ∷ []) es) (all_of p es)
 all_of p (e.Mty x s ∷ es) = of_behind p (spots_of (p ∷ []) es) (all_of p es)
 all_of p (e.Dark at ∷ es) = of_dark p (spots_of (p ∷ []) es) (all_of p es)
 
-final_looked : (p : Place) (n : ℕ) (ss : List Spot) → AllOf p ss → looked n (final ss) ≡ spot_of p n (stand_of (final ss))
+final_looked : (p : Place) (n : ℕ) (ss : List Spot) → AllOf p ss → looked n (final ss) ≡ spot_of p n (last_value_of (final ss))
 final_looked p n [] h = refl
 final_looked p n (s ∷ ss) h = by (final ss) (final_looked p n ss h.1)
   where
-    by : (o : Option Spot) → looked n o ≡ spot_of p n (stand_of o)
-        → looked n (or_else o (Some s)) ≡ spot_of p n (stand_of (or_else o (Some s)))
+    by : (o : Option Spot) → looked n o ≡ spot_of p n (last_value_of o)
+        → looked n (or_else o (Some s)) ≡ spot_of p n (last_value_of (or_else o (Some s)))
     by None k = ap (λ q. Some (s.position, q, n - s.darks)) h.0
     by (Some t) k = k
 
@@ -174,7 +174,7 @@ abbrev pub watching : List Place → Watch
 watching ds = record { old = []; new = []; foot = record { decls = ds; outside = None } }
 
 one_last : (t : Declarations) (list : List SharedEntry) (p : Place) → HasDeclarations t list
-    → spot_of p (length (darks (entries_of list))) (get place_cmp t.stands p) ≡ last_where (in_foot (watching (p ∷ []))) (entries_of list)
+    → spot_of p (length (darks (entries_of list))) (get place_cmp t.last_values p) ≡ last_where (in_foot (watching (p ∷ []))) (entries_of list)
 one_last t list p has =
     let n = length (darks (entries_of list)) in
     ap (spot_of p n) (has p) ∙ sym (final_looked p n (spots_of (p ∷ []) list) (all_of p list)) ∙ sym (last_noted (watching (p ∷ [])) list)
@@ -279,12 +279,12 @@ none_last (a_dark at es) = ap looks.moved (none_last es)
 pub last_step : (t : Declarations) (list : List SharedEntry) (ds : List Place) (i : ℕ) (p : Place) (n : ℕ) (last last' : Option looks.Spot)
     → i < length ds → n ≡ length (darks (entries_of list)) → HasDeclarations t list
     → last ≡ last_where (in_foot (watching (take i ds))) (entries_of list)
-    → last' ≡ later last (spot_of (get_or ds i p) n (get place_cmp t.stands (get_or ds i p)))
+    → last' ≡ later last (spot_of (get_or ds i p) n (get place_cmp t.last_values (get_or ds i p)))
     → last' ≡ last_where (in_foot (watching (take (i + 1) ds))) (entries_of list)
 last_step t list ds i p n last last' lt count has h k =
     let es = entries_of list in
     let d = get_or ds i p in
-    k ∙ ap (λ o. later o (spot_of d n (get place_cmp t.stands d))) h
-    ∙ ap (λ m. later (last_where (in_foot (watching (take i ds))) es) (spot_of d m (get place_cmp t.stands d))) count
+    k ∙ ap (λ o. later o (spot_of d n (get place_cmp t.last_values d))) h
+    ∙ ap (λ m. later (last_where (in_foot (watching (take i ds))) es) (spot_of d m (get place_cmp t.last_values d))) count
     ∙ ap (later (last_where (in_foot (watching (take i ds))) es)) (one_last t list d has)
     ∙ sym (last_more ds i p lt es)

@@ -10,7 +10,7 @@ use Rattle.shape_core.specs.declared.shared.SharedEntry.{SharedEntry}
 use Rattle.shape_core.specs.declared.shared.SharedEntry.TheVariants as e
 use Rattle.shape_core.specs.declared.index.Spot.{Spot}
 use Rattle.shape_core.specs.Node.{and_then, entries_of}
-use Rattle.shape_core.specs.Index.{moved, one_more, is_val, position_of, position_is, last_spot, is_mod, is_mty, up, last_at, before_of, befores_from}
+use Rattle.shape_core.specs.Index.{moved, one_more, position_of, position_is, last_spot, is_mod, is_mty, up, last_at, before_of, befores_from}
 use Rattle.shape_core.specs.Index.{mod_at, mty_at, there}
 use Rattle.shape_core.specs.Shape.{Name, Shape, Entries, none, a_val, a_mod, a_mty, a_dark, ◌⊕◌, or_else, some_if, unless_some, darks, vals, mods}
 use Rattle.shape_core.specs.Shape.{mtys, last_of, passed, last_place, entries_from, is_shown}
@@ -203,6 +203,13 @@ position_passed (Some s) = refl
 position_dark : (o : Option Spot) → position_of (one_more o) ≡ or_else (up (position_of o)) None
 position_dark None = refl
 position_dark (Some s) = refl
+
+-- the entry is a value of that name
+abbrev pub is_val : Name → SharedEntry → Bool
+is_val x (e.Val y g) = bytes_eq y x
+is_val x (e.Mod Y s) = false
+is_val x (e.Mty Y s) = false
+is_val x (e.Dark at) = false
 
 pub val_at : (list : List SharedEntry) (x : Name) → position_of (last_spot (entries_of list) x) ≡ last_at (is_val x) list
 val_at [] x = refl

@@ -27,13 +27,7 @@ last_spot (a_mod X s es) x = moved (last_spot es x)
 last_spot (a_mty S s es) x = moved (last_spot es x)
 last_spot (a_dark at es) x = one_more (last_spot es x)
 
--- the entry is a value, a module, or a module type of that name
-abbrev pub is_val : Name → SharedEntry → Bool
-is_val x (e.Val y g) = bytes_eq y x
-is_val x (e.Mod Y s) = false
-is_val x (e.Mty Y s) = false
-is_val x (e.Dark at) = false
-
+-- the entry is a module, or a module type, of that name
 abbrev pub is_mod : Name → SharedEntry → Bool
 is_mod X (e.Val y g) = false
 is_mod X (e.Mod Y s) = bytes_eq Y X

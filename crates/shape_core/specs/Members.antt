@@ -1,6 +1,7 @@
 -- The members of a footprint among the entries of a list (own).
 use Rattle.std.specs.Prelude.{◌≡◌, ◌≤◌, ℕ, suc, List, [], ◌∷◌, Option, Some, None, cond, length, map, take}
 use Rattle.rotor_base.specs.declared.place.Place.{Place}
+use Rattle.rotor_base.specs.declared.looks.Watch.{Watch}
 use Rattle.shape_core.specs.declared.shared.SharedEntry.{SharedEntry}
 use Rattle.shape_core.specs.declared.shared.SharedEntry.TheVariants as e
 use Rattle.shape_core.specs.declared.index.Spot.{Spot}
@@ -8,6 +9,7 @@ use Rattle.shape_core.specs.declared.members.Members.{Members}
 use Rattle.shape_core.specs.Node.{entries_of}
 use Rattle.shape_core.specs.Shape.{darks, or_else}
 use Rattle.shape_core.specs.Places.{is_among}
+use Rattle.shape_core.specs.Looks as looks
 
 -- one entry more in front, and one Dark entry more
 abbrev pub behind : Spot → Spot
@@ -49,3 +51,9 @@ pub record HasMembers (m : Members) (list : List SharedEntry) : Type 0 where
   pub few : m.noted ≤ length list
   pub spots : m.spots.items ≡ spots_of m.decls.items (take m.noted list)
   pub darks : m.darks ≡ length (darks (entries_of (take m.noted list)))
+
+-- the last member of each list that was noted whole and has so many Dark entries
+abbrev pub IsLastMember : Members → ℕ → Option looks.Spot → Type 0
+IsLastMember m n spot =
+    (list : List SharedEntry) (w : Watch) → w.foot.decls ≡ m.decls.items → HasMembers m list → m.noted ≡ length list
+    → n ≡ length (darks (entries_of list)) → spot ≡ looks.last_where (looks.in_foot w) (entries_of list)

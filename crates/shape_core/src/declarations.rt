@@ -18,19 +18,19 @@ use std::collections::BTreeMap;
 
 /// The last value of a declaration: its position, and the number of Dark entries before it.
 #[derive(Clone, Copy)]
-pub struct Stand {
+pub struct LastValue {
     pub position: usize,
     pub darks: usize,
 }
 
 /// The last value of each declaration of a list.
 pub struct Declarations {
-    pub stands: BTreeMap<Place, Stand>,
+    pub last_values: BTreeMap<Place, LastValue>,
 }
 
 impl Drop for Declarations {
     fn drop(self) {
-        let Declarations { stands: _ } = self;
+        let Declarations { last_values: _ } = self;
     }
 }
 
@@ -40,7 +40,7 @@ impl Declarations {
         ensures { HasDeclarations result [] }
     {
         Declarations {
-            stands: BTreeMap::new(alloc),
+            last_values: BTreeMap::new(alloc),
         }
     }
 
@@ -48,9 +48,9 @@ impl Declarations {
     pub fn add(&mut self, entry: &SharedEntry, position: usize, darks: usize) -> Result<(), Memory>
         ensures { OnOk result ((list : List SharedEntry) → length list ≡ position → length (pure.darks (entries_of list)) ≡ darks → HasDeclarations self.old list → HasDeclarations self.new (list ++ entry.now ∷ [])) }
     {
-        match declared_in(entry) {
+        match declaration_in(entry) {
             Some(place) => {
-                self.stands.insert(place, Stand { position, darks })?;
+                self.last_values.insert(place, LastValue { position, darks })?;
                 Ok(())
             }
             None => Ok(()),
@@ -64,19 +64,19 @@ impl Declarations {
     {
         let mut last = None;
         for decl in decls {
-            last = later(last, self.spot(*decl, darks));
+            last = take_later(last, self.spot(*decl, darks));
         }
         last
     }
 
     // The last value of a declaration.
     fn spot(&self, decl: Place, darks: u64) -> Option<LookSpot>
-        ensures { result ≡ spot_of decl darks (get place_cmp self.now.stands decl) }
+        ensures { result ≡ spot_of decl darks (get place_cmp self.now.last_values decl) }
     {
-        match self.stands.get(&decl) {
-            Some(stand) => {
-                let after = darks.saturating_sub(stand.darks as u64);
-                Some((stand.position as u64, decl, after))
+        match self.last_values.get(&decl) {
+            Some(last) => {
+                let after = darks.saturating_sub(last.darks as u64);
+                Some((last.position as u64, decl, after))
             }
             None => None,
         }
@@ -84,18 +84,18 @@ impl Declarations {
 }
 
 // The declaration that an entry is, if it is one.
-fn declared_in(entry: &SharedEntry) -> Option<Place>
+fn declaration_in(entry: &SharedEntry) -> Option<Place>
     ensures { result ≡ declared_in entry.now }
 {
     match entry {
-        SharedEntry::Val(_, goal) => declared_by(*goal),
+        SharedEntry::Val(_, goal) => declaration_of(*goal),
         SharedEntry::Mod(_, _) => None,
         SharedEntry::Mty(_, _) => None,
         SharedEntry::Dark(_) => None,
     }
 }
 
-fn declared_by(goal: Goal) -> Option<Place>
+fn declaration_of(goal: Goal) -> Option<Place>
     ensures { result ≡ pure.decl_of goal }
 {
     match goal {
@@ -108,7 +108,7 @@ fn declared_by(goal: Goal) -> Option<Place>
 }
 
 // The later one of two spots.
-fn later(one: Option<LookSpot>, other: Option<LookSpot>) -> Option<LookSpot>
+fn take_later(one: Option<LookSpot>, other: Option<LookSpot>) -> Option<LookSpot>
     ensures { result ≡ later one other }
 {
     match one {

@@ -215,13 +215,13 @@ impl Index {
         ensures { result ≡ pure.is_shown (pure.entries_from at (entries_of list.now)) }
     {
         match list.get(at) {
-            Some(entry) => self.shown_entry(entry, at),
+            Some(entry) => self.is_entry_shown(entry, at),
             None => false,
         }
     }
 
     // The same of the entry at the position.
-    fn shown_entry(&self, entry: &SharedEntry, at: usize) -> bool
+    fn is_entry_shown(&self, entry: &SharedEntry, at: usize) -> bool
         ensures { (list : List SharedEntry) → IsIndexOf self.now list → slice_get list at ≡ Some entry.now → result ≡ pure.is_shown (pure.entries_from at (entries_of list)) }
     {
         match entry {

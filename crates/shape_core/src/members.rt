@@ -1,12 +1,8 @@
 //! The members of a footprint in a list of entries that grows at its end and is cut back.
 
 ghost use Rattle.std.specs.Prelude.{◌≡◌, ◌≤◌, ◌<◌, ◌+◌, ◌∷◌, ◌++◌, [], List, OnErr, OnOk, true, length};
-ghost use Rattle.rotor_base.specs.declared.looks.Watch.{Watch};
-ghost use Rattle.shape_core.specs.Shape as pure;
 ghost use Rattle.shape_core.specs.declared.shared.SharedEntry.{SharedEntry};
-ghost use Rattle.shape_core.specs.Node.{entries_of};
-ghost use Rattle.shape_core.specs.Looks as looks;
-ghost use Rattle.shape_core.specs.Members.{HasMembers, dark_of, final, spot_at};
+ghost use Rattle.shape_core.specs.Members.{HasMembers, IsLastMember, dark_of, final, spot_at};
 ghost use Rattle.shape_core.specs.Places.{HasPlaces, is_among};
 
 use crate::index::{LookSpot, Spot, is_spot, place_of};
@@ -152,7 +148,7 @@ impl Members {
 
     /// The last member of a list that was noted whole and has so many Dark entries.
     pub fn find_last(&self, darks: u64) -> Option<LookSpot>
-        ensures { (list : List SharedEntry) (w : Watch) → w.foot.decls ≡ self.now.decls.items → HasMembers self.now list → self.now.noted ≡ length list → darks ≡ length (pure.darks (entries_of list)) → result ≡ looks.last_where (looks.in_foot w) (entries_of list) }
+        ensures { IsLastMember self.now darks result }
     {
         let spot = final_spot(&self.spots)?;
         let after = darks.saturating_sub(spot.darks as u64);

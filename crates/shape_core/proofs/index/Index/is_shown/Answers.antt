@@ -7,7 +7,7 @@ use Rattle.shape_core.proofs.index.Index.is_shown.Goals as goal
 pub returns-in-Some : goal.returns-in-Some
 returns-in-Some c =
     let there : slice_get c.args.list.now c.args.at ≡ Some c.in-Some.entry.now = grind (arith, common_steps, slice_get_read) in
-    c.shown_entry.ensures c.args.list.now c.requires there
+    c.is_entry_shown.ensures c.args.list.now c.requires there
 
 pub returns-in-None : goal.returns-in-None
 returns-in-None c =

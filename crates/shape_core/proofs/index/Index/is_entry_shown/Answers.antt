@@ -2,7 +2,7 @@ use Rattle.std.proofs.Common.{◌∙◌, ap, sym, Some}
 use Rattle.name_tables.specs.Names.{at}
 use Rattle.shape_core.specs.Index.{position_is, position_of}
 use Rattle.shape_core.proofs.Shown.{val_at, shown_val, shown_mod, shown_mty, shown_is}
-use Rattle.shape_core.proofs.index.Index.shown_entry.Goals as goal
+use Rattle.shape_core.proofs.index.Index.is_entry_shown.Goals as goal
 
 pub returns-in-Val : goal.returns-in-Val
 returns-in-Val c list h k =
