@@ -7,22 +7,23 @@ ghost use Rattle.std.specs.Prelude.{◌≡◌, ◌≤◌, [], ◌∷◌, false, 
 ghost use Rattle.rotor_base.specs.declared.place.Goal.TheVariants.{Decl};
 ghost use Rattle.ml_trees.specs.View.{view, view_word, view_words, view_tok, view_pat, view_local, view_variable, view_binding, view_case, view_argument, view_param, view_part, view_field, links, ops, maybe, tail, bindings, cases, arguments, params, parts, fields};
 ghost use Rattle.value_sites.specs.Places.{operator_sites};
-ghost use Rattle.shape_core.specs.Shape.{◌⊕◌, a_val, none, brought};
+ghost use Rattle.shape_core.specs.Shape.{◌⊕◌, a_val, none};
 ghost use Rattle.shape_core.specs.Node.{entries_of};
-ghost use Rattle.binding_model.specs.Scopes.{here, bound, path_shape, params_bound, parts_scope};
-ghost use Rattle.binding_model.specs.Steps.{◌⨾◌, GroupOf, OpenedSite};
+ghost use Rattle.binding_model.specs.Scopes.{bound, params_bound, parts_scope};
+ghost use Rattle.binding_model.specs.Steps.{◌⨾◌, GroupOf};
 ghost use Rattle.binding_model.specs.Taken.{HasTaken, HasStopped};
 ghost use Rattle.binding_model.specs.Variables.{variables, param_variables};
 ghost use Rattle.binding_model.specs.Walk.{uses, pat_steps, expr_steps, links_steps, maybe_steps, binding_steps, bindings_steps, case_steps, cases_steps, argument_steps, arguments_steps, param_steps, params_steps, part_steps, parts_steps, field_steps, fields_steps};
 ghost use Rattle.expr_resolve.specs.Branches.{branches_steps};
+ghost use Rattle.expr_resolve.specs.Opened.{opened_steps};
 
 use binding_model::Found;
 use ml_trees::{
     Argument, Binding, Branch, Case, Expr, Field, LocalModule, Param, Part, Pat, Variable, Word,
 };
 use resolve_base::{
-    go_on_with, group, opening, start_of, use_label, use_minus, use_name_in, use_operator,
-    use_word, weighed_site,
+    go_on_with, group, resolve_opening, start_of, use_label, use_minus, use_name_in, use_operator,
+    use_word, end_weighed_site,
 };
 use resolve_parts::{
     let_values, local_module, module_entry, pattern, pattern_group, value_group, variable_group,
@@ -84,7 +85,7 @@ pub fn expression(
                 file,
                 token: *module,
             };
-            weighed_site(found, at, &shape)?;
+            end_weighed_site(found, at, &shape)?;
             let entries = module_entry(alloc, name, shape)?;
             resolve_under(alloc, found, file, body, &entries, scope)
         },
@@ -517,14 +518,14 @@ fn more_bindings(
     ensures scope { scope.new ≡ scope.old }
 {
     for part in list {
-        binding(alloc, found, file, part, scope)?;
+        resolve_binding(alloc, found, file, part, scope)?;
     }
     Ok(())
 }
 
 #[cycle(expressions)]
 #[tactic(auto, using(ml_trees::proofs::Variants::binding_views, crate::proofs::Fronts::front_of_front, binding_model::proofs::Takings::heavy_stays))]
-fn binding(
+fn resolve_binding(
     alloc: Global,
     found: &mut Found,
     file: u32,
@@ -630,12 +631,12 @@ fn resolve_opened(
     e: &Expr,
     scope: &mut Scope,
 ) -> Result<(), FactError>
-    ensures taken { HasTaken result found.old found.new (OpenedSite (here file token) (path_shape (entries_of scope.old) (view_words path.now)) ⨾ expr_steps file (entries_of scope.old ⊕ brought (path_shape (entries_of scope.old) (view_words path.now)) (here file token)) (view e.now)) }
-    ensures heavy { HasStopped result found.old (OpenedSite (here file token) (path_shape (entries_of scope.old) (view_words path.now)) ⨾ expr_steps file (entries_of scope.old ⊕ brought (path_shape (entries_of scope.old) (view_words path.now)) (here file token)) (view e.now)) }
+    ensures taken { HasTaken result found.old found.new (opened_steps file (entries_of scope.old) token (view_words path.now) (view e.now)) }
+    ensures heavy { HasStopped result found.old (opened_steps file (entries_of scope.old) token (view_words path.now) (view e.now)) }
     ensures scope { scope.new ≡ scope.old }
 {
     let at = Place { file, token };
-    let entries = opening(alloc, found, path, at, scope)?;
+    let entries = resolve_opening(alloc, found, path, at, scope)?;
     resolve_under(alloc, found, file, e, &entries, scope)
 }
 
@@ -677,11 +678,11 @@ pub fn let_part(
     if recursive {
         let len = scope.len();
         go_on_with(alloc, scope, new)?;
-        let done = binding(alloc, found, file, part, scope);
+        let done = resolve_binding(alloc, found, file, part, scope);
         scope.cut(len);
         done
     } else {
-        binding(alloc, found, file, part, scope)
+        resolve_binding(alloc, found, file, part, scope)
     }
 }
 

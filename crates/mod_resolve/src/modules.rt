@@ -19,7 +19,7 @@ use module_entries::{
     Added, add_nothing, add_opened, add_shown, append, declare_value, functor_from, functor_of,
     module_site, named_module, no_param, param_entries, token_of, type_at, type_entry, type_start,
 };
-use resolve_base::{go_on_with, group, match_target, opening, weighed_site};
+use resolve_base::{go_on_with, group, match_target, resolve_opening, end_weighed_site};
 use resolve_parts::{apply, apply_to_nothing, let_values, module_entry, shape_at, share_result};
 use rotor_base::Place;
 use shape_core::{FactError, Scope, Shared, SharedEntry, bring, make_functor, make_struct};
@@ -187,7 +187,7 @@ fn functor_param(
                 file,
                 token: token_of(name),
             };
-            weighed_site(found, at, &shape)?;
+            end_weighed_site(found, at, &shape)?;
             Ok(Some(shape))
         }
         FunctorParam::NoParam { open } => {
@@ -244,7 +244,7 @@ pub fn module_type(
                 file,
                 token: type_start(result).saturating_sub(1),
             };
-            weighed_site(found, at, &source)?;
+            end_weighed_site(found, at, &source)?;
             let target = module_type(alloc, found, file, result, scope)?;
             Ok(make_functor(alloc, source, target)?)
         }
@@ -432,7 +432,7 @@ fn item(
             ..
         } => {
             let shape = module_type(alloc, found, file, signature, scope)?;
-            weighed_site(found, Place { file, token: *at }, &shape)?;
+            end_weighed_site(found, Place { file, token: *at }, &shape)?;
             Ok(add_shown(alloc, type_entry(alloc, name, shape)?))
         }
         Item::Open(open) => {
@@ -440,13 +440,13 @@ fn item(
                 file,
                 token: open.at,
             };
-            let entries = opening(alloc, found, &open.path.words, at, scope)?;
+            let entries = resolve_opening(alloc, found, &open.path.words, at, scope)?;
             Ok(add_opened(alloc, entries))
         }
         Item::Include { at, module: m } => {
             let shape = module(alloc, found, file, m, scope)?;
             let at = Place { file, token: *at };
-            weighed_site(found, at, &shape)?;
+            end_weighed_site(found, at, &shape)?;
             Ok(add_shown(alloc, bring(alloc, Some(&shape), at)?))
         }
     }
@@ -488,12 +488,12 @@ fn sig_item(
             let shape = module_type(alloc, found, file, signature, scope)?;
             scope.cut(len);
             let shape = functor_from(alloc, given, shape)?;
-            weighed_site(found, Place { file, token: *at }, &shape)?;
+            end_weighed_site(found, Place { file, token: *at }, &shape)?;
             Ok(add_shown(alloc, named_module(alloc, name, shape)?))
         }
         SigItem::Alias { at, name, path, .. } => {
             let shape = shape_at(alloc, &path.words, scope)?;
-            weighed_site(found, Place { file, token: *at }, &shape)?;
+            end_weighed_site(found, Place { file, token: *at }, &shape)?;
             Ok(add_shown(alloc, module_entry(alloc, name, shape)?))
         }
         SigItem::SigModuleType {
@@ -503,7 +503,7 @@ fn sig_item(
             ..
         } => {
             let shape = module_type(alloc, found, file, signature, scope)?;
-            weighed_site(found, Place { file, token: *at }, &shape)?;
+            end_weighed_site(found, Place { file, token: *at }, &shape)?;
             Ok(add_shown(alloc, type_entry(alloc, name, shape)?))
         }
         SigItem::SigOpen(open) => {
@@ -511,13 +511,13 @@ fn sig_item(
                 file,
                 token: open.at,
             };
-            let entries = opening(alloc, found, &open.path.words, at, scope)?;
+            let entries = resolve_opening(alloc, found, &open.path.words, at, scope)?;
             Ok(add_opened(alloc, entries))
         }
         SigItem::SigInclude { at, signature } => {
             let shape = module_type(alloc, found, file, signature, scope)?;
             let at = Place { file, token: *at };
-            weighed_site(found, at, &shape)?;
+            end_weighed_site(found, at, &shape)?;
             Ok(add_shown(alloc, bring(alloc, Some(&shape), at)?))
         }
     }

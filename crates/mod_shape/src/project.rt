@@ -12,7 +12,7 @@ ghost use Rattle.mod_shape.specs.Joined.{maybe_shape, joined_steps, joined_shape
 use binding_model::Found;
 use ml_trees::{FileTree, UnitTree};
 use mod_resolve::{signature, structure};
-use resolve_base::{match_target, pin_outside, unit_start, weighed_site};
+use resolve_base::{match_target, pin_outside, begin_unit, end_weighed_site};
 use rotor_base::{Memory, Name, Place};
 use shape_core::{FactError, Scope, Shared, SharedEntry, make_opaque, make_struct};
 use std::alloc::Global;
@@ -82,7 +82,7 @@ fn unit_parts(
     ensures face { IfOk result (λ parts. parts.face ≡ maybe_shape (entries_of scope.old) (view_part_of tree.now.face)) }
     ensures scope { IfOk result (λ _. scope.new ≡ scope.old) }
 {
-    unit_start(found);
+    begin_unit(found);
     let body = optional_file(alloc, found, &tree.body, scope)?;
     let face = optional_file(alloc, found, &tree.face, scope)?;
     Ok(Parts { body, face })
@@ -164,7 +164,7 @@ fn unit(
         file: last_file(tree),
         token: 1,
     };
-    weighed_site(found, at, &shape)?;
+    end_weighed_site(found, at, &shape)?;
     Ok(shape)
 }
 

@@ -13,7 +13,7 @@ ghost use Rattle.module_entries.specs.Given.{functor_to, functors_to, given_in, 
 use crate::entries::named_module;
 use binding_model::Found;
 use ml_trees::{FunctorParam, ModType, Word};
-use resolve_base::{match_target, path_in, start_of, weighed_site};
+use resolve_base::{match_target, path_in, start_of, end_weighed_site};
 use rotor_base::{Memory, Place};
 use shape_core::{
     FactError, Scope, Shared, SharedEntry, make_functor, make_opaque, make_unitary, mty_in, mty_of,
@@ -73,7 +73,7 @@ pub fn no_param(alloc: Global, found: &mut Found, file: u32, paren: u32) -> Resu
 {
     let shape = make_opaque(alloc)?;
     match paren.checked_add(1) {
-        Some(token) => weighed_site(found, Place { file, token }, &shape),
+        Some(token) => end_weighed_site(found, Place { file, token }, &shape),
         None => Err(FactError::Memory),
     }
 }
@@ -115,7 +115,7 @@ pub fn module_site(
 {
     let shape = seal(alloc, found, source, target)?;
     let shape = functor_from(alloc, given, shape)?;
-    weighed_site(found, at, &shape)?;
+    end_weighed_site(found, at, &shape)?;
     Ok(shape)
 }
 

@@ -84,7 +84,7 @@ fn list_declared(alloc: Global, values: &[SharedEntry]) -> Result<Row<Place>, Me
 }
 
 /// Ends a weighed site: `Heavy` if its shape, the sum of weights or the work so far is over its bound.
-pub fn weighed_site(found: &mut Found, at: Place, shape: &Shared) -> Result<(), FactError>
+pub fn end_weighed_site(found: &mut Found, at: Place, shape: &Shared) -> Result<(), FactError>
     ensures taken { HasTaken result found.old found.new (WeighedSite at shape.now) }
     ensures heavy { HasStopped result found.old (WeighedSite at shape.now) }
 {
@@ -100,7 +100,7 @@ pub fn weighed_site(found: &mut Found, at: Place, shape: &Shared) -> Result<(), 
 }
 
 /// Ends an opening site: `Heavy` if the weights that the unit has opened are over their bound.
-pub fn opened_site(found: &mut Found, at: Place, shape: &Shared) -> Result<(), FactError>
+pub fn end_opening_site(found: &mut Found, at: Place, shape: &Shared) -> Result<(), FactError>
     ensures taken { HasTaken result found.old found.new (OpenedSite at shape.now) }
     ensures heavy { HasStopped result found.old (OpenedSite at shape.now) }
 {
@@ -114,7 +114,7 @@ pub fn opened_site(found: &mut Found, at: Place, shape: &Shared) -> Result<(), F
 
 /// Ends an opening site of a module of which nothing is known: it opens no weight. `Heavy` is the only error: the unit
 /// has opened too much weight before.
-pub fn opened_nothing(found: &mut Found, at: Place) -> Result<(), FactError>
+pub fn end_opening_of_nothing(found: &mut Found, at: Place) -> Result<(), FactError>
     ensures taken { HasTaken result found.old found.new (OpenedSite at Opaque) }
     ensures heavy { HasStopped result found.old (OpenedSite at Opaque) }
 {
@@ -125,7 +125,7 @@ pub fn opened_nothing(found: &mut Found, at: Place) -> Result<(), FactError>
 }
 
 /// Begins a unit: no weight is opened yet.
-pub fn unit_start(found: &mut Found)
+pub fn begin_unit(found: &mut Found)
     ensures { taken (Going found.old) UnitStart ≡ Going found.new }
 {
     found.sums.opened = 0;

@@ -11,9 +11,9 @@ mod uses;
 
 pub use binders::{bind, bind_name, bind_variable, variables};
 pub use found::{
-    group, opened_nothing, opened_site, unit_start, use_alone, use_under, weighed_site,
+    group, end_opening_of_nothing, end_opening_site, begin_unit, use_alone, use_under, end_weighed_site,
 };
 pub use linked::{match_target, pin_outside, tie_parts};
-pub use paths::{opening, path_in, start_of};
+pub use paths::{resolve_opening, path_in, start_of};
 pub use scopes::go_on_with;
 pub use uses::{use_label, use_minus, use_name, use_name_in, use_operator, use_word};

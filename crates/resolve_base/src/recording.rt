@@ -15,7 +15,7 @@ use rotor_base::{Goal, Looks, Memory, Place, RefLook};
 use shape_core::{
     Kind, LookSpot, Scope, Shared, darks_in, darks_of, kind, last_val_in, last_val_of,
 };
-use sig_match::{Test, last_in, look_of_value, watch_match, watch_pin};
+use sig_match::{Test, find_last_in, look_of_value, watch_match, watch_pin};
 use std::alloc::Global;
 use watched::Watched;
 
@@ -62,7 +62,7 @@ fn look_in(
         darks,
         by,
         foot,
-        new: new_in(watch, scope),
+        new: find_new_in(watch, scope),
     }))
 }
 
@@ -80,14 +80,14 @@ fn is_new(watch: &Watched, name: &[u8]) -> bool
 }
 
 /// The last value of the new name in a scope.
-fn new_in(watch: &Watched, scope: &Scope) -> Option<LookSpot>
+fn find_new_in(watch: &Watched, scope: &Scope) -> Option<LookSpot>
     ensures { result ≡ looks.last_where (looks.named_new watch.now) (entries_of scope.now) }
 {
     last_val_in(scope, watch.as_watch().new.as_bytes())
 }
 
 /// The last value of the new name in a structure.
-fn new_of(watch: &Watched, shape: &Shared) -> Option<LookSpot>
+fn find_new_of(watch: &Watched, shape: &Shared) -> Option<LookSpot>
     ensures { result ≡ looks.last_where (looks.named_new watch.now) (entries_in shape.now) }
 {
     last_val_of(shape, watch.as_watch().new.as_bytes())
@@ -126,8 +126,8 @@ fn look_of(watch: &Watched, shape: &Shared, at: Place, name: &[u8], goal: Goal) 
         is_new: is_new(watch, name),
         darks,
         by,
-        foot: last_in(Test::InFoot, watch, shape),
-        new: new_of(watch, shape),
+        foot: find_last_in(Test::InFoot, watch, shape),
+        new: find_new_of(watch, shape),
     })
 }
 

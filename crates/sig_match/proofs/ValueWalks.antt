@@ -1,9 +1,13 @@
 -- Walks over the positions of the values of a list.
 use Rattle.std.proofs.Common.{◌≡◌, ℕ, zero, suc, ◌+◌, ◌<◌, ◌≤◌, List, [], ◌∷◌, length, drop, get_or, None, refl, ap, ◌∙◌, arith}
 use Rattle.shape_core.specs.Shape.{Entries, none, a_val, a_mod, a_mty, a_dark, entries_from, values_from}
-use Rattle.shape_core.specs.Links.{◌&◌, nothing, one, pin_vals}
-use Rattle.sig_match.specs.Walk.{met, met_first, told_once}
-use Rattle.sig_match.specs.Parts.{pins_at}
+use Rattle.shape_core.specs.Links.{Trace, ◌&◌, nothing, one, pin_vals}
+use Rattle.sig_match.specs.Walk.{Met, met, met_first, told_once}
+
+-- the values at some positions of a list, pinned
+abbrev pub pins_at : Entries → List ℕ → Trace Met
+pins_at es [] = nothing
+pins_at es (at ∷ ats) = told_once (met_first None (entries_from at es)) & pins_at es ats
 
 -- the entries after the first of those from a position on
 from_next : (at : ℕ) (es : Entries) → entries_from (suc at) es ≡ entries_from 1 (entries_from at es)

@@ -1,9 +1,9 @@
 -- The parts of Match and Pin that walks go through one by one (the OCaml manual, "Module types").
-use Rattle.std.specs.Prelude.{ℕ, Bool, true, false, List, [], ◌∷◌, Option, Some, None}
-use Rattle.shape_core.specs.Shape.{Shape, Struct, Functor, Unitary, Opaque, Entries, none, a_val, a_mod, a_mty, a_dark, unless_some, entries_from}
+use Rattle.std.specs.Prelude.{Bool, true, false, Option, Some, None}
+use Rattle.shape_core.specs.Shape.{Shape, Struct, Functor, Unitary, Opaque, Entries, none, a_val, a_mod, a_mty, a_dark, unless_some}
 use Rattle.shape_core.specs.Shape.{find_mod, find_mty}
 use Rattle.shape_core.specs.Links.{Trace, ◌&◌, nothing, a_step, one, pin, pin_vals, matched, or_empty}
-use Rattle.sig_match.specs.Walk.{Met, met, met_first, told_once}
+use Rattle.sig_match.specs.Walk.{Met, met}
 
 -- a part of a shape that may be absent
 abbrev pub pin_part : Option Shape → Trace Met
@@ -22,11 +22,6 @@ pin_first (a_val x g es) = one (met x g es None)
 pin_first (a_mod X s es) = a_step & unless_some (find_mod es X) (pin met s) nothing
 pin_first (a_mty S s es) = a_step & unless_some (find_mty es S) (pin met s) nothing
 pin_first (a_dark at es) = a_step
-
--- the values at some positions of a list, pinned
-abbrev pub pins_at : Entries → List ℕ → Trace Met
-pins_at es [] = nothing
-pins_at es (at ∷ ats) = told_once (met_first None (entries_from at es)) & pins_at es ats
 
 -- the first entry of a target
 abbrev pub match_first : Entries → Entries → Trace Met

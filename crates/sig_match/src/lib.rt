@@ -9,5 +9,5 @@ mod pinning;
 
 pub use links::{Matched, match_shapes, pin};
 pub use looks::{
-    Test, last_in, last_where, look_of_value, match_looks, pin_looks, watch_match, watch_pin,
+    Test, find_last_in, look_of_value, match_looks, pin_looks, watch_match, watch_pin,
 };

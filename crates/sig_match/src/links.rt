@@ -33,7 +33,7 @@ pub fn match_shapes(alloc: Global, src: &Shared, tgt: &Shared, room: u32) -> Res
         work: 0,
     };
     let walked = match_both(src, tgt, &empty, room, &mut found);
-    matched_of(alloc, walked, &found)
+    make_matched(alloc, walked, &found)
 }
 
 /// The links of a shape that is pinned: each of its values is linked with the outside. It is `Over` exactly if the work
@@ -46,11 +46,11 @@ pub fn pin(alloc: Global, shape: &Shared, room: u32) -> Result<Matched, Memory>
         work: 0,
     };
     let walked = pin_shape(shape, room, &mut found);
-    matched_of(alloc, walked, &found)
+    make_matched(alloc, walked, &found)
 }
 
 // The answer after a walk.
-fn matched_of(alloc: Global, walked: Result<(), Stop>, found: &Found) -> Result<Matched, Memory>
+fn make_matched(alloc: Global, walked: Result<(), Stop>, found: &Found) -> Result<Matched, Memory>
     ensures { IfOk result (IsAnswer walked found.now) }
 {
     match walked {

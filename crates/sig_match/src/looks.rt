@@ -40,16 +40,15 @@ fn passes(test: Test, watch: &Watched, name: &[u8], goal: Goal) -> bool
     }
 }
 
-/// The last value of a list that a test accepts. The walk begins at the end of the list and stops at that value. It
-/// takes no memory.
-pub fn last_where(test: Test, watch: &Watched, list: &[SharedEntry]) -> Option<LookSpot>
+// The last value of a list that a test accepts. The walk begins at the end of the list and stops at that value.
+fn find_last(test: Test, watch: &Watched, list: &[SharedEntry]) -> Option<LookSpot>
     ensures { result ≡ pure.last_where (test_of test watch.now) (entries_of list.now) }
 {
-    last_from(test, watch, list, 0)
+    find_last_from(test, watch, list, 0)
 }
 
 // The same if its position is not below another one, at which the walk ends.
-fn last_from(test: Test, watch: &Watched, list: &[SharedEntry], from: usize) -> Option<LookSpot>
+fn find_last_from(test: Test, watch: &Watched, list: &[SharedEntry], from: usize) -> Option<LookSpot>
     requires { from ≤ length list.now }
     ensures { result ≡ kept_from from (pure.last_where (test_of test watch.now) (entries_of list.now)) }
 {
@@ -71,9 +70,10 @@ fn last_from(test: Test, watch: &Watched, list: &[SharedEntry], from: usize) -> 
     None
 }
 
-/// The last value of a structure that a test accepts. It takes no memory, and walks the structure at most for as many
-/// steps as the footprint has members.
-pub fn last_in(test: Test, watch: &Watched, shape: &Shared) -> Option<LookSpot>
+/// The last value of a structure that a test accepts. `InFoot` takes a step from the end and a look-up for each member
+/// of the footprint at most, `OtherOld` a step for each later value of the old name, and `NamedNew` one look-up. It takes
+/// no memory.
+pub fn find_last_in(test: Test, watch: &Watched, shape: &Shared) -> Option<LookSpot>
     ensures { result ≡ pure.last_where (test_of test watch.now) (entries_in shape.now) }
 {
     match test {
@@ -91,7 +91,7 @@ fn last_member(watch: &Watched, shape: &Shared) -> Option<LookSpot>
     let list = entries(shape);
     let members = watch.as_watch().foot.decls.as_slice();
     let near = list.len().saturating_sub(members.len());
-    match last_from(Test::InFoot, watch, list, near) {
+    match find_last_from(Test::InFoot, watch, list, near) {
         Some(spot) => Some(spot),
         None => {
             if near == 0 {
@@ -108,7 +108,7 @@ fn source_where(test: Test, watch: &Watched, source: Option<&Shared>) -> Option<
     ensures { result ≡ pure.source_where (test_of test watch.now) (list_in source.entry) }
 {
     match source {
-        Some(shape) => last_in(test, watch, shape),
+        Some(shape) => find_last_in(test, watch, shape),
         None => None,
     }
 }
@@ -135,8 +135,8 @@ fn is_later(test: Test, watch: &Watched, rest: Rest<'_>) -> bool
     ensures { result ≡ is_some (pure.last_where (test_of test watch.now) (rest_of rest.entry)) }
 {
     match rest {
-        Rest::Listed(list) => last_where(test, watch, list).is_some(),
-        Rest::Behind(shape, at) => is_behind(last_in(test, watch, shape), at),
+        Rest::Listed(list) => find_last(test, watch, list).is_some(),
+        Rest::Behind(shape, at) => is_behind(find_last_in(test, watch, shape), at),
     }
 }
 

@@ -99,17 +99,17 @@ more_cases-returns-in_err-case-clause-heavy t c =
     ∙ ap (λ l. taken (Going c.loop-part.found) (cases_steps c.args.file (entries_of c.loop-part.scope) (cases l))) d
     ∙ ap (λ s. taken s more) (c.in_err-case.ensures.heavy at h) ∙ heavy_stays more at)
 
-pub more_bindings-returns-in_err-binding-clause-heavy : goal.more_bindings-returns-in_err-binding-clause-heavy
-more_bindings-returns-in_err-binding-clause-heavy t c =
+pub more_bindings-returns-in_err-resolve_binding-clause-heavy : goal.more_bindings-returns-in_err-resolve_binding-clause-heavy
+more_bindings-returns-in_err-resolve_binding-clause-heavy t c =
     let rest = drop (c.loop-part.part-index + 1) c.args.list.now in
     let d = drop_more c.args.list.now c.loop-part.part-index c.part-item.result (omega (arith, c.loop-part-test.true))
     ∙ ap (λ (x : Binding). x ∷ rest) (sym c.part-item.is) in
     let more = bindings_steps c.args.file (entries_of c.loop-part.scope) (bindings rest) in
-    passed c.from_residual.result c.in_err-binding.field-0.0 c.args.found.now
+    passed c.from_residual.result c.in_err-resolve_binding.field-0.0 c.args.found.now
     (bindings_steps c.args.file (entries_of c.args.scope.now) (bindings c.args.list.now)) c.from_residual.ensures.0 c.from_residual.ensures.1
     (λ at h. sym c.loop-part.invariant.0
     ∙ ap (λ l. taken (Going c.loop-part.found) (bindings_steps c.args.file (entries_of c.loop-part.scope) (bindings l))) d
-    ∙ ap (λ s. taken s more) (c.in_err-binding.ensures.heavy at h) ∙ heavy_stays more at)
+    ∙ ap (λ s. taken s more) (c.in_err-resolve_binding.ensures.heavy at h) ∙ heavy_stays more at)
 
 pub operands-returns-in_err-expression-clause-heavy : goal.operands-returns-in_err-expression-clause-heavy
 operands-returns-in_err-expression-clause-heavy t c =

@@ -1,9 +1,8 @@
 use Rattle.std.proofs.Common.{ap, ◌∙◌}
 use Rattle.shape_core.specs.Shape.{entries_in}
 use Rattle.sig_match.specs.Walk.{trace_of}
-use Rattle.sig_match.specs.Parts.{pins_at}
 use Rattle.sig_match.proofs.Walks.{left, stops_same, goes_same, loop_stops, loop_turns, loop_ends}
-use Rattle.sig_match.proofs.ValueWalks.{pins_all, pins_rest, pins_over}
+use Rattle.sig_match.proofs.ValueWalks.{pins_at, pins_all, pins_rest, pins_over}
 use Rattle.sig_match.proofs.pinning.pin_values.Goals as goal
 
 pub returns-in_err-meet : goal.returns-in_err-meet

@@ -1,6 +1,6 @@
 use Rattle.std.proofs.Common.{◌∙◌}
 use Rattle.sig_match.proofs.Behind.{kept_all}
-use Rattle.sig_match.proofs.looks.last_where.Goals as goal
+use Rattle.sig_match.proofs.looks.find_last.Goals as goal
 
 pub returns : goal.returns
-returns c = c.last_from.ensures ∙ kept_all _
+returns c = c.find_last_from.ensures ∙ kept_all _

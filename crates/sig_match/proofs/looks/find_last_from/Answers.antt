@@ -4,7 +4,7 @@ use Rattle.shape_core.specs.Node.{entries_of}
 use Rattle.sig_match.specs.Tests.{test_of}
 use Rattle.shape_core.proofs.Lasts.{found_before}
 use Rattle.sig_match.proofs.Behind.{kept_found, none_kept}
-use Rattle.sig_match.proofs.looks.last_from.Goals as goal
+use Rattle.sig_match.proofs.looks.find_last_from.Goals as goal
 
 pub returns-then-passes : goal.returns-then-passes
 returns-then-passes c =

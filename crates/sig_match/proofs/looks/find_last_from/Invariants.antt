@@ -3,7 +3,7 @@ use Rattle.shape_core.specs.Shape.{darks}
 use Rattle.shape_core.specs.Looks as pure
 use Rattle.shape_core.specs.Node.{entries_of}
 use Rattle.sig_match.specs.Tests.{test_of}
-use Rattle.sig_match.proofs.looks.last_from.Given as goal
+use Rattle.sig_match.proofs.looks.find_last_from.Given as goal
 
 -- from here on no value passes, and so many entries are Dark
 abbrev pub invariant-loop-left : goal.invariant-loop-left
