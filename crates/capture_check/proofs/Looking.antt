@@ -12,11 +12,12 @@ use Rattle.rotor_base.specs.declared.looks.Watch.{Watch}
 use Rattle.rotor_base.specs.declared.looks.RefLook.{RefLook}
 use Rattle.rotor_base.specs.declared.looks.LinkLook.{LinkLook}
 use Rattle.rotor_base.specs.Place.{same_place, place_cmp}
+use Rattle.shape_core.specs.Looks.{is_member}
 use Rattle.binding_model.specs.Steps.{a_ref}
 use Rattle.binding_model.specs.Local.{ref_look_at, link_look_at, would_goal, would_come, would_be, would_links}
 use Rattle.binding_model.proofs.Standing.{same_swap}
 use Rattle.capture_check.proofs.PlaceTests.{tests_same}
-use Rattle.capture_check.specs.Would.{goal_if, source_if, goal_by, source_by, ref_by, links_by, HasMembers, HasRefLooks, HasLinkLooks}
+use Rattle.capture_check.specs.Would.{goal_if, source_if, goal_by, source_by, ref_by, links_by, is_in, HasRefLooks, HasLinkLooks}
 
 -- one more member
 or_moved : (a b c : Bool) → (cond a true b || c) ≡ (b || (a || c))
@@ -38,6 +39,10 @@ pub members_more : (ps : List Place) (i : ℕ) (p : Place) (old new : BTreeSet P
 members_more ps i p old new more put h d =
     member_more p d (drop (i + 1) ps) (contains place_cmp old d) (contains place_cmp new d) (put d)
     ∙ (sym (ap (λ (qs : List Place). contains place_cmp old d || list_any (same_place d) qs) more) ∙ h d)
+
+-- the set has the members of a footprint, and no more
+abbrev pub HasMembers : Watch → BTreeSet Place → Type 0
+HasMembers w members = (g : Goal) → is_in members g ≡ is_member w g
 
 -- a set of the declarations has the members
 pub members_are : (w : Watch) (members : BTreeSet Place) → ((d : Place) → contains place_cmp members d ≡ list_any (same_place d) w.foot.decls)

@@ -8,11 +8,9 @@ use Rattle.rotor_base.specs.declared.place.Goal.{Goal}
 use Rattle.rotor_base.specs.declared.place.Goal.TheVariants.{Decl}
 use Rattle.rotor_base.specs.declared.place.Link.{Link}
 use Rattle.rotor_base.specs.declared.place.Ref.{Ref}
-use Rattle.rotor_base.specs.declared.looks.Watch.{Watch}
 use Rattle.rotor_base.specs.declared.looks.RefLook.{RefLook}
 use Rattle.rotor_base.specs.declared.looks.LinkLook.{LinkLook}
 use Rattle.rotor_base.specs.Place.{place_cmp}
-use Rattle.shape_core.specs.Looks.{is_member}
 use Rattle.binding_model.specs.Steps.{a_ref}
 use Rattle.binding_model.specs.Looks.{behind_darks, later, would_find, would_source}
 use Rattle.binding_model.specs.Local.{ref_look_at, link_look_at}
@@ -49,10 +47,6 @@ abbrev pub links_by : BTreeSet Place → BTreeMap ℕ LinkLook → ℕ → List 
 links_by members looks n [] = []
 links_by members looks n (l ∷ ls) = record { item = l.item; source = source_by members (get nat_cmp looks n) l.source } ∷ links_by members looks
     (suc n) ls
-
--- the set has the members of a footprint, and no more
-abbrev pub HasMembers : Watch → BTreeSet Place → Type 0
-HasMembers w members = (g : Goal) → is_in members g ≡ is_member w g
 
 -- the tables have the first look of each place, and of each number
 abbrev pub HasRefLooks : List RefLook → BTreeMap Place RefLook → Type 0

@@ -26,7 +26,7 @@ use Rattle.rename_verify.specs.Candidate.{AreLexemesOf, candidate, changes}
 use Rattle.rename_verify.specs.Changed.{Changed}
 use Rattle.rename_verify.specs.Differ.{FilesPartAt}
 use Rattle.rename_verify.specs.Fixed.{IsLeastHeld}
-use Rattle.rename_verify.specs.Steps.{HasFirstFault, HasSpot, IsSameShape, IsSuggested, IsSuggestedFor}
+use Rattle.rename_verify.specs.Steps.{HasFirstFault, HasSpot, IsSameShape, IsSuggestedFor}
 use Rattle.rename_survey.specs.declared.answer.Binder.{Binder}
 use Rattle.rename_survey.specs.Listed.{binders_in}
 use Rattle.rename_survey.proofs.Listing.{all_listed}
@@ -117,7 +117,7 @@ module _ (old new : FileSet) (us : List UnitTree) (p : IsProject old) (reads : R
 module _ (old new : FileSet) (us : List UnitTree) (p : IsProject old) (reads : Reads old us) (light : heavy us ≡ None)
     (names : names_of old.entries ≡ names_of new.entries) (manifest : old.manifest ≡ new.manifest)
     (m : Renaming) (list : List Changed) (ls : List (Place × Site)) (at : ls ≡ places us) (g : IsSuggestedFor (binders_in ls) new m list) where
-  h : IsSuggested us new m list
+  h : IsSuggestedFor (binders_of us) new m list
   h = subst (λ (bs : List Binder). IsSuggestedFor bs new m list) (ap binders_in at ∙ all_listed us (read_is_sound old us p reads)) g
 
   pub changes_free : (k : Changed) → Contains list k → IsFixedSite (at_place (places us) k.0) → ⊥

@@ -12,7 +12,6 @@ use Rattle.capture_check.specs.Fault.{IsFirstFault}
 use Rattle.project_reading.specs.Reads.{Reads}
 use Rattle.rename_respell.specs.Respelled.{AreRespelledBytes, mapped_words}
 use Rattle.rename_survey.specs.declared.answer.Binder.{Binder}
-use Rattle.rename_survey.specs.Survey.{binders_of}
 use Rattle.rename_verify.specs.declared.bytes.Spot.{Spot}
 use Rattle.rename_verify.specs.Candidate.{AreLexemesOf, candidate, changes}
 use Rattle.rename_verify.specs.Changed.{Changed}
@@ -22,10 +21,6 @@ use Rattle.rename_verify.specs.Scans.{IsSpot}
 abbrev pub IsSuggestedFor : List Binder → FileSet → Renaming → List Changed → Type 0
 IsSuggestedFor binders new names list = (lists : List (List Lexeme)) × AreLexemesOf new.entries lists
     × (names ≡ candidate lists binders) × (list ≡ changes lists binders)
-
--- for the binders of a project
-abbrev pub IsSuggested : List UnitTree → FileSet → Renaming → List Changed → Type 0
-IsSuggested us new names list = IsSuggestedFor (binders_of us) new names list
 
 -- the first byte at which the new sources differ from the old ones with other names; or none
 abbrev pub HasSpot : List UnitTree → Renaming → FileSet → FileSet → Option Spot → Type 0

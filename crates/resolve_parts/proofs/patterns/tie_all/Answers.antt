@@ -4,8 +4,7 @@ use Rattle.ml_trees.specs.View.{view_pat, pats}
 use Rattle.shape_core.specs.Shape.{entries_in}
 use Rattle.binding_model.specs.Taken.{taken, Going}
 use Rattle.binding_model.specs.Variables.{variables}
-use Rattle.resolve_parts.specs.Tied.{ties_from}
-use Rattle.resolve_parts.proofs.Lists.{ties_so}
+use Rattle.resolve_parts.proofs.Lists.{ties_from, ties_so}
 use Rattle.resolve_parts.proofs.patterns.tie_all.Goals as goal
 
 pub returns : goal.returns

@@ -2,7 +2,7 @@ use Rattle.std.proofs.Common.{◌≡◌, drop}
 use Rattle.ml_trees.specs.View.{pats}
 use Rattle.shape_core.specs.Shape.{entries_in}
 use Rattle.binding_model.specs.Taken.{taken, Going}
-use Rattle.resolve_parts.specs.Tied.{ties_from}
+use Rattle.resolve_parts.proofs.Lists.{ties_from}
 use Rattle.resolve_parts.proofs.patterns.tie_all.Given as goal
 
 abbrev pub invariant-loop-part : goal.invariant-loop-part
