@@ -24,7 +24,7 @@ pub fn would_ref(look: RefLook, member: bool) -> Goal
 pub fn would_link(look: LinkLook, member: bool) -> Goal
     ensures { result ≡ source_if member look }
 {
-    let none = behind_darks(look.by, look.darks, None);
+    let none = find_behind_darks(look.by, look.darks, None);
     if look.is_new || member {
         let found = would_find(look.by, none, take_later(look.foot, look.new));
         would_source(look.later_foot || look.later_new, look.pinned, found)
@@ -66,12 +66,12 @@ fn would_find(by: Option<Place>, other: Goal, found: Option<Spot>) -> Goal
 {
     match found {
         None => other,
-        Some(spot) => behind_darks(by, spot.2, Some(spot.1)),
+        Some(spot) => find_behind_darks(by, spot.2, Some(spot.1)),
     }
 }
 
 /// A declaration or none behind so many outside modules, of which `by` is the last.
-fn behind_darks(by: Option<Place>, darks: u64, found: Option<Place>) -> Goal
+fn find_behind_darks(by: Option<Place>, darks: u64, found: Option<Place>) -> Goal
     ensures { result ≡ behind_darks by darks found }
 {
     if darks == 0 {

@@ -20,7 +20,7 @@ pub fn footprint(alloc: Global, facts: &Facts, d: Place) -> Result<Foot, Memory>
 {
     let links = facts.links.as_slice();
     let decls = reached::find_reached(alloc, links, d)?;
-    let outside = outside::least_fixed(alloc, links, &decls)?;
+    let outside = outside::find_least_fixed(alloc, links, &decls)?;
     Ok(Foot {
         decls: Row::from_vec(decls),
         outside,

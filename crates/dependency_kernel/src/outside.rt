@@ -9,11 +9,11 @@ use std::alloc::Global;
 use std::collections::BTreeSet;
 
 /// The first of these declarations, which are in order, that has a link with the outside. `Memory` is the only error.
-pub fn least_fixed(alloc: Global, links: &[Link], decls: &[Place]) -> Result<Option<Place>, Memory>
+pub fn find_least_fixed(alloc: Global, links: &[Link], decls: &[Place]) -> Result<Option<Place>, Memory>
     requires { AllPairs IsBefore decls.now }
     ensures { IfOk result (IsLeastFixed links.now decls.now) }
 {
-    let fixed = fixed_of(alloc, links)?;
+    let fixed = find_fixed(alloc, links)?;
     for place in decls {
         if fixed.contains(place) {
             return Ok(Some(*place));
@@ -23,7 +23,7 @@ pub fn least_fixed(alloc: Global, links: &[Link], decls: &[Place]) -> Result<Opt
 }
 
 /// The declarations that are in a link with the outside.
-fn fixed_of(alloc: Global, links: &[Link]) -> Result<BTreeSet<Place>, Memory>
+fn find_fixed(alloc: Global, links: &[Link]) -> Result<BTreeSet<Place>, Memory>
     ensures fixed { IfOk result (λ fixed. (p : Place) → contains place_cmp fixed p ≡ true → IsFixed links.now p) }
     ensures all { IfOk result (λ fixed. (p : Place) → IsFixed links.now p → contains place_cmp fixed p ≡ true) }
 {

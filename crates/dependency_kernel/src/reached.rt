@@ -25,11 +25,11 @@ pub fn find_reached(alloc: Global, links: &[Link], d: Place) -> Result<Vec<Place
         }
         decls.insert(place)?;
     }
-    in_order(alloc, &decls)
+    list_in_order(alloc, &decls)
 }
 
 /// The declarations of a set, in order of places.
-fn in_order(alloc: Global, decls: &BTreeSet<Place>) -> Result<Vec<Place>, Memory>
+fn list_in_order(alloc: Global, decls: &BTreeSet<Place>) -> Result<Vec<Place>, Memory>
     ensures same { IfOk result (λ list. list.items ≡ decls.now.keys) }
     ensures ordered { IfOk result (λ list. AllPairs IsBefore list.items) }
 {

@@ -262,7 +262,7 @@ fn number_of(tree: &FileTree) -> u32
 
 /// Groups, and behind them those of a file.
 #[tactic(auto, using(crate::proofs::Grouped::file_grouped))]
-fn with_file(
+fn add_file(
     alloc: Global,
     found: Vec<Row<Place>>,
     tree: &FileTree,
@@ -281,7 +281,7 @@ fn with_file(
 
 /// Groups, and behind them those of a part of a unit.
 #[tactic(auto, using(crate::proofs::Listed::none_listed))]
-fn with_part(
+fn add_part(
     alloc: Global,
     found: Vec<Row<Place>>,
     part: &Option<FileTree>,
@@ -289,7 +289,7 @@ fn with_part(
     ensures { IfOk result (λ groups. groups.items ≡ found.items ++ map decls (maybe_groups (view_part_of part.now))) }
 {
     match part {
-        Some(tree) => with_file(alloc, found, tree),
+        Some(tree) => add_file(alloc, found, tree),
         None => Ok(found),
     }
 }
@@ -305,8 +305,8 @@ pub fn units(alloc: Global, list: &[UnitTree]) -> Result<Row<Row<Place>>, Memory
 {
     let mut found = Vec::new(alloc);
     for tree in list {
-        found = with_part(alloc, found, &tree.body)?;
-        found = with_part(alloc, found, &tree.face)?;
+        found = add_part(alloc, found, &tree.body)?;
+        found = add_part(alloc, found, &tree.face)?;
     }
     Ok(Row::from_vec(found))
 }

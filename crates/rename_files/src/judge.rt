@@ -26,7 +26,7 @@ ghost use Rattle.rename_files.specs.Steps.{LastRungs};
 use capture_check::local_fault_of;
 use mod_shape::looks;
 use project_reading::Read;
-use rename_parts::first_over;
+use rename_parts::find_first_over;
 use rename_steps::{judge_foot, new_source, refusal_of_fault};
 use rotor_base::{Facts, Files, Memory, Place, Refusal, SourceFile, Token, Watch};
 use std::alloc::Global;
@@ -69,7 +69,7 @@ pub fn judge(
 {
     let found = judge_foot(alloc, placed, facts, watch, members)?;
     let sources = new_sources(alloc, files, read, &found.set, watch.new.as_bytes())?;
-    if let Some(file) = first_over(&sources) {
+    if let Some(file) = find_first_over(&sources) {
         return Err(Refusal::Grown { file });
     }
     judge_faults(alloc, read, placed, facts, watch)?;

@@ -15,17 +15,17 @@ pub fn least_blurred(refs: &[Ref], links: &[Link], members: &BTreeSet<Place>) ->
 {
     let mut least = None;
     for reference in refs {
-        least = earlier_of(least, blurred_ref(*reference, members));
+        least = take_earlier_of(least, blurred_ref(*reference, members));
     }
     for link in links {
-        let item = earlier_of(least, blurred_item(*link, members));
-        least = earlier_of(item, behind_in(link.source, members));
+        let item = take_earlier_of(least, blurred_item(*link, members));
+        least = take_earlier_of(item, find_behind(link.source, members));
     }
     least
 }
 
 /// The earlier of two places, of which each may be missing.
-fn earlier_of(best: Option<Place>, found: Option<Place>) -> Option<Place>
+fn take_earlier_of(best: Option<Place>, found: Option<Place>) -> Option<Place>
     ensures { result ≡ earlier_of best found }
 {
     match found {
@@ -38,7 +38,7 @@ fn earlier_of(best: Option<Place>, found: Option<Place>) -> Option<Place>
 fn blurred_ref(reference: Ref, members: &BTreeSet<Place>) -> Option<Place>
     ensures { result ≡ blurred_ref members.now reference }
 {
-    match behind_in(reference.goal, members) {
+    match find_behind(reference.goal, members) {
         Some(_) => Some(reference.at),
         None => None,
     }
@@ -56,13 +56,13 @@ fn blurred_item(link: Link, members: &BTreeSet<Place>) -> Option<Place>
                 passed: _,
                 behind: _,
             },
-        ) => in_set(place, members),
+        ) => keep_member(place, members),
         _ => None,
     }
 }
 
 /// The member behind outside modules, if a goal has one.
-fn behind_in(goal: Goal, members: &BTreeSet<Place>) -> Option<Place>
+fn find_behind(goal: Goal, members: &BTreeSet<Place>) -> Option<Place>
     ensures { result ≡ behind_in members.now goal }
 {
     match goal {
@@ -70,13 +70,13 @@ fn behind_in(goal: Goal, members: &BTreeSet<Place>) -> Option<Place>
             by: _,
             passed: _,
             behind: Some(place),
-        } => in_set(place, members),
+        } => keep_member(place, members),
         _ => None,
     }
 }
 
 /// A place, if it is a member.
-fn in_set(place: Place, members: &BTreeSet<Place>) -> Option<Place>
+fn keep_member(place: Place, members: &BTreeSet<Place>) -> Option<Place>
     ensures { result ≡ in_set members.now place }
 {
     if members.contains(&place) {

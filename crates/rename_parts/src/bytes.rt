@@ -96,7 +96,7 @@ fn is_lower(class: Class) -> bool
 }
 
 /// The number of the first source with which those up to it are over the limits on bytes.
-pub fn first_over(files: &[SourceFile]) -> Option<u32>
+pub fn find_first_over(files: &[SourceFile]) -> Option<u32>
     requires { length files.now ≤ max_sources }
     ensures { result ≡ position_with are_over files.now }
 {

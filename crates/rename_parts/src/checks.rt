@@ -62,13 +62,13 @@ pub fn least_pun(marks: &[Hit]) -> Option<Place>
 {
     let mut least = None;
     for mark in marks {
-        least = with_pun(least, *mark);
+        least = take_pun(least, *mark);
     }
     least
 }
 
 /// The earlier of a place, of which there may be none, and of one whose word is a label or a field too.
-fn with_pun(best: Option<Place>, mark: Hit) -> Option<Place>
+fn take_pun(best: Option<Place>, mark: Hit) -> Option<Place>
     ensures { result ≡ (if mark.pun then earlier best mark.place else best) }
 {
     if mark.pun {

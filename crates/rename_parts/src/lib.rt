@@ -12,7 +12,7 @@ mod targets;
 
 pub use binders::{binder_at, placed_binder};
 pub use blurred::least_blurred;
-pub use bytes::{first_over, new_bytes};
+pub use bytes::{find_first_over, new_bytes};
 pub use checks::{Hit, has_operator, hit_marks, least_pun};
 pub use links::least_unmatched;
 pub use members::{count_refs, files_of, hit_places};

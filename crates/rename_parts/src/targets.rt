@@ -81,19 +81,19 @@ pub fn find_dotted(top: &Scope, path: &[Name]) -> Option<Place>
 {
     let (first, rest) = path.split_first()?;
     if rest.is_empty() {
-        return decl_found(val_in(top, first.as_bytes()));
+        return declaration_of(val_in(top, first.as_bytes()));
     }
-    dotted_in(step_from(top, first)?, rest)
+    walk_dotted(step_from(top, first)?, rest)
 }
 
 /// The declaration that a dotted path names, walked from a module.
-fn dotted_in(shape: &Shared, path: &[Name]) -> Option<Place>
+fn walk_dotted(shape: &Shared, path: &[Name]) -> Option<Place>
     ensures { result ≡ dotted (entries_in shape.now) path.now }
 {
     let mut inside = shape;
     for (at, name) in path.iter().enumerate() {
         if at + 1 == path.len() {
-            return decl_found(val_of(inside, name.as_bytes()));
+            return declaration_of(val_of(inside, name.as_bytes()));
         }
         inside = step_in(inside, name)?;
     }
@@ -121,7 +121,7 @@ fn step_in<'a>(shape: &'a Shared, name: &Name) -> Option<&'a Shared>
 }
 
 /// The declaration that a look-up found, also behind outside modules.
-fn decl_found(goal: Option<Goal>) -> Option<Place>
+fn declaration_of(goal: Option<Goal>) -> Option<Place>
     ensures { result ≡ decl_found goal }
 {
     match goal? {

@@ -17,7 +17,7 @@ ghost use Rattle.rename_verify.specs.Verdict.{IsVerdict, Verdicts};
 
 use crate::bytes::{Spot, first_spot};
 use crate::candidate::{Suggested, suggest};
-use crate::fixed::least_fixed;
+use crate::fixed::find_least_fixed;
 use crate::names::other_source;
 use crate::verdict::{Verdict, Why};
 use capture_check::{Fault, first_fault};
@@ -74,7 +74,7 @@ fn judge(
             offset: spot.offset,
         }));
     }
-    if let Some(at) = least_fixed(alloc, placed, facts, &found.changes)? {
+    if let Some(at) = find_least_fixed(alloc, placed, facts, &found.changes)? {
         return Ok(Verdict::No(Why::Fixed { at }));
     }
     match find_fault(alloc, new, facts)? {

@@ -23,7 +23,7 @@ use watched::set_of;
 /// The least of some changed binders that may not take another name: a use of it is an operator, or its word is a label
 /// or a field too; a link joins it with the outside; or an outside module may hide it. The places and the facts are those
 /// of the project. `Memory` is the only error.
-pub fn least_fixed(
+pub fn find_least_fixed(
     alloc: Global,
     placed: &PlacedProject<'_>,
     facts: &Facts,
@@ -33,7 +33,7 @@ pub fn least_fixed(
 {
     let uses = fixed_uses(alloc, placed, facts.refs.as_slice())?;
     let fixed = fixed_binders(alloc, facts, &uses)?;
-    Ok(least_among(changes, &fixed))
+    Ok(find_least_among(changes, &fixed))
 }
 
 /// The references that are operators, or whose word is a label or a field too.
@@ -143,18 +143,18 @@ fn add_behind(list: &mut Vec<Place>, goal: Goal) -> Result<(), Memory>
 }
 
 /// The least of some changed binders that is in a set.
-fn least_among(changes: &[Change], fixed: &BTreeSet<Place>) -> Option<Place>
+fn find_least_among(changes: &[Change], fixed: &BTreeSet<Place>) -> Option<Place>
     ensures { IsLeastOrNone (λ p. (c : Changed) × Contains changes.now c × (c.0 ≡ p) × (contains place_cmp fixed.now p ≡ true)) result }
 {
     let mut least = None;
     for change in changes {
-        least = with_fixed(least, change.0, fixed);
+        least = take_fixed(least, change.0, fixed);
     }
     least
 }
 
 /// The earlier of a place, of which there may be none, and of one that is in a set.
-fn with_fixed(best: Option<Place>, place: Place, fixed: &BTreeSet<Place>) -> Option<Place>
+fn take_fixed(best: Option<Place>, place: Place, fixed: &BTreeSet<Place>) -> Option<Place>
     ensures { result ≡ (if contains place_cmp fixed.now place then earlier best place else best) }
 {
     if !fixed.contains(&place) {

@@ -18,7 +18,7 @@ pub fn other_source(alloc: Global, old: &Files, new: &Files) -> Result<Option<Na
     ensures name { IfOk result (IsOtherSource old.now new.now) }
     ensures project { IsProject old.now }
 {
-    if let Some(name) = first_alone(old.entries(), new.entries()) {
+    if let Some(name) = find_first_alone(old.entries(), new.entries()) {
         return Ok(Some(Name::new(alloc, name)?));
     }
     if has_same_manifest(old, new) {
@@ -28,7 +28,7 @@ pub fn other_source(alloc: Global, old: &Files, new: &Files) -> Result<Option<Na
 }
 
 /// The first name that one of two lists of sources in byte order has alone.
-fn first_alone<'a>(olds: &'a [SourceFile], news: &'a [SourceFile]) -> Option<&'a [u8]>
+fn find_first_alone<'a>(olds: &'a [SourceFile], news: &'a [SourceFile]) -> Option<&'a [u8]>
     ensures { option_copied result ≡ first_alone (names_of olds.now) (names_of news.now) }
 {
     let count = olds.len().min(news.len());

@@ -72,18 +72,18 @@ loop-place-preserved c =
 pub returns-clause-reached : goal.returns-clause-reached
 returns-clause-reached c =
     if_ok (λ (list : Vec Place). list.items ≡ c.loop-place.decls.keys)
-    (λ (list : Vec Place). (p : Place) → Contains list.items p → Path c.args.links.now c.args.d p) c.in_order.result
+    (λ (list : Vec Place). (p : Place) → Contains list.items p → Path c.args.links.now c.args.d p) c.list_in_order.result
     (λ list is p h. let P : List Place → Type 0 = λ ps. Contains ps p in
     c.loop-place.invariant.sound p (inl (found_listed c.loop-place.decls.keys p (subst P is h))))
-    c.in_order.ensures.same
+    c.list_in_order.ensures.same
 
 pub returns-clause-all : goal.returns-clause-all
 returns-clause-all c =
     if_ok (λ (list : Vec Place). list.items ≡ c.loop-place.decls.keys)
-    (λ (list : Vec Place). (p : Place) → Path c.args.links.now c.args.d p → Contains list.items p) c.in_order.result
+    (λ (list : Vec Place). (p : Place) → Path c.args.links.now c.args.d p → Contains list.items p) c.list_in_order.result
     (λ list is p h. let P : List Place → Type 0 = λ ps. Contains ps p in
     subst P (sym is) (listed c.loop-place.decls.keys p (all_taken c.args.links.now c.args.d c.loop-place.neighbors c.loop-place.decls
     (let W : List Place → Type 0 = Works c.args.links.now c.args.d c.loop-place.neighbors c.loop-place.decls in
     subst W (no_items c.loop-place.todo.items c.pop.new.self.items (vec_len c.loop-place.todo) c.in_default.ensures.items c.in_default.ensures.rest
     c.in_default.ensures.cases.0) c.loop-place.invariant) p h)))
-    c.in_order.ensures.same
+    c.list_in_order.ensures.same

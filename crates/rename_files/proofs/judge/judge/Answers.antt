@@ -43,7 +43,7 @@ returns-in-Some-clause-refused c =
     grown_refused us c.args.binder c.args.watch.now c.requires.sound c.requires.foot c.requires.binds c.requires.old free c.in_ok-found.found.set
     (hits_of c.args.watch.now c.args.facts.now (view_project c.args.read.now.project) c.requires.facts c.in_ok-found.found.set
     c.in_ok-found.ensures.set) c.args.files.now.entries c.in_ok-sources.sources.items made
-    c.in-Some.file (sym c.in-Some.is ∙ (c.first_over.ensures ∙ ap (position_with are_over) c.deref.ensures.value))
+    c.in-Some.file (sym c.in-Some.is ∙ (c.find_first_over.ensures ∙ ap (position_with are_over) c.deref.ensures.value))
 
 pub judge_faults-requires-clause-watched : goal.judge_faults-requires-clause-watched
 judge_faults-requires-clause-watched c =
@@ -66,7 +66,7 @@ returns-clause-passed c =
     let made = subst (λ (n : List ℕ). AreMade c.in_ok-found.found.set n 0 c.args.files.now.entries c.in_ok-sources.sources.items) c.as_bytes.ensures
     c.in_ok-sources.ensures.made in
     let small : position_with are_over c.in_ok-sources.sources.items ≡ None = sym (ap (position_with are_over) c.deref.ensures.value)
-    ∙ (sym c.first_over.ensures ∙ c.in_default.is) in
+    ∙ (sym c.find_first_over.ensures ∙ c.in_default.is) in
     is_free (view_project c.args.read.now.project) c.args.binder c.args.watch.now c.requires.sound c.requires.foot c.requires.binds c.requires.old
     free c.in_ok-found.found.set (hits_of c.args.watch.now c.args.facts.now (view_project c.args.read.now.project) c.requires.facts c.in_ok-found.found.set
     c.in_ok-found.ensures.set)
@@ -82,7 +82,7 @@ returns-in_err-judge_faults-clause-refused c =
     let made = subst (λ (n : List ℕ). AreMade c.in_ok-found.found.set n 0 entries c.in_ok-sources.sources.items) c.as_bytes.ensures
     c.in_ok-sources.ensures.made in
     let small : position_with are_over c.in_ok-sources.sources.items ≡ None = sym (ap (position_with are_over) c.deref.ensures.value)
-    ∙ (sym c.first_over.ensures ∙ c.in_default.is) in
+    ∙ (sym c.find_first_over.ensures ∙ c.in_default.is) in
     stopped c.from_residual-in_err-judge_faults.result e (IsRefusedFor (refusals_of_binder entries us c.args.binder watch.foot watch.new))
     c.from_residual-in_err-judge_faults.ensures
     (fault_refused us c.args.binder watch c.requires.sound c.requires.foot c.requires.binds c.requires.old free c.in_ok-found.found.set

@@ -11,9 +11,9 @@ folded best a b x y new half h e f k = k ∙ (ap (λ z. earlier_of z y) (h ∙ a
 
 pub loop-reference-preserved : goal.loop-reference-preserved
 loop-reference-preserved c =
-    ref_step c.args.members.now c.args.refs.now c.loop-reference.reference-index _ c.loop-reference.least c.earlier_of-least.result
+    ref_step c.args.members.now c.args.refs.now c.loop-reference.reference-index _ c.loop-reference.least c.take_earlier_of-least.result
     c.loop-reference-test.true
-    (c.earlier_of-least.ensures ∙ ap (earlier_of c.loop-reference.least) c.blurred_ref.ensures) c.loop-reference.invariant
+    (c.take_earlier_of-least.ensures ∙ ap (earlier_of c.loop-reference.least) c.blurred_ref.ensures) c.loop-reference.invariant
 
 pub loop-link-init : goal.loop-link-init
 loop-link-init c =
@@ -22,10 +22,10 @@ loop-link-init c =
 
 pub loop-link-preserved : goal.loop-link-preserved
 loop-link-preserved c =
-    link_step c.args.members.now c.args.refs.now c.args.links.now c.loop-link.link-index _ c.loop-link.least c.earlier_of-least-in-loop-link.result
+    link_step c.args.members.now c.args.refs.now c.args.links.now c.loop-link.link-index _ c.loop-link.least c.take_earlier_of-least-in-loop-link.result
     c.loop-link-test.true
-    (folded c.loop-link.least _ _ c.blurred_item.result c.behind_in.result c.earlier_of-least-in-loop-link.result c.earlier_of-item.result
-    c.earlier_of-item.ensures c.blurred_item.ensures c.behind_in.ensures c.earlier_of-least-in-loop-link.ensures)
+    (folded c.loop-link.least _ _ c.blurred_item.result c.find_behind.result c.take_earlier_of-least-in-loop-link.result c.take_earlier_of-item.result
+    c.take_earlier_of-item.ensures c.blurred_item.ensures c.find_behind.ensures c.take_earlier_of-least-in-loop-link.ensures)
     c.loop-link.invariant
 
 pub returns : goal.returns

@@ -2,7 +2,7 @@ use Rattle.std.proofs.Common.{ℕ, ◌∙◌, sym, List, get_or}
 use Rattle.std.proofs.lemmas.List.{get_or_default}
 use Rattle.rotor_base.specs.declared.place.Place.{Place}
 use Rattle.dependency_kernel.proofs.Fixed.{none_more, first_is_least, none_is_fixed}
-use Rattle.dependency_kernel.proofs.outside.least_fixed.Goals as goal
+use Rattle.dependency_kernel.proofs.outside.find_least_fixed.Goals as goal
 
 -- the place of the loop, as its contracts read it
 abbrev place_at : List Place → ℕ → Place

@@ -1,7 +1,7 @@
 use Rattle.std.proofs.Common.{◌≡◌, drop}
 use Rattle.shape_core.specs.Shape.{entries_in}
 use Rattle.rename_model.specs.Target.{dotted}
-use Rattle.rename_parts.proofs.targets.dotted_in.Given as goal
+use Rattle.rename_parts.proofs.targets.walk_dotted.Given as goal
 
 -- what the path names is inside, behind the steps so far
 abbrev pub invariant-loop-at : goal.invariant-loop-at

@@ -5,7 +5,7 @@ use Rattle.std.proofs.lemmas.List.{drop_more}
 use Rattle.shape_core.specs.Shape.{Name, entries_in}
 use Rattle.rename_model.specs.Target.{dotted}
 use Rattle.rename_parts.proofs.Walks.{ends_nowhere}
-use Rattle.rename_parts.proofs.targets.dotted_in.Goals as goal
+use Rattle.rename_parts.proofs.targets.walk_dotted.Goals as goal
 
 some_left : (path : List Name) (i : ℕ) → i < length path → (i + 1 ≡ length path → ⊥) → 0 < length (drop (i + 1) path)
 some_left path i w n = grind (arith, common_steps)

@@ -1,6 +1,6 @@
 use Rattle.rename_parts.specs.Leasts.{IsLeastOrNone}
 use Rattle.rename_verify.proofs.Least.{AmongBelow}
-use Rattle.rename_verify.proofs.fixed.least_among.Given as goal
+use Rattle.rename_verify.proofs.fixed.find_least_among.Given as goal
 
 -- the least of those so far
 abbrev pub invariant-loop-change : goal.invariant-loop-change

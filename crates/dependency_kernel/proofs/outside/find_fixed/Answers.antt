@@ -5,8 +5,8 @@ use Rattle.rotor_base.specs.declared.place.Place.{Place}
 use Rattle.rotor_base.specs.declared.place.Link.{Link}
 use Rattle.dependency_kernel.specs.Foot.{link_of}
 use Rattle.dependency_kernel.proofs.Fixed.{IsFixedSet, fixed_begin, fixed_same, fixed_add, fixed_sound, fixed_whole}
-use Rattle.dependency_kernel.proofs.outside.fixed_of.Goals as goal
-use Rattle.dependency_kernel.proofs.outside.fixed_of.Goals.{in-Some+in_ok-insert, in_default}
+use Rattle.dependency_kernel.proofs.outside.find_fixed.Goals as goal
+use Rattle.dependency_kernel.proofs.outside.find_fixed.Goals.{in-Some+in_ok-insert, in_default}
 
 -- the link of the loop, as its contracts read it
 abbrev link_at : List Link → ℕ → Link

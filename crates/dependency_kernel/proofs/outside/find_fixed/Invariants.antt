@@ -1,5 +1,5 @@
 use Rattle.dependency_kernel.proofs.Fixed.{IsFixedSet}
-use Rattle.dependency_kernel.proofs.outside.fixed_of.Given as goal
+use Rattle.dependency_kernel.proofs.outside.find_fixed.Given as goal
 
 -- the set has what the links so far fix, and no more
 abbrev pub invariant-loop-link : goal.invariant-loop-link

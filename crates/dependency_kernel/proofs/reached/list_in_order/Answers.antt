@@ -2,7 +2,7 @@ use Rattle.std.proofs.Common.{rules, ◌≡◌, sym, subst, List, AllPairs}
 use Rattle.rotor_base.specs.declared.place.Place.{Place}
 use Rattle.rotor_base.specs.Place.{IsBefore}
 use Rattle.rotor_base.proofs.Places.{all_before}
-use Rattle.dependency_kernel.proofs.reached.in_order.Goals as goal
+use Rattle.dependency_kernel.proofs.reached.list_in_order.Goals as goal
 
 pub returns-clause-ordered : goal.returns-clause-ordered
 returns-clause-ordered c =

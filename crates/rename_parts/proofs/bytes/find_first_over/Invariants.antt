@@ -2,7 +2,7 @@ use Rattle.std.proofs.Common.{◌≡◌, ◌≤◌, ◌++◌, false, length, tak
 use Rattle.rotor_base.specs.Files.{are_over}
 use Rattle.rename_model.specs.Bytes.{position_with}
 use Rattle.rename_parts.proofs.Searches.{counted}
-use Rattle.rename_parts.proofs.bytes.first_over.Given as goal
+use Rattle.rename_parts.proofs.bytes.find_first_over.Given as goal
 
 -- the sources so far keep the limits, so the first with which they are over is among those that are left
 abbrev pub invariant-loop-file : goal.invariant-loop-file

@@ -7,7 +7,7 @@ use Rattle.binding_model.specs.Facts.{facts}
 use Rattle.shape_core.specs.Places.{HasPlaces}
 use Rattle.rename_verify.specs.Fixed.{HasFixedUses, fixed_by}
 use Rattle.rename_verify.proofs.Fixing.{least_is}
-use Rattle.rename_verify.proofs.fixed.least_fixed.Goals as goal
+use Rattle.rename_verify.proofs.fixed.find_least_fixed.Goals as goal
 
 pub returns : goal.returns
 returns c = λ us at is words.
@@ -17,4 +17,4 @@ returns c = λ us at is words.
     (subst (λ (ls : List (Place × Site)). HasFixedUses ls (facts us).refs uses) at
     (subst (λ (refs : List Ref). HasFixedUses c.args.placed.now refs uses) (c.as_slice.ensures ∙ ap (λ (f : Facts). f.refs) is) c.in_ok-uses.ensures))
     (subst (λ (f : Facts). HasPlaces (fixed_by uses f) fixed) is c.in_ok-fixed.ensures)
-    c.args.changes.now words c.least_among.result c.least_among.ensures
+    c.args.changes.now words c.find_least_among.result c.find_least_among.ensures
