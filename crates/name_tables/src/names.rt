@@ -6,6 +6,7 @@ ghost use Rattle.name_tables.specs.Names.{at};
 use rotor_base::Memory;
 use std::alloc::Global;
 use std::collections::BTreeMap;
+use std::mem::replace;
 
 /// A value for each of some names. A look-up compares the name with as many others as the number of names has digits.
 #[derive(Drop)]
@@ -30,14 +31,20 @@ impl<V: Copy> Names<V> {
         self.map.get(name).copied()
     }
 
-    /// Gives a name a value, and returns the one that it had. An `Err` changes no name's value.
+    /// Gives a name a value, and returns the one that it had. Only a name without a value is copied. An `Err` changes no
+    /// name's value. `Memory` is the only error.
     pub fn put(&mut self, alloc: Global, name: &[u8], value: V) -> Result<Option<V>, Memory>
         ensures old { IfOk result (λ old. old ≡ at self.old name.now) }
         ensures put { OnOk result ((x : List ℕ) → at self.new x ≡ (if bytes_eq name.now x then Rattle.std.specs.Prelude.Some value else at self.old x)) }
         ensures kept { OnErr result ((x : List ℕ) → at self.new x ≡ at self.old x) }
     {
-        let key = Vec::from_slice(alloc, name)?;
-        Ok(self.map.insert(key, value)?)
+        match self.map.get_mut(name) {
+            Some(held) => Ok(Some(replace(held, value))),
+            None => {
+                let key = Vec::from_slice(alloc, name)?;
+                Ok(self.map.insert(key, value)?)
+            }
+        }
     }
 
     /// Gives a name that has a value another one, or none. It takes no memory.
