@@ -21,11 +21,11 @@ use binding_model::Found;
 use ml_trees::{
     Argument, Binding, Branch, Case, Expr, Field, LocalModule, Param, Part, Pat, Variable, Word,
 };
-use resolve_base::{
+use name_resolve::{
     go_on_with, group, resolve_opening, start_of, use_label, use_minus, use_name_in, use_operator,
     use_word, end_weighed_site,
 };
-use resolve_parts::{
+use pattern_resolve::{
     let_values, local_module, module_entry, pattern, pattern_group, value_group, variable_group,
     variables_group,
 };
@@ -560,7 +560,7 @@ fn resolve_binding(
 
 /// Parameters, each in the scope of those before it. The scope goes on with them; after an `Err` its old entries stay.
 #[cycle(expressions)]
-#[tactic(auto, using(crate::proofs::Fronts::front_of_front, resolve_base::proofs::Lemmas::scopes_joined, binding_model::proofs::Takings::heavy_stays))]
+#[tactic(auto, using(crate::proofs::Fronts::front_of_front, name_resolve::proofs::Lemmas::scopes_joined, binding_model::proofs::Takings::heavy_stays))]
 fn parameters(
     alloc: Global,
     found: &mut Found,

@@ -19,8 +19,8 @@ use module_entries::{
     Added, add_nothing, add_opened, add_shown, append, declare_value, functor_from, functor_of,
     module_site, named_module, no_param, param_entries, token_of, type_at, type_entry, type_start,
 };
-use resolve_base::{go_on_with, group, match_target, resolve_opening, end_weighed_site};
-use resolve_parts::{apply, apply_to_nothing, let_values, module_entry, shape_at, share_result};
+use name_resolve::{go_on_with, group, match_target, resolve_opening, end_weighed_site};
+use pattern_resolve::{apply, apply_to_nothing, let_values, module_entry, shape_at, share_result};
 use rotor_base::Place;
 use shape_core::{FactError, Scope, Shared, SharedEntry, bring, make_functor, make_struct};
 use std::alloc::Global;
@@ -136,7 +136,7 @@ fn application(
 /// Parameters of a functor, each in the scope of those before it, with the shapes of those that have one. The scope
 /// goes on with them.
 #[cycle(modules)]
-#[tactic(auto, using(resolve_base::proofs::Lemmas::scopes_joined, expr_resolve::proofs::Fronts::front_of_front, module_entries::proofs::Parameters::given_so, binding_model::proofs::Takings::heavy_stays))]
+#[tactic(auto, using(name_resolve::proofs::Lemmas::scopes_joined, expr_resolve::proofs::Fronts::front_of_front, module_entries::proofs::Parameters::given_so, binding_model::proofs::Takings::heavy_stays))]
 fn functor_params(
     alloc: Global,
     found: &mut Found,
@@ -296,7 +296,7 @@ pub fn structure(
 
 /// The entries of a structure. The scope goes on with them and with what the items open.
 #[cycle(modules)]
-#[tactic(auto, using(resolve_base::proofs::Lemmas::scopes_joined, expr_resolve::proofs::Fronts::front_of_front, binding_model::proofs::Takings::heavy_stays))]
+#[tactic(auto, using(name_resolve::proofs::Lemmas::scopes_joined, expr_resolve::proofs::Fronts::front_of_front, binding_model::proofs::Takings::heavy_stays))]
 fn all_items(
     alloc: Global,
     found: &mut Found,
@@ -344,7 +344,7 @@ pub fn signature(
 
 /// The entries of a signature. The scope goes on with them and with what the items open.
 #[cycle(modules)]
-#[tactic(auto, using(resolve_base::proofs::Lemmas::scopes_joined, expr_resolve::proofs::Fronts::front_of_front, binding_model::proofs::Takings::heavy_stays))]
+#[tactic(auto, using(name_resolve::proofs::Lemmas::scopes_joined, expr_resolve::proofs::Fronts::front_of_front, binding_model::proofs::Takings::heavy_stays))]
 fn all_sig_items(
     alloc: Global,
     found: &mut Found,

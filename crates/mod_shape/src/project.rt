@@ -12,7 +12,7 @@ ghost use Rattle.mod_shape.specs.Joined.{maybe_shape, joined_steps, joined_shape
 use binding_model::Found;
 use ml_trees::{FileTree, UnitTree};
 use mod_resolve::{signature, structure};
-use resolve_base::{match_target, pin_outside, begin_unit, end_weighed_site};
+use name_resolve::{match_target, pin_outside, begin_unit, end_weighed_site};
 use rotor_base::{Memory, Name, Place};
 use shape_core::{FactError, Scope, Shared, SharedEntry, make_opaque, make_struct};
 use std::alloc::Global;
@@ -170,7 +170,7 @@ fn unit(
 
 /// The units of a project, each in the scope of those before it. The scope goes on with them. `Heavy` at the first site
 /// that is too heavy, or `Memory`.
-#[tactic(auto, using(resolve_base::proofs::Lemmas::scopes_joined, binding_model::proofs::Takings::heavy_stays))]
+#[tactic(auto, using(name_resolve::proofs::Lemmas::scopes_joined, binding_model::proofs::Takings::heavy_stays))]
 pub fn units(
     alloc: Global,
     found: &mut Found,

@@ -9,7 +9,7 @@ ghost use Rattle.binding_model.specs.Scopes.{bound, named};
 ghost use Rattle.binding_model.specs.Walk.{name_at};
 
 use ml_trees::{ModuleName, ValueName, Word};
-use resolve_base::bind_name;
+use name_resolve::bind_name;
 use rotor_base::{Memory, Name};
 use shape_core::{Shared, SharedEntry};
 use std::alloc::Global;

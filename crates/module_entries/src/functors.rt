@@ -13,7 +13,7 @@ ghost use Rattle.module_entries.specs.Given.{functor_to, functors_to, given_in, 
 use crate::entries::named_module;
 use binding_model::Found;
 use ml_trees::{FunctorParam, ModType, Word};
-use resolve_base::{match_target, path_in, start_of, end_weighed_site};
+use name_resolve::{match_target, path_in, start_of, end_weighed_site};
 use rotor_base::{Memory, Place};
 use shape_core::{
     FactError, Scope, Shared, SharedEntry, make_functor, make_opaque, make_unitary, mty_in, mty_of,

@@ -21,7 +21,7 @@ use Rattle.ml_trees.proofs.Variants.{at_expr_let, at_expr_if, at_expr_match, at_
 use Rattle.shape_core.specs.Shape.{◌⊕◌}
 use Rattle.binding_model.specs.Scopes.{bound, params_bound, let_bound, parts_scope}
 use Rattle.binding_model.specs.Variables.{param_variables}
-use Rattle.resolve_base.proofs.Lemmas.{joined, joined_none}
+use Rattle.name_resolve.proofs.Lemmas.{joined, joined_none}
 use Rattle.expr_resolve.proofs.Fronts.{front_of_front}
 use Rattle.expr_resolve.proofs.Branches.{if_steps}
 use Rattle.expr_resolve.proofs.Forms.{passed, carry, carry_heavy, alike, three}

@@ -14,7 +14,7 @@ use Rattle.binding_model.specs.Steps.{◌⨾◌}
 use Rattle.binding_model.specs.Taken.{taken, Going}
 use Rattle.binding_model.specs.Walk.{mod_steps, mod_arguments_steps, functor_steps, item_steps, items_steps, sig_items_steps}
 use Rattle.binding_model.proofs.Takings.{heavy_stays}
-use Rattle.resolve_base.proofs.Lemmas.{entries_appended, joined, joined_none}
+use Rattle.name_resolve.proofs.Lemmas.{entries_appended, joined, joined_none}
 use Rattle.expr_resolve.proofs.Fronts.{front_of_front}
 use Rattle.expr_resolve.proofs.Forms.{passed}
 use Rattle.module_entries.specs.Given.{functors_to, given_in, given_shape, given_shapes, optional_shape, optional_type_steps, seal_shape, site_steps}

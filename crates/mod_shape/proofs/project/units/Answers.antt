@@ -8,7 +8,7 @@ use Rattle.binding_model.specs.Scopes.{after_unit, after_units}
 use Rattle.binding_model.specs.Taken.{taken, Going}
 use Rattle.binding_model.specs.Walk.{units_steps}
 use Rattle.binding_model.proofs.Takings.{heavy_stays}
-use Rattle.resolve_base.proofs.Lemmas.{entries_appended}
+use Rattle.name_resolve.proofs.Lemmas.{entries_appended}
 use Rattle.expr_resolve.proofs.Forms.{passed}
 use Rattle.mod_shape.proofs.project.units.Goals as goal
 

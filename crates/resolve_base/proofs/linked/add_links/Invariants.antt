@@ -1,5 +1,0 @@
-use Rattle.std.proofs.Common.{◌≡◌, ◌++◌, take}
-use Rattle.resolve_base.proofs.linked.add_links.Given as goal
-
-abbrev pub invariant-loop-link : goal.invariant-loop-link
-invariant-loop-link l = l.found ≡ record l.fn.found { links = l.fn.found.links ++ take l.link-index l.links }
