@@ -46,11 +46,11 @@ use Rattle.rename_model.specs.Foot.{IsIn, IsHit, is_in}
 use Rattle.rename_model.specs.Ladder.{no_more}
 use Rattle.rename_model.specs.Renaming.{IsBlurredAt, at_reference, at_item, at_source, IsGrown, IsClash, IsCapture, IsMislink, watch_of, renamed}
 use Rattle.rename_model.specs.Renaming.{renamed_words, refusals_of_binder}
-use Rattle.rename_steps.specs.Findings.{IsFree}
-use Rattle.rename_steps.proofs.Bridge.{watched}
-use Rattle.rename_steps.proofs.Having.{any_has, has_contained}
-use Rattle.rename_steps.proofs.Rungs.{Rest}
-use Rattle.rename_steps.proofs.Rungs as rungs
+use Rattle.rename_parts.specs.Findings.{IsFree}
+use Rattle.rename_parts.proofs.Bridge.{watched}
+use Rattle.rename_parts.proofs.Having.{any_has, has_contained}
+use Rattle.rename_parts.proofs.Rungs.{Rest}
+use Rattle.rename_parts.proofs.Rungs as rungs
 use Rattle.rename_files.specs.Answer.{Accepts}
 use Rattle.rename_laws.proofs.Hits.{leads, hit_cases}
 use Rattle.rename_laws.proofs.Ladder.{none_met}

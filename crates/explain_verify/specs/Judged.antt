@@ -11,7 +11,7 @@ use Rattle.messages.specs.Printed.{spot_text}
 use Rattle.messages.specs.Words.{counted}
 use Rattle.capture_check.specs.declared.fault.Fault.{Fault}
 use Rattle.capture_check.specs.declared.fault.Fault.TheVariants as fault
-use Rattle.rename_steps.specs.Faults.{refusal_of_fault}
+use Rattle.rename_parts.specs.Faults.{refusal_of_fault}
 use Rattle.rename_verify.specs.declared.verdict.Verdict.{Verdict}
 use Rattle.rename_verify.specs.declared.verdict.Verdict.TheVariants.{Yes, No}
 use Rattle.rename_verify.specs.declared.verdict.Why.{Why}

@@ -12,7 +12,7 @@ use refusal_words::{
     CutSource, cut_sources, explain_fixed, other_bytes, other_sources, place_spot,
     renaming_message, word_at,
 };
-use rename_steps::refusal_of_fault;
+use rename_parts::refusal_of_fault;
 use rename_verify::{Change, Verdict, Why, verify};
 use rotor_base::{Files, Goal, Memory, Place, Refusal, Row};
 use std::alloc::Global;

@@ -25,10 +25,10 @@ use Rattle.rename_model.specs.Foot.{hits}
 use Rattle.rename_model.specs.Renaming.{watch_of, renamed_words, IsGrown, refusals_of_binder}
 use Rattle.rename_model.proofs.One.{one_sources}
 use Rattle.shape_core.specs.Places.{HasPlaces}
-use Rattle.rename_steps.specs.Findings.{IsFree, IsRefused}
-use Rattle.rename_steps.specs.Sources.{AreMade}
-use Rattle.rename_steps.proofs.Bridge.{watched, all_made}
-use Rattle.rename_steps.proofs.Rungs.{past_six, none_met, Rest}
+use Rattle.rename_parts.specs.Findings.{IsFree, IsRefused}
+use Rattle.rename_parts.specs.Sources.{AreMade}
+use Rattle.rename_parts.proofs.Bridge.{watched, all_made}
+use Rattle.rename_parts.proofs.Rungs.{past_six, none_met, Rest}
 use Rattle.rename_project.specs.Steps.{IsRefusedFor, IsFreeOf}
 use Rattle.rename_files.specs.Steps.{LastRungs}
 

@@ -5,7 +5,7 @@ use Rattle.std.proofs.lemmas.Grind.{common_steps}
 use Rattle.std.specs.BTreeSet.{BTreeSet}
 use Rattle.rotor_base.specs.declared.place.Place.{Place}
 use Rattle.rotor_base.specs.declared.source.SourceFile.{SourceFile}
-use Rattle.rename_steps.specs.Sources.{IsMade, AreMade}
+use Rattle.rename_parts.specs.Sources.{IsMade, AreMade}
 
 -- one more
 made_push : (set : BTreeSet Place) (new : List ℕ) (k m : ℕ) (front outs : List SourceFile) (x out : SourceFile) → m ≡ k + length front

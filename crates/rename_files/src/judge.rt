@@ -19,15 +19,14 @@ ghost use Rattle.project_reading.specs.Sources.{AreCut};
 ghost use Rattle.rename_model.specs.Bytes.{position_with};
 ghost use Rattle.rename_model.specs.Foot.{hits};
 ghost use Rattle.rename_model.specs.Renaming.{refusals_of_binder, renamed_words};
-ghost use Rattle.rename_steps.specs.Sources.{AreMade};
+ghost use Rattle.rename_parts.specs.Sources.{AreMade};
 ghost use Rattle.rename_project.specs.Steps.{IsRefusedFor, IsFreeOf};
 ghost use Rattle.rename_files.specs.Steps.{LastRungs};
 
 use capture_check::local_fault_of;
 use mod_shape::looks;
 use project_reading::Read;
-use rename_parts::find_first_over;
-use rename_steps::{judge_foot, new_source, refusal_of_fault};
+use rename_parts::{find_first_over, judge_foot, new_source, refusal_of_fault};
 use rotor_base::{Facts, Files, Memory, Place, Refusal, SourceFile, Token, Watch};
 use std::alloc::Global;
 use std::collections::BTreeSet;

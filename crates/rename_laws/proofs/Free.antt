@@ -19,7 +19,7 @@ use Rattle.rename_model.specs.Foot.{IsHit}
 use Rattle.rename_model.specs.Project.{IsDuplicate, IsHeavy, IsUnmatched, refusals_of_project}
 use Rattle.rename_model.specs.Renaming.{IsOperator, IsBadName, IsSameName, IsOutside, IsPun, IsPunAt, IsBlurred, IsBlurredAt, IsGrown, IsClash}
 use Rattle.rename_model.specs.Renaming.{IsCapture, IsMislink, watch_of, renamed, refusals_of_binder}
-use Rattle.rename_steps.specs.Findings.{IsFree}
+use Rattle.rename_parts.specs.Findings.{IsFree}
 use Rattle.rename_laws.proofs.Ladder.{not_first, not_rest}
 use Rattle.rename_laws.proofs.Leasts.{no_least_is_none}
 

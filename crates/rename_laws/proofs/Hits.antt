@@ -9,7 +9,7 @@ use Rattle.ml_trees.specs.Tree.{UnitTree}
 use Rattle.binding_model.specs.Facts.{facts}
 use Rattle.binding_model.proofs.Standing.{member_in}
 use Rattle.rename_model.specs.Foot.{IsIn, IsHit, leads_in, refs_to}
-use Rattle.rename_steps.proofs.Having.{has_split, has_contained, contained_has, has_unmapped, has_unfiltered, has_left}
+use Rattle.rename_parts.proofs.Having.{has_split, has_contained, contained_has, has_unmapped, has_unfiltered, has_left}
 
 pub leads : (foot : Foot) (g : Goal) → leads_in foot g ≡ true → (m : Place) × (g ≡ Decl m) × IsIn foot m
 leads foot (Decl m) e = (m, refl, member_in m foot.decls e)

@@ -44,8 +44,8 @@ use Rattle.rename_model.specs.Bytes.{position_with}
 use Rattle.rename_model.specs.Foot.{IsIn}
 use Rattle.rename_model.specs.Project.{refusals_of_project}
 use Rattle.rename_model.specs.Renaming.{watch_of, renamed, renamed_words, refusals_of_binder}
-use Rattle.rename_steps.specs.Findings.{IsFree}
-use Rattle.rename_steps.proofs.Bridge.{watched}
+use Rattle.rename_parts.specs.Findings.{IsFree}
+use Rattle.rename_parts.proofs.Bridge.{watched}
 use Rattle.renamed_sources.proofs.Limits.{small_is_taken}
 use Rattle.renamed_sources.proofs.Respelling.{renamed_keep_names}
 use Rattle.rename_laws.proofs.Free.{IsLasting, none_repeats, none_unmatched, first_free, lasting}

@@ -41,9 +41,9 @@ use Rattle.rename_model.specs.Project.{IsDuplicate, IsHeavy, IsUnmatched, refusa
 use Rattle.rename_model.specs.Renaming.{IsBlurredAt, IsGrown, IsClash, IsCapture, IsMislink, watch_of, renamed, renamed_words, refusals_of_binder}
 use Rattle.rename_model.specs.Report.{hit_files}
 use Rattle.rename_model.specs.Target.{number_of}
-use Rattle.rename_steps.specs.Findings.{IsFree}
-use Rattle.rename_steps.proofs.Rungs.{Rest}
-use Rattle.rename_steps.proofs.Rungs as rungs
+use Rattle.rename_parts.specs.Findings.{IsFree}
+use Rattle.rename_parts.proofs.Rungs.{Rest}
+use Rattle.rename_parts.proofs.Rungs as rungs
 use Rattle.rename_files.specs.Answer.{Accepted}
 use Rattle.rename_laws.specs.Laws.{RenamingsAreUndone, UndosHavePlaces}
 use Rattle.rename_laws.proofs.Accepted.{renamable}

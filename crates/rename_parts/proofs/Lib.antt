@@ -8,3 +8,10 @@ pub mod Words
 pub mod Blurring
 pub mod Filing
 pub mod References
+pub mod Having
+pub mod Rungs
+pub mod Found
+pub mod Judged
+pub mod Bridge
+pub mod Numbers
+pub mod Faulted

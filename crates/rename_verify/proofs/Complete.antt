@@ -36,7 +36,7 @@ use Rattle.rename_files.specs.Answer.{Accepts}
 use Rattle.value_places.specs.Binders.{binding}
 use Rattle.rename_respell.specs.Respelled.{AreRespelledBytes, changed, mapped_words}
 use Rattle.rename_respell.proofs.Given.{bytes_same}
-use Rattle.rename_steps.proofs.Having.{Has, has_as, has_mapped, has_filtered, contained_has}
+use Rattle.rename_parts.proofs.Having.{Has, has_as, has_mapped, has_filtered, contained_has}
 use Rattle.rename_survey.specs.Survey.{binder_of, binders_of}
 use Rattle.rename_verify.specs.Candidate.{AreLexemesOf, candidate, changes, given_name, word_at}
 use Rattle.rename_verify.specs.Laws.{AreRespelledBy, ChangesAll, IsYes}
@@ -46,7 +46,7 @@ use Rattle.rename_verify.proofs.Listing.{entry_is}
 use Rattle.rename_verify.proofs.Reasons.{no_broken, no_bytes, no_fixed, no_reason, no_sources}
 use Rattle.rename_verify.proofs.Respelt.{cut_is, lists_of, word_is}
 use Rattle.rename_verify.proofs.Sources.{sources_are_renamed}
-use Rattle.rename_steps.proofs.Found.{site_found}
+use Rattle.rename_parts.proofs.Found.{site_found}
 
 -- ---- lists
 

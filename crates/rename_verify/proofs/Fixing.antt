@@ -21,8 +21,8 @@ use Rattle.rename_parts.specs.declared.checks.Hit.{Hit}
 use Rattle.rename_parts.specs.Hits.{all_hits}
 use Rattle.rename_parts.specs.Leasts.{IsLeastOrNone}
 use Rattle.shape_core.specs.Places.{HasPlaces}
-use Rattle.rename_steps.proofs.Found.{set_has, has_set, hits_down, hits_up}
-use Rattle.rename_steps.proofs.Having.{Has, has_as, has_mapped, has_unmapped, has_filtered, has_unfiltered, has_contained, contained_has, has_each}
+use Rattle.rename_parts.proofs.Found.{set_has, has_set, hits_down, hits_up}
+use Rattle.rename_parts.proofs.Having.{Has, has_as, has_mapped, has_unmapped, has_filtered, has_unfiltered, has_contained, contained_has, has_each}
 use Rattle.rename_verify.specs.Changed.{Changed}
 use Rattle.rename_verify.specs.Fixed.{behind, fixed_by, fixed_by_link, fixed_by_ref, fixed_by_use, joined, HasFixedUses, IsHeld, IsLeastHeld}
 use Rattle.rename_verify.proofs.Alone.{first_in, more_in, none_in, split_in}

@@ -16,7 +16,7 @@ use Rattle.binding_model.proofs.Naming.{each_in}
 use Rattle.binding_model.proofs.Sounds.{same_self}
 use Rattle.rename_model.specs.Ladder.{IsLeast}
 use Rattle.rename_parts.proofs.Earliest.{least_same}
-use Rattle.rename_steps.proofs.Having.{Has, has_as, has_mapped, has_unmapped, has_filtered, has_unfiltered, has_contained, contained_has}
+use Rattle.rename_parts.proofs.Having.{Has, has_as, has_mapped, has_unmapped, has_filtered, has_unfiltered, has_contained, contained_has}
 use Rattle.rename_survey.specs.declared.answer.Binder.{Binder}
 use Rattle.rename_survey.specs.Survey.{binder_of, binders_of}
 use Rattle.rename_verify.specs.Candidate.{candidate, changes, given_name}

@@ -1,7 +1,7 @@
 -- The text of a verdict: its lines, each ended by LF (own).
 use Rattle.std.specs.Prelude.{ℕ, List, ◌∷◌, map, length, flat_map}
 use Rattle.rotor_base.specs.declared.report.Outcome.TheVariants.{Refused}
-use Rattle.rename_steps.specs.Faults.{refusal_of_fault}
+use Rattle.rename_parts.specs.Faults.{refusal_of_fault}
 use Rattle.report.specs.Pieces.{Word}
 use Rattle.report.specs.Text.{ended, text_of}
 use Rattle.report.specs.Verify.{changed_line, fixed_text, other_byte_text, other_sources_text, verified_line}

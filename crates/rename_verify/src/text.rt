@@ -4,7 +4,7 @@ ghost use Rattle.std.specs.Prelude.{◌≡◌, IfOk, map, string_bytes};
 ghost use Rattle.rename_verify.specs.Text.{verdict_text, why_text, yes_text};
 
 use crate::verdict::{Change, Verdict, Why};
-use rename_steps::refusal_of_fault;
+use rename_parts::refusal_of_fault;
 use report::{
     changed_line, fixed_text, other_byte_text, other_sources_text, push_line, text, verified_line,
 };

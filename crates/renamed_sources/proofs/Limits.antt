@@ -6,7 +6,7 @@ use Rattle.rotor_base.specs.declared.source.SourceFile.{SourceFile}
 use Rattle.rotor_base.specs.declared.refusal.LoadError.TheVariants.{TooLarge}
 use Rattle.rotor_base.specs.Files.{first_with, are_over, too_many, too_large}
 use Rattle.rename_model.specs.Bytes.{position_with}
-use Rattle.rename_steps.proofs.Numbers.{still_taken}
+use Rattle.rename_parts.proofs.Numbers.{still_taken}
 use Rattle.renamed_sources.specs.Laws.{NothingIsOver, SmallIsTaken}
 
 none_left : {A : Type 0} (a b : Option A) → option_or a b ≡ None → a ≡ None

@@ -31,7 +31,7 @@ use Rattle.binding_model.proofs.Standing.{given}
 use Rattle.rename_model.specs.Foot.{is_in, leads_in, refs_to, hits}
 use Rattle.rename_model.specs.Renaming.{renamed_words}
 use Rattle.rename_model.specs.Report.{hit_files}
-use Rattle.rename_steps.proofs.Having.{Has, has_as, has_mapped, has_filtered, any_has, has_right, has_left, has_any}
+use Rattle.rename_parts.proofs.Having.{Has, has_as, has_mapped, has_filtered, any_has, has_right, has_left, has_any}
 use Rattle.renamed_sources.specs.Laws.{SourcesWithoutHitsStay}
 
 -- ---- the bytes that keep their words

@@ -20,7 +20,7 @@ use Rattle.rename_model.specs.Foot.{hits}
 use Rattle.rename_model.specs.Renaming.{watch_of, renamed_words}
 use Rattle.rename_model.specs.Report.{hit_files}
 use Rattle.rename_parts.specs.Hits.{hit_words}
-use Rattle.rename_steps.proofs.Bridge.{texts_are}
+use Rattle.rename_parts.proofs.Bridge.{texts_are}
 use Rattle.source_edits.specs.Edited.{IsEdited}
 use Rattle.renaming_edits.specs.declared.renaming.FileEdits.{FileEdits}
 use Rattle.renaming_edits.specs.Edits.{IsDone, EditsSource, AreEdits, GivesWords, AreListed}

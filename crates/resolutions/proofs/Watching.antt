@@ -10,8 +10,8 @@ use Rattle.binding_model.specs.Renaming.{IsBinder}
 use Rattle.binding_model.specs.Local.{IsWatched}
 use Rattle.binding_model.specs.Renaming.{name_of}
 use Rattle.rename_model.specs.Renaming.{watch_of}
-use Rattle.rename_steps.specs.Findings.{IsFree}
-use Rattle.rename_steps.proofs.Bridge.{watched}
+use Rattle.rename_parts.specs.Findings.{IsFree}
+use Rattle.rename_parts.proofs.Bridge.{watched}
 
 same : (us : List UnitTree) (d : Place) (w : Watch) → w.old ≡ name_of us d → w ≡ watch_of us d w.foot w.new
 same us d w e = ap (λ o. record { old = o; new = w.new; foot = w.foot }) e

@@ -21,7 +21,7 @@ use ml_trees::Project;
 use mod_shape::looks;
 use project_reading::read_project;
 use rename_project::resolve_facts;
-use rename_steps::{judge_foot, new_source};
+use rename_parts::{judge_foot, new_source};
 use rotor_base::{
     Facts, Files, Goal, Link, MAX_FILE_BYTES, MAX_NAME_BYTES, Memory, Place, Ref, Refusal,
     SourceFile, Target, Watch,

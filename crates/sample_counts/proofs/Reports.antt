@@ -15,7 +15,7 @@ use Rattle.binding_model.specs.Scopes.{after_units}
 use Rattle.project_reading.specs.Reads.{Reads}
 use Rattle.rename_model.specs.Foot.{refs_to, IsTheFoot}
 use Rattle.rename_model.specs.Target.{dotted}
-use Rattle.rename_steps.proofs.Having.{any_has, has_contained}
+use Rattle.rename_parts.proofs.Having.{any_has, has_contained}
 use Rattle.sample_project.specs.Sample.{Answers, report_of}
 use Rattle.sample_project.specs.Sources.{sample_files}
 use Rattle.sample_counts.specs.Laws.{SamplesAreCounted, counted_report}

@@ -10,7 +10,7 @@ use Rattle.renamed_sources.proofs.Respelling.{sources_can_be_respelled}
 use Rattle.rename_model.specs.Foot.{hits, refs_to}
 use Rattle.rename_model.specs.Renaming.{refusals_of_binder, renamed_words, watch_of}
 use Rattle.rename_model.specs.Report.{hit_files}
-use Rattle.rename_steps.proofs.Rungs.{Rest, none_met}
+use Rattle.rename_parts.proofs.Rungs.{Rest, none_met}
 use Rattle.unused_renamings.specs.Laws.{UnusedIsAccepted}
 use Rattle.unused_renamings.proofs.Refused.{IsOfHidden, capture_never, clash_never, mislink_hidden}
 

@@ -23,8 +23,8 @@ use Rattle.rename_model.specs.Foot.{IsHit, IsTheFoot}
 use Rattle.rename_model.specs.Project.{refusals_of_project}
 use Rattle.rename_model.specs.Renaming.{IsOperator, IsBadName, IsSameName, IsOutside, IsPun, IsPunAt, IsBlurred, IsBlurredAt, IsGrown, IsClash}
 use Rattle.rename_model.specs.Renaming.{IsCapture, IsMislink, HasNoTarget, watch_of, renamed, refusals_of_binder, refusals_of_renaming}
-use Rattle.rename_steps.specs.Findings.{IsFree}
-use Rattle.rename_steps.proofs.Bridge.{watched}
+use Rattle.rename_parts.specs.Findings.{IsFree}
+use Rattle.rename_parts.proofs.Bridge.{watched}
 use Rattle.rename_files.specs.Answer.{Accepts, Rejects, Renames}
 use Rattle.rename_laws.proofs.Free.{none_repeats, none_unmatched}
 use Rattle.rename_laws.proofs.Leasts.{no_least_is_none}

@@ -14,7 +14,7 @@ use Rattle.capture_check.specs.Fault.{IsMet}
 use Rattle.rename_model.specs.Foot.{IsTheFoot}
 use Rattle.rename_model.specs.Renaming.{IsGrown, watch_of}
 use Rattle.rename_model.specs.Target.{Aims}
-use Rattle.rename_steps.specs.Findings.{IsFree}
+use Rattle.rename_parts.specs.Findings.{IsFree}
 use Rattle.rename_files.specs.Answer.{Accepts, Renames}
 use Rattle.unused_names.specs.Laws.{HidesNothing, IsUnused}
 

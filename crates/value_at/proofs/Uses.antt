@@ -16,7 +16,7 @@ use Rattle.binding_model.specs.Renaming.{IsBinder}
 use Rattle.binding_model.specs.Renaming.{goal_at}
 use Rattle.binding_model.proofs.Goals.{goals_found}
 use Rattle.binding_model.proofs.Naming.{each_ordered}
-use Rattle.rename_steps.proofs.Having.{Has, contained_has}
+use Rattle.rename_parts.proofs.Having.{Has, contained_has}
 use Rattle.binding_model.proofs.LastEntries.{same_is}
 use Rattle.value_at.specs.Value.{IsValueAt, declares, uses, nothing, goal_value, used_value}
 use Rattle.value_at.specs.Laws.{ValuesAreOne}

@@ -24,8 +24,8 @@ use Rattle.rename_model.specs.Project.{IsDuplicate, IsHeavy, IsUnmatched, refusa
 use Rattle.rename_model.specs.Foot.{IsHit}
 use Rattle.rename_model.specs.Renaming.{IsOperator, IsBadName, IsSameName, IsOutside, IsPun, IsPunAt, IsBlurred, IsBlurredAt, IsGrown, IsClash}
 use Rattle.rename_model.specs.Renaming.{IsCapture, IsMislink, HasNoTarget, watch_of, renamed, refusals_of_binder}
-use Rattle.rename_steps.specs.Faults.{refusal_of_fault}
-use Rattle.rename_steps.specs.Findings.{IsFree}
+use Rattle.rename_parts.specs.Faults.{refusal_of_fault}
+use Rattle.rename_parts.specs.Findings.{IsFree}
 use Rattle.rename_files.specs.Answer.{Rejects}
 use Rattle.rename_files.specs.Steps.{LastRungs}
 use Rattle.rename_laws.proofs.Leasts.{no_least_is_none}

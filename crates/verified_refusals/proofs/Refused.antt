@@ -11,8 +11,8 @@ use Rattle.binding_model.specs.Renaming.{IsBinder}
 use Rattle.binding_model.specs.Renaming.{renaming}
 use Rattle.respelled_reading.proofs.Renamed.{watches_give_value_names}
 use Rattle.rename_model.specs.Renaming.{watch_of}
-use Rattle.rename_steps.specs.Findings.{IsFree}
-use Rattle.rename_steps.proofs.Bridge.{watched}
+use Rattle.rename_parts.specs.Findings.{IsFree}
+use Rattle.rename_parts.proofs.Bridge.{watched}
 use Rattle.verified_refusals.proofs.Suggested.{IsGiving}
 
 -- an entry gives the new name to a member

@@ -29,8 +29,8 @@ use Rattle.respelled_reading.proofs.Renamed.{changes_places, renamed_files_are_c
 use Rattle.value_places.specs.Binders.{binding}
 use Rattle.rename_respell.specs.Respelled.{AreRespelledBytes, changed, mapped_words}
 use Rattle.rename_respell.proofs.Given.{bytes_same}
-use Rattle.rename_steps.proofs.Having.{Has, has_as, has_mapped, has_filtered, contained_has}
-use Rattle.rename_steps.proofs.Found.{site_found}
+use Rattle.rename_parts.proofs.Having.{Has, has_as, has_mapped, has_filtered, contained_has}
+use Rattle.rename_parts.proofs.Found.{site_found}
 use Rattle.rename_survey.specs.Survey.{binder_of, binders_of}
 use Rattle.rename_verify.specs.declared.verdict.Why.TheVariants as why
 use Rattle.rename_verify.specs.Candidate.{AreLexemesOf, candidate, given_name, word_at}

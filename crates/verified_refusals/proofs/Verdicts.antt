@@ -18,7 +18,7 @@ use Rattle.rename_model.specs.Foot.{IsTheFoot}
 use Rattle.rename_model.specs.Renaming.{ForTarget, renamed_words, refusals_of_binder, watch_of}
 use Rattle.rename_model.specs.Target.{Aims}
 use Rattle.rename_model.proofs.One.{targets_have_one_goal}
-use Rattle.rename_steps.specs.Faults.{refusal_of_fault}
+use Rattle.rename_parts.specs.Faults.{refusal_of_fault}
 use Rattle.rename_files.specs.Answer.{Accepts, Renames}
 use Rattle.renamed_sources.proofs.Respelling.{renamed_keep_names, sources_can_be_respelled}
 use Rattle.rename_verify.specs.declared.verdict.Verdict.{Verdict}

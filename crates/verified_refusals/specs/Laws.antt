@@ -14,7 +14,7 @@ use Rattle.project_reading.specs.Reads.{Reads}
 use Rattle.rename_model.specs.Foot.{IsTheFoot}
 use Rattle.rename_model.specs.Renaming.{watch_of, renamed_words}
 use Rattle.rename_model.specs.Target.{Aims}
-use Rattle.rename_steps.specs.Faults.{refusal_of_fault}
+use Rattle.rename_parts.specs.Faults.{refusal_of_fault}
 use Rattle.rename_files.specs.Answer.{Renames}
 use Rattle.rename_verify.specs.declared.verdict.Verdict.{Verdict}
 use Rattle.rename_verify.specs.declared.verdict.Verdict.TheVariants.{No}

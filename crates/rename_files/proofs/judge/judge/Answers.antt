@@ -13,7 +13,7 @@ use Rattle.rename_model.specs.Bytes.{position_with}
 use Rattle.rename_model.specs.Renaming.{refusals_of_binder}
 use Rattle.rename_project.proofs.Refusals.{stopped}
 use Rattle.rename_project.specs.Steps.{IsRefusedFor}
-use Rattle.rename_steps.specs.Sources.{AreMade}
+use Rattle.rename_parts.specs.Sources.{AreMade}
 use Rattle.rename_files.proofs.Judging.{first_refused, is_watched, are_respelled, grown_refused, fault_refused, is_free}
 use Rattle.rename_files.proofs.judge.judge.Goals as goal
 

@@ -1,7 +1,7 @@
 use Rattle.std.proofs.Common.{inl, sym, subst}
 use Rattle.ml_trees.specs.View.{view_project}
 use Rattle.capture_check.specs.Local.{IsLocalFault}
-use Rattle.rename_steps.proofs.Faulted.{some_fault, no_fault}
+use Rattle.rename_parts.proofs.Faulted.{some_fault, no_fault}
 use Rattle.rename_files.specs.Steps.{LastRungs}
 use Rattle.rename_files.proofs.judge.judge_faults.Goals as goal
 

@@ -1,5 +1,5 @@
 use Rattle.std.proofs.Common.{◌≡◌, take, length}
-use Rattle.rename_steps.specs.Sources.{AreMade}
+use Rattle.rename_parts.specs.Sources.{AreMade}
 use Rattle.rename_files.proofs.judge.new_sources.Given as goal
 
 -- the new sources of those so far

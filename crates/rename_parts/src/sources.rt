@@ -6,9 +6,10 @@ ghost use Rattle.std.specs.Option.{option_map};
 ghost use Rattle.rotor_base.specs.Limits.{max_file_bytes, max_name_bytes, max_sources};
 ghost use Rattle.rotor_base.specs.Files.{names_of, too_large, IsProject};
 ghost use Rattle.rename_model.specs.Report.{hit_files};
-ghost use Rattle.rename_steps.specs.Sources.{IsMade};
+ghost use Rattle.rename_parts.specs.Sources.{IsMade};
 
-use rename_parts::{files_of, new_bytes};
+use crate::bytes::new_bytes;
+use crate::members::files_of;
 use rotor_base::{Files, Memory, Place, Row, SourceFile, Text, Token};
 use std::alloc::Global;
 use std::collections::BTreeSet;

@@ -1,6 +1,6 @@
 use Rattle.std.proofs.Common.{◌≡◌, ◌++◌, drop}
 use Rattle.rename_model.specs.Report.{hit_files}
-use Rattle.rename_steps.proofs.sources.changed_files.Given as goal
+use Rattle.rename_parts.proofs.sources.changed_files.Given as goal
 
 -- with those of the sources that are left, they are all
 abbrev pub invariant-loop-source : goal.invariant-loop-source

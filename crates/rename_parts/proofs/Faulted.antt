@@ -14,7 +14,7 @@ use Rattle.capture_check.specs.Fault.{IsMet, before}
 use Rattle.capture_check.specs.Local.{IsLocalFault}
 use Rattle.rename_model.specs.Ladder.{no_more}
 use Rattle.rename_model.specs.Renaming.{IsClash, IsCapture, IsMislink, renamed}
-use Rattle.rename_steps.specs.Faults.{refusal_of_fault}
+use Rattle.rename_parts.specs.Faults.{refusal_of_fault}
 
 module _ (us : List UnitTree) (w : Watch) where
   abbrev vs : List UnitTree

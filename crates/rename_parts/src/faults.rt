@@ -1,7 +1,7 @@
 //! The faults of a renaming, as refusals.
 
 ghost use Rattle.std.specs.Prelude.{◌≡◌};
-ghost use Rattle.rename_steps.specs.Faults.{refusal_of_fault};
+ghost use Rattle.rename_parts.specs.Faults.{refusal_of_fault};
 
 use capture_check::Fault;
 use rotor_base::Refusal;

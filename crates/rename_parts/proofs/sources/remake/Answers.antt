@@ -7,8 +7,8 @@ use Rattle.std.specs.Ordering.{nat_cmp}
 use Rattle.std.specs.Cmp.Lexicographic.{slice_cmp}
 use Rattle.rotor_base.specs.Files.{load_refusal}
 use Rattle.rotor_base.specs.Stem.{is_source_name}
-use Rattle.rename_steps.proofs.Numbers.{still_taken}
-use Rattle.rename_steps.proofs.sources.remake.Goals as goal
+use Rattle.rename_parts.proofs.Numbers.{still_taken}
+use Rattle.rename_parts.proofs.sources.remake.Goals as goal
 
 pub from_parts-requires : goal.from_parts-requires
 from_parts-requires c =

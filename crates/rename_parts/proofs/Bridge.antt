@@ -42,10 +42,10 @@ use Rattle.rename_model.specs.Foot.{IsIn, is_in, leads_in, refs_to, hits, IsHit}
 use Rattle.rename_model.specs.Renaming.{at_reference, at_item, at_source, watch_of, renamed_words}
 use Rattle.rename_parts.specs.Hits.{is_lower, hit_words}
 use Rattle.shape_core.specs.Places.{HasPlaces}
-use Rattle.rename_steps.specs.Findings.{IsFree}
-use Rattle.rename_steps.specs.Sources.{IsMade, AreMade}
-use Rattle.rename_steps.proofs.Having.{Has, has_as, has_each, has_contained, contained_has, has_mapped, has_filtered, any_has, has_right, has_left}
-use Rattle.rename_steps.proofs.Having.{has_any, has_unmapped, has_unfiltered}
+use Rattle.rename_parts.specs.Findings.{IsFree}
+use Rattle.rename_parts.specs.Sources.{IsMade, AreMade}
+use Rattle.rename_parts.proofs.Having.{Has, has_as, has_each, has_contained, contained_has, has_mapped, has_filtered, any_has, has_right, has_left}
+use Rattle.rename_parts.proofs.Having.{has_any, has_unmapped, has_unfiltered}
 
 -- ---- what is free of the first refusals may be renamed
 

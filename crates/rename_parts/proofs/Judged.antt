@@ -18,10 +18,10 @@ use Rattle.rename_parts.specs.Blurs.{BlursRef, BlursLink}
 use Rattle.rename_parts.specs.Hits.{all_hits}
 use Rattle.rename_parts.specs.Leasts.{IsLeastOrNone}
 use Rattle.shape_core.specs.Places.{HasPlaces}
-use Rattle.rename_steps.specs.declared.findings.Findings.{Findings}
-use Rattle.rename_steps.specs.Findings.{refusal_of}
-use Rattle.rename_steps.proofs.Found.{operator_met, operator_none, pun_least, blurred_least}
-use Rattle.rename_steps.proofs.Rungs.{told, Told}
+use Rattle.rename_parts.specs.declared.findings.Findings.{Findings}
+use Rattle.rename_parts.specs.Findings.{refusal_of}
+use Rattle.rename_parts.proofs.Found.{operator_met, operator_none, pun_least, blurred_least}
+use Rattle.rename_parts.proofs.Rungs.{told, Told}
 
 module _ (us : List UnitTree) (fs : Facts) (foot : Foot) (new old : Name) (members : BTreeSet Place) (marks : List Hit)
     (fs_is : fs ≡ facts us) (members_of : HasPlaces foot.decls members) (marks_are : marks ≡ all_hits (hits (facts us).refs foot) (places us)) where

@@ -3,7 +3,7 @@ use Rattle.rotor_base.specs.declared.place.Ref.{Ref}
 use Rattle.rotor_base.specs.declared.place.Link.{Link}
 use Rattle.rename_parts.specs.Blurs.{BlursRef, BlursLink}
 use Rattle.rename_parts.specs.Leasts.{IsLeastOrNone}
-use Rattle.rename_steps.proofs.findings.find_all.Goals as goal
+use Rattle.rename_parts.proofs.findings.find_all.Goals as goal
 
 pub returns-clause-blurred : goal.returns-clause-blurred
 returns-clause-blurred c =

@@ -27,8 +27,8 @@ use Rattle.rename_parts.specs.Hits.{hit_of, hit_if, hit_at, all_hits}
 use Rattle.rename_parts.specs.Leasts.{IsLeastOrNone}
 use Rattle.shape_core.specs.Places.{HasPlaces}
 use Rattle.rename_parts.proofs.Earliest.{least_same}
-use Rattle.rename_steps.proofs.Having.{Has, has_left, has_right, has_split, has_any}
-use Rattle.rename_steps.proofs.Having.{any_has, has_contained, contained_has}
+use Rattle.rename_parts.proofs.Having.{Has, has_left, has_right, has_split, has_any}
+use Rattle.rename_parts.proofs.Having.{any_has, has_contained, contained_has}
 
 -- ---- sets of places
 

@@ -12,9 +12,11 @@ ghost use Rattle.rename_parts.specs.declared.checks.Hit.{Hit};
 ghost use Rattle.rename_parts.specs.Blurs.{BlursRef, BlursLink};
 ghost use Rattle.rename_parts.specs.Leasts.{IsLeastOrNone};
 ghost use Rattle.shape_core.specs.Places.{HasPlaces};
-ghost use Rattle.rename_steps.specs.Findings.{IsFree, IsRefused, refusal_of};
+ghost use Rattle.rename_parts.specs.Findings.{IsFree, IsRefused, refusal_of};
 
-use rename_parts::{Hit, has_operator, hit_marks, hit_places, least_blurred, least_pun};
+use crate::blurred::least_blurred;
+use crate::checks::{Hit, has_operator, hit_marks, least_pun};
+use crate::members::hit_places;
 use rotor_base::{Facts, Place, Refusal, Watch, is_name};
 use std::alloc::Global;
 use std::collections::BTreeSet;

@@ -6,9 +6,9 @@ use Rattle.value_sites.specs.Places.{Site}
 use Rattle.binding_model.specs.Facts.{facts}
 use Rattle.rename_model.specs.Foot.{hits}
 use Rattle.rename_parts.specs.Hits.{all_hits}
-use Rattle.rename_steps.proofs.Judged.{judged}
-use Rattle.rename_steps.proofs.Rungs.{Told}
-use Rattle.rename_steps.proofs.findings.judge_foot.Goals as goal
+use Rattle.rename_parts.proofs.Judged.{judged}
+use Rattle.rename_parts.proofs.Rungs.{Told}
+use Rattle.rename_parts.proofs.findings.judge_foot.Goals as goal
 
 pub returns-in-Some-clause-refused : goal.returns-in-Some-clause-refused
 returns-in-Some-clause-refused c = λ us d at is n.

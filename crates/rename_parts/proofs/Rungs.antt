@@ -17,7 +17,7 @@ use Rattle.rename_model.specs.Foot.{IsHit}
 use Rattle.rename_model.specs.Renaming.{IsOperatorAt, IsPunAt, IsBlurredAt, IsOperator, IsBadName, IsSameName, IsOutside, IsPun, IsBlurred, IsGrown}
 use Rattle.rename_model.specs.Renaming.{IsClash, IsCapture, IsMislink, watch_of, renamed, refusals_of_binder}
 use Rattle.rename_parts.specs.Leasts.{IsLeastOrNone}
-use Rattle.rename_steps.specs.Findings.{refusal_of, IsFree}
+use Rattle.rename_parts.specs.Findings.{refusal_of, IsFree}
 
 -- the rungs behind the first six
 abbrev pub Rest : List UnitTree → Place → Foot → Name → List SourceFile → Refusal → Type 0

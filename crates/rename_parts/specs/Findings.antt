@@ -12,7 +12,7 @@ use Rattle.binding_model.specs.Facts.{facts}
 use Rattle.binding_model.specs.Renaming.{name_of}
 use Rattle.rename_model.specs.Foot.{IsHit}
 use Rattle.rename_model.specs.Renaming.{IsOperatorAt, IsPunAt, IsBlurredAt, refusals_of_binder}
-use Rattle.rename_steps.specs.declared.findings.Findings.{Findings}
+use Rattle.rename_parts.specs.declared.findings.Findings.{Findings}
 
 -- the first refusal that they give
 abbrev pub refusal_at : Option Place → Option Place → Option Place → Option Refusal
