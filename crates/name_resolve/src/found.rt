@@ -83,7 +83,8 @@ fn list_declared(alloc: Global, values: &[SharedEntry]) -> Result<Row<Place>, Me
     Ok(places)
 }
 
-/// Ends a weighed site: `Heavy` if its shape, the sum of weights or the work so far is over its bound.
+/// Ends a weighed site. The only error is `Heavy`, at the site, if its shape, the sum of weights or the work so far is
+/// over its bound.
 pub fn end_weighed_site(found: &mut Found, at: Place, shape: &Shared) -> Result<(), FactError>
     ensures taken { HasTaken result found.old found.new (WeighedSite at shape.now) }
     ensures heavy { HasStopped result found.old (WeighedSite at shape.now) }
@@ -99,7 +100,8 @@ pub fn end_weighed_site(found: &mut Found, at: Place, shape: &Shared) -> Result<
     Ok(())
 }
 
-/// Ends an opening site: `Heavy` if the weights that the unit has opened are over their bound.
+/// Ends an opening site. The only error is `Heavy`, at the site, if the weights that the unit has opened are over their
+/// bound.
 pub fn end_opening_site(found: &mut Found, at: Place, shape: &Shared) -> Result<(), FactError>
     ensures taken { HasTaken result found.old found.new (OpenedSite at shape.now) }
     ensures heavy { HasStopped result found.old (OpenedSite at shape.now) }
@@ -112,8 +114,8 @@ pub fn end_opening_site(found: &mut Found, at: Place, shape: &Shared) -> Result<
     Ok(())
 }
 
-/// Ends an opening site of a module of which nothing is known: it opens no weight. `Heavy` is the only error: the unit
-/// has opened too much weight before.
+/// Ends an opening site of a module of which nothing is known: it opens no weight. The only error is `Heavy`, at the
+/// site, if the unit has opened too much weight before.
 pub fn end_opening_of_nothing(found: &mut Found, at: Place) -> Result<(), FactError>
     ensures taken { HasTaken result found.old found.new (OpenedSite at Opaque) }
     ensures heavy { HasStopped result found.old (OpenedSite at Opaque) }

@@ -14,7 +14,7 @@ use rotor_base::{Files, Memory, Place, Row, SourceFile, Text, Token};
 use std::alloc::Global;
 use std::collections::BTreeSet;
 
-/// A source whose lower-case words at the places of a set take a new word.
+/// A source whose lower-case words at the places of a set take a new word. `Memory` is the only error.
 pub fn new_source(
     alloc: Global,
     source: &SourceFile,
@@ -58,7 +58,7 @@ fn copy_manifest(alloc: Global, files: &Files) -> Result<Option<Vec<u8>>, Memory
     }
 }
 
-/// The numbers of the sources that have one of some places, in order.
+/// The numbers of the sources that have one of some places, in order. `Memory` is the only error.
 pub fn changed_files(
     alloc: Global,
     places: &[Place],

@@ -48,7 +48,7 @@ pub fn resolve(alloc: Global, project: &Project) -> Result<Resolved, Refusal>
     resolve_placed(alloc, project, &placed)
 }
 
-/// What [`resolve`] returns, of a project whose places are listed.
+/// What [`resolve`] returns, of a project whose places are listed. The errors are those of [`resolve`].
 pub fn resolve_placed(
     alloc: Global,
     project: &Project,

@@ -17,7 +17,7 @@ const DIGITS: [u32; 10] = [0, 1, 2, 3, 4, 5, 6, 7, 8, 9];
 
 const NONZERO_DIGITS: [u32; 9] = [1, 2, 3, 4, 5, 6, 7, 8, 9];
 
-/// The files of the units below a number, and below 1,000.
+/// The files of the units below a number, and below 1,000. `Memory` is the only error.
 pub fn sample_files(alloc: Global, units: u32) -> Result<Files, Memory>
     ensures { IfOk result (λ files. files ≡ sample_files units) }
 {

@@ -290,14 +290,15 @@ pub fn match_looks(
     watch_match(alloc, src, tgt, &Watched::new(alloc, watch)?)
 }
 
-/// Looks' part on the links of a shape that is pinned; numbers and errors as for [`match_looks`].
+/// Looks' part on the links of a shape that is pinned. Its links are numbered from 0, and its errors are those of
+/// [`match_looks`].
 pub fn pin_looks(alloc: Global, shape: &Shared, watch: &Watch) -> Result<Looks, Memory>
     ensures { IfOk result (λ looks. looks ≡ pure.pin_looks watch.now shape.now) }
 {
     watch_pin(alloc, shape, &Watched::new(alloc, watch)?)
 }
 
-/// The looks of [`match_looks`], for a renaming that is watched already.
+/// The looks of [`match_looks`], for a renaming that is watched already. The errors are the same.
 pub fn watch_match(
     alloc: Global,
     src: &Shared,
@@ -315,7 +316,7 @@ pub fn watch_match(
     looks_after(alloc, walked, &found, watch)
 }
 
-/// The looks of [`pin_looks`], for a renaming that is watched already.
+/// The looks of [`pin_looks`], for a renaming that is watched already. The errors are the same.
 pub fn watch_pin(alloc: Global, shape: &Shared, watch: &Watched) -> Result<Looks, Memory>
     ensures { IfOk result (λ looks. looks ≡ pure.pin_looks watch.now shape.now) }
 {

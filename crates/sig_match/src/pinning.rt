@@ -10,7 +10,7 @@ ghost use Rattle.sig_match.specs.Parts.{pin_part, pin_first};
 use crate::found::{Found, Meeting, Stop, meet, spend};
 use shape_core::{Shared, SharedEntry, entries, is_shown, param, result, value_positions};
 
-/// Pin of a shape.
+/// Pin of a shape. The errors are `Over`, if the work would be more than the room, and `Memory`.
 #[cycle(pinning)]
 pub fn pin_shape<'a>(shape: &'a Shared, room: u32, found: &mut Found<'a>) -> Result<(), Stop>
     ensures { Walks result room (trace_of found.old) (trace_of found.new) (links.pin met shape.now) }
@@ -83,7 +83,8 @@ fn pin_entry<'a>(
     }
 }
 
-/// The values of a structure, pinned for a Dark entry of a target.
+/// The values of a structure, pinned for a Dark entry of a target. The errors are `Over`, if the work would be more than
+/// the room, and `Memory`.
 pub fn pin_values<'a>(shape: &'a Shared, room: u32, found: &mut Found<'a>) -> Result<(), Stop>
     ensures { Walks result room (trace_of found.old) (trace_of found.new) (links.pin_vals met (entries_in shape.now)) }
 {
