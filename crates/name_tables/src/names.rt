@@ -31,8 +31,8 @@ impl<V: Copy> Names<V> {
         self.map.get(name).copied()
     }
 
-    /// Gives a name a value, and returns the one that it had. Only a name without a value is copied. An `Err` changes no
-    /// name's value. `Memory` is the only error.
+    /// Gives a name a value, and returns the one that it had. Only a name without a value is copied. `Memory` is the
+    /// only error, and changes no name's value.
     pub fn put(&mut self, alloc: Global, name: &[u8], value: V) -> Result<Option<V>, Memory>
         ensures old { IfOk result (λ old. old ≡ at self.old name.now) }
         ensures put { OnOk result ((x : List ℕ) → at self.new x ≡ (if bytes_eq name.now x then Rattle.std.specs.Prelude.Some value else at self.old x)) }

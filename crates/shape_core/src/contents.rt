@@ -40,8 +40,8 @@ impl Contents {
         }
     }
 
-    /// Takes in an entry at the end of the list. `Memory` is the only error. What the contents are after
-    /// it is left open.
+    /// Takes in an entry at the end of the list. `Memory` is the only error. What the contents are after it is left
+    /// open.
     pub fn add(&mut self, alloc: Global, entry: &SharedEntry) -> Result<(), Memory>
         requires { (list : List SharedEntry) × HasContents self.old list }
         ensures { OnOk result ((list : List SharedEntry) → HasContents self.old list → HasContents self.new (list ++ entry.now ∷ [])) }

@@ -44,7 +44,8 @@ impl Declarations {
         }
     }
 
-    /// Takes in the entry behind the list, which has so many entries, and so many Dark ones. `Memory` is the only error.
+    /// Takes in the entry behind the list, which has so many entries, and so many Dark ones. `Memory` is the only
+    /// error.
     pub fn add(&mut self, entry: &SharedEntry, position: usize, darks: usize) -> Result<(), Memory>
         ensures { OnOk result ((list : List SharedEntry) → length list ≡ position → length (pure.darks (entries_of list)) ≡ darks → HasDeclarations self.old list → HasDeclarations self.new (list ++ entry.now ∷ [])) }
     {

@@ -69,7 +69,8 @@ pub fn spend(room: u32, found: &mut Found) -> Result<(), Stop>
     Ok(())
 }
 
-/// One value that is linked, at one unit of work. The errors are `Over`, if the work has reached the room, and `Memory`.
+/// One value that is linked, at one unit of work. The errors are `Over`, if the work has reached the room, and
+/// `Memory`.
 pub fn meet<'a>(meeting: Meeting<'a>, room: u32, found: &mut Found<'a>) -> Result<(), Stop>
     ensures { Walks result room (trace_of found.old) (trace_of found.new) (told_once (met_at meeting.entry)) }
 {

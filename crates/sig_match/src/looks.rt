@@ -71,8 +71,8 @@ fn find_last_from(test: Test, watch: &Watched, list: &[SharedEntry], from: usize
 }
 
 /// The last value of a structure that a test accepts. `InFoot` takes a step from the end and a look-up for each member
-/// of the footprint at most, `OtherOld` a step for each later value of the old name, and `NamedNew` one look-up. It takes
-/// no memory.
+/// of the footprint at most, `OtherOld` a step for each later value of the old name, and `NamedNew` one look-up. It
+/// takes no memory.
 pub fn find_last_in(test: Test, watch: &Watched, shape: &Shared) -> Option<LookSpot>
     ensures { result ≡ pure.last_where (test_of test watch.now) (entries_in shape.now) }
 {

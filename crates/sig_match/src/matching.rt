@@ -11,8 +11,8 @@ use crate::found::{Found, Meeting, Stop, meet, spend};
 use crate::pinning::{pin_shape, pin_values};
 use shape_core::{Shared, SharedEntry, entries, is_shown, kind, mod_of, mty_of, param, result};
 
-/// Match of a source with a target. `empty` is the empty structure. The errors are `Over`, if the work would be more than
-/// the room, and `Memory`.
+/// Match of a source with a target. `empty` is the empty structure. The errors are `Over`, if the work would be more
+/// than the room, and `Memory`.
 #[cycle(matching)]
 pub fn match_both<'a>(
     src: &'a Shared,

@@ -83,8 +83,8 @@ fn pin_entry<'a>(
     }
 }
 
-/// The values of a structure, pinned for a Dark entry of a target. The errors are `Over`, if the work would be more than
-/// the room, and `Memory`.
+/// The values of a structure, pinned for a Dark entry of a target. The errors are `Over`, if the work would be more
+/// than the room, and `Memory`.
 pub fn pin_values<'a>(shape: &'a Shared, room: u32, found: &mut Found<'a>) -> Result<(), Stop>
     ensures { Walks result room (trace_of found.old) (trace_of found.new) (links.pin_vals met (entries_in shape.now)) }
 {
