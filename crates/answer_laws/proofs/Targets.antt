@@ -5,6 +5,7 @@ use Rattle.rotor_base.specs.declared.source.SourceFile.{SourceFile}
 use Rattle.rotor_base.specs.declared.target.Target.{Target}
 use Rattle.rotor_base.specs.declared.target.Target.TheVariants.{At, Spot, Dotted}
 use Rattle.rotor_base.specs.Files.{FileSet}
+use Rattle.rotor_base.proofs.Rising.{some_is}
 use Rattle.ml_lexer.specs.Lexed.{Lexeme, Lexed}
 use Rattle.ml_lexer.proofs.OneCutting.{one_lexed}
 use Rattle.value_sites.specs.Places.{Site}
@@ -16,9 +17,6 @@ use Rattle.binding_model.specs.Scopes.{after_units}
 use Rattle.project_reading.proofs.Cut.{HaveCuts, cut_at}
 use Rattle.rename_model.specs.Target.{Aims, IsSpot, Names, TextSpot, dotted, number_of, token_over}
 use Rattle.rename_model.proofs.One.{one_name}
-
-some_is : {X : Type 0} {a b : X} → Some a ≡ Some b → a ≡ b
-some_is e = cc
 
 -- a place meets a condition, or none does
 abbrev pub IsFound : (Place → Type 0) → Type 0
@@ -39,8 +37,8 @@ module _ (files : List SourceFile) (name : Name) (spot : TextSpot) where
     -- another token at the spot is one of this source
     token_of : (d : Place) → IsSpot files name spot d → token_over spot source.bytes xs ≡ Some d.token
     token_of d h =
-        let f : n ≡ d.file = some_is (sym number ∙ h.number) in
-        let s : source ≡ h.source = some_is (sym here ∙ (ap (slice_get files) f ∙ h.here)) in
+        let f : n ≡ d.file = some_is n d.file (sym number ∙ h.number) in
+        let s : source ≡ h.source = some_is source h.source (sym here ∙ (ap (slice_get files) f ∙ h.here)) in
         let x : xs ≡ h.lexemes = one_lexed cut (subst (λ (z : SourceFile). Lexed z.bytes h.lexemes) (sym s) h.cut) in
         subst (λ (z : SourceFile). token_over spot z.bytes xs ≡ Some d.token) (sym s)
         (subst (λ (ys : List Lexeme). token_over spot h.source.bytes ys ≡ Some d.token) (sym x) h.token)
@@ -58,7 +56,7 @@ module _ (files : List SourceFile) (name : Name) (spot : TextSpot) where
   spotted cuts = by (number_of files name) refl where
     lost : (n : ℕ) → number_of files name ≡ Some n → slice_get files n ≡ None → (d : Place) → IsSpot files name spot d → ⊥
     lost n e here d h =
-        let f : n ≡ d.file = some_is (sym e ∙ h.number) in
+        let f : n ≡ d.file = some_is n d.file (sym e ∙ h.number) in
         let bad : None ≡ Some h.source = sym here ∙ (ap (slice_get files) f ∙ h.here) in
         cc
 
@@ -87,7 +85,7 @@ is_binder : (us : List UnitTree) (d : Place) → IsBinder us d ⊎ (IsBinder us 
 is_binder us d = by (at_place (places us) d) refl where
   site : (x : Site) (binds : Bool) → x.binds ≡ binds → at_place (places us) d ≡ Some x → IsBinder us d ⊎ (IsBinder us d → ⊥)
   site x true t e = inl (x, e, t)
-  site x false t e = inr (λ b. let bad : false ≡ true = sym t ∙ (ap (λ (s : Site). s.binds) (some_is (sym e ∙ b.1)) ∙ b.2) in cc)
+  site x false t e = inr (λ b. let bad : false ≡ true = sym t ∙ (ap (λ (s : Site). s.binds) (some_is x b.0 (sym e ∙ b.1)) ∙ b.2) in cc)
 
   by : (found : Option Site) → at_place (places us) d ≡ found → IsBinder us d ⊎ (IsBinder us d → ⊥)
   by None e = inr (λ b. let bad : None ≡ Some b.0 = sym e ∙ b.1 in cc)

@@ -7,6 +7,7 @@ use Rattle.std.proofs.lemmas.Bool.{cases_order}
 use Rattle.rotor_base.specs.declared.place.Place.{Place}
 use Rattle.rotor_base.specs.declared.place.Goal.{Goal}
 use Rattle.rotor_base.specs.Place.{IsBefore}
+use Rattle.rotor_base.proofs.Rising.{some_is}
 use Rattle.binding_model.specs.Facts.{is_before}
 use Rattle.capture_check.specs.declared.fault.Change.{Change}
 use Rattle.rotor_base.specs.declared.place.Goal.TheVariants.{Decl}
@@ -47,9 +48,6 @@ module _ {A : Type 0} (make : Place → Goal → A) (keeps : KeepsPlace make) (o
     | inl e ↦ inr e
     | inr e ↦ elim e [ inl lt ↦ inl lt | inr gt ↦ absurd (omega arith) ]
   ]
-
-  some_is : {X : Type 0} (x y : X) → Some x ≡ Some y → x ≡ y
-  some_is x y e = cc
 
   place_is : (o : Option A) (p q : Place) (g h : Goal) → o ≡ Some (make p g) → o ≡ Some (make q h) → p ≡ q
   place_is o p q g h e f = keeps p q g h (some_is (make p g) (make q h) (sym e ∙ f))

@@ -10,31 +10,36 @@ use Rattle.rotor_base.specs.Place.{IsBefore}
 use Rattle.rotor_base.proofs.Rising.{some_is}
 use Rattle.capture_check.specs.declared.fault.Fault.{Fault}
 use Rattle.capture_check.specs.declared.fault.Fault.TheVariants.{Clash, Capture, Mislink}
-use Rattle.capture_check.specs.Fault.{Names, IsClash, of_ref, of_link, IsFirstDiffering, IsCapture, IsMislink, before, FaultsAreOne}
+use Rattle.capture_check.specs.Fault.{Names, IsLeastRepeat, IsClash, of_ref, of_link, IsFirstDiffering, IsCapture, IsMislink, before, FaultsAreOne}
 use Rattle.capture_check.proofs.Before.{not_before, not_both, Upto}
 
-upto_both : (p q : Place) → Upto p q → Upto q p → p ≡ q
+pub upto_both : (p q : Place) → Upto p q → Upto q p → p ≡ q
 upto_both p q (inl e) h = e
 upto_both p q (inr a) (inl e) = sym e
 upto_both p q (inr a) (inr b) = absurd (not_both p q a b)
 
--- a condition gives one answer
-abbrev One : (Fault → Type 0) → Type 0
-One c = (a b : Fault) → c a → c b → a ≡ b
+-- at most one thing meets a condition
+abbrev pub One : {R : Type 0} → (R → Type 0) → Type 0
+One {R} c = (a b : R) → c a → c b → a ≡ b
 
-one_before : (c d : Fault → Type 0) → One c → One d → One (before c d)
+pub one_before : {R : Type 0} (c d : R → Type 0) → One c → One d → One (before c d)
 one_before c d oc od a b (inl h) (inl k) = oc a b h k
 one_before c d oc od a b (inl h) (inr k) = absurd (k.0 (a, h))
 one_before c d oc od a b (inr h) (inl k) = absurd (h.0 (b, k))
 one_before c d oc od a b (inr h) (inr k) = od a b h.1 k.1
 
-one_clash : (names : Names) (groups : List (List Place)) → One (IsClash names groups)
-one_clash names groups (Clash f a) (Clash g b) h k = by (h.least g b k.repeats) (k.least f a h.repeats) where
-  by : IsBefore a b ⊎ ((a ≡ b) × Upto f g) → IsBefore b a ⊎ ((b ≡ a) × Upto g f) → Clash f a ≡ Clash g b
+pub one_repeat : (names : Names) (groups : List (List Place)) (f a g b : Place) → IsLeastRepeat names groups f a → IsLeastRepeat names groups g b
+    → (f ≡ g) × (a ≡ b)
+one_repeat names groups f a g b h k = by (h.least g b k.repeats) (k.least f a h.repeats) where
+  by : IsBefore a b ⊎ ((a ≡ b) × Upto f g) → IsBefore b a ⊎ ((b ≡ a) × Upto g f) → (f ≡ g) × (a ≡ b)
   by (inl x) (inl y) = absurd (not_both a b x y)
   by (inl x) (inr y) = absurd (not_before a (subst (IsBefore a) y.0 x))
   by (inr x) (inl y) = absurd (not_before b (subst (IsBefore b) x.0 y))
-  by (inr x) (inr y) = ap (λ (p : Place). Clash p a) (upto_both f g x.1 y.1) ∙ ap (λ (p : Place). Clash g p) x.0
+  by (inr x) (inr y) = (upto_both f g x.1 y.1, x.0)
+
+one_clash : (names : Names) (groups : List (List Place)) → One (IsClash names groups)
+one_clash names groups (Clash f a) (Clash g b) h k =
+    let e = one_repeat names groups f a g b h k in ap (λ (p : Place). Clash p a) e.0 ∙ ap (λ (p : Place). Clash g p) e.1
 one_clash names groups (Capture at was would) b h k = absurd h
 one_clash names groups (Mislink item was would) b h k = absurd h
 one_clash names groups (Clash f a) (Capture at was would) h k = absurd k
@@ -44,7 +49,7 @@ module _ {A : Type 0} (make : Place → Goal → A) (keeps : (p q : Place) (g h 
   goal_is : (xs : List A) (m n : ℕ) (p q : Place) (g h : Goal) → m ≡ n → slice_get xs m ≡ Some (make p g) → slice_get xs n ≡ Some (make q h) → g ≡ h
   goal_is xs m n p q g h e i j = keeps p q g h (some_is (make p g) (make q h) (sym i ∙ (ap (slice_get xs) e ∙ j)))
 
-  one_differing : (p q : Place) (w v x y : Goal) → IsFirstDiffering make old new p w v → IsFirstDiffering make old new q x y
+  pub one_differing : (p q : Place) (w v x y : Goal) → IsFirstDiffering make old new p w v → IsFirstDiffering make old new q x y
       → (p ≡ q) × (w ≡ x) × (v ≡ y)
   one_differing p q w v x y h k = by (h.least k.number q x y k.differs) (k.least h.number p w v h.differs) where
     by : IsBefore p q ⊎ ((p ≡ q) × (h.number ≤ k.number)) → IsBefore q p ⊎ ((q ≡ p) × (k.number ≤ h.number)) → (p ≡ q) × (w ≡ x) × (v ≡ y)
@@ -61,13 +66,13 @@ module _ {A : Type 0} (make : Place → Goal → A) (keeps : (p q : Place) (g h 
               k.differs.new_one,
         )
 
-ref_goal : (p q : Place) (g h : Goal) → of_ref p g ≡ of_ref q h → g ≡ h
+pub ref_goal : (p q : Place) (g h : Goal) → of_ref p g ≡ of_ref q h → g ≡ h
 ref_goal p q g h e = ap (λ (r : Ref). r.goal) e
 
-link_goal : (p q : Place) (g h : Goal) → of_link p g ≡ of_link q h → g ≡ h
+pub link_goal : (p q : Place) (g h : Goal) → of_link p g ≡ of_link q h → g ≡ h
 link_goal p q g h e = ap (λ (l : Link). l.source) e
 
-three : {A B C D : Type 0} (f : A → B → C → D) (a a' : A) (b b' : B) (c c' : C) → a ≡ a' → b ≡ b' → c ≡ c' → f a b c ≡ f a' b' c'
+pub three : {A B C D : Type 0} (f : A → B → C → D) (a a' : A) (b b' : B) (c c' : C) → a ≡ a' → b ≡ b' → c ≡ c' → f a b c ≡ f a' b' c'
 three f a a' b b' c c' p q r = ap (λ x. f x b c) p ∙ (ap (λ x. f a' x c) q ∙ ap (λ x. f a' b' x) r)
 
 one_capture : (old new : List Ref) → One (IsCapture old new)

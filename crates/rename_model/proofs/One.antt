@@ -1,11 +1,9 @@
 -- Each ladder gives one refusal, and a target has one goal.
-use Rattle.std.proofs.Common.{◌≡◌, ℕ, suc, ◌≤◌, ◌⊎◌, refl, ap, sym, ◌∙◌, subst, inl, inr, arith, List, [], ◌∷◌, Option, Some}
+use Rattle.std.proofs.Common.{◌≡◌, ℕ, suc, refl, ap, sym, ◌∙◌, subst, List, [], ◌∷◌, Option, Some}
 use Rattle.std.specs.Prelude.{slice_get}
 use Rattle.rotor_base.specs.declared.place.Place.{Place}
 use Rattle.rotor_base.specs.declared.place.Goal.{Goal}
 use Rattle.rotor_base.specs.declared.place.Goal.TheVariants.{Decl}
-use Rattle.rotor_base.specs.declared.place.Ref.{Ref}
-use Rattle.rotor_base.specs.declared.place.Link.{Link}
 use Rattle.rotor_base.specs.declared.place.Foot.{Foot}
 use Rattle.rotor_base.specs.declared.looks.Watch.{Watch}
 use Rattle.rotor_base.specs.declared.refusal.Refusal.{Refusal}
@@ -14,7 +12,6 @@ use Rattle.rotor_base.specs.declared.source.SourceFile.{SourceFile}
 use Rattle.rotor_base.specs.declared.target.Target.{Target}
 use Rattle.rotor_base.specs.declared.target.Target.TheVariants.{At, Spot, Dotted}
 use Rattle.rotor_base.specs.Files.{FileSet, are_over}
-use Rattle.rotor_base.specs.Place.{IsBefore}
 use Rattle.rotor_base.proofs.Rising.{some_is}
 use Rattle.dependency_kernel.specs.Foot.{IsFoot}
 use Rattle.dependency_kernel.proofs.Only.{is_the_only}
@@ -28,8 +25,8 @@ use Rattle.shape_core.specs.Respell.{Words}
 use Rattle.binding_model.specs.Scopes.{after_units}
 use Rattle.binding_model.specs.Facts.{facts, unmatched}
 use Rattle.binding_model.specs.Sums.{heavy}
-use Rattle.capture_check.specs.Fault.{Names as NamesOf, IsLeastRepeat, before, of_ref, of_link, IsFirstDiffering}
-use Rattle.capture_check.proofs.Before.{not_before, not_both, Upto}
+use Rattle.capture_check.specs.Fault.{before, of_ref, of_link}
+use Rattle.capture_check.proofs.One.{link_goal, one_before, one_differing, one_repeat, ref_goal, three, upto_both}
 use Rattle.rename_model.specs.Ladder.{no_more, GivesOne, IsLeast}
 use Rattle.rename_model.specs.Target.{number_of, token_over, IsSpot, dotted, Names}
 use Rattle.rename_model.specs.Project.{IsDuplicate, IsHeavy, IsUnmatched}
@@ -43,12 +40,6 @@ use Rattle.rename_model.specs.Laws.{ProjectsAreRefusedOnce, TargetsHaveOneGoal, 
 
 -- ---- ladders
 
-pub one_before : {R : Type 0} (c d : R → Type 0) → GivesOne c → GivesOne d → GivesOne (before c d)
-one_before c d oc od a b (inl h) (inl k) = oc a b h k
-one_before c d oc od a b (inl h) (inr k) = absurd (k.0 (a, h))
-one_before c d oc od a b (inr h) (inl k) = absurd (h.0 (b, k))
-one_before c d oc od a b (inr h) (inr k) = od a b h.1 k.1
-
 one_end : (r s : Refusal) → no_more r → no_more s → r ≡ s
 one_end r s h k = absurd h
 
@@ -57,55 +48,11 @@ both_some o x y h k = some_is x y (sym h ∙ k)
 
 -- ---- places
 
-upto_both : (p q : Place) → Upto p q → Upto q p → p ≡ q
-upto_both p q (inl e) h = e
-upto_both p q (inr a) (inl e) = sym e
-upto_both p q (inr a) (inr b) = absurd (not_both p q a b)
-
 pub one_least : (P : Place → Type 0) (p q : Place) → IsLeast P p → IsLeast P q → p ≡ q
 one_least P p q h k = upto_both p q (h.least q k.there) (k.least p h.there)
 
-one_repeat : (names : NamesOf) (groups : List (List Place)) (f a g b : Place) → IsLeastRepeat names groups f a → IsLeastRepeat names groups g b
-    → (f ≡ g) × (a ≡ b)
-one_repeat names groups f a g b h k = by (h.least g b k.repeats) (k.least f a h.repeats) where
-  by : IsBefore a b ⊎ ((a ≡ b) × Upto f g) → IsBefore b a ⊎ ((b ≡ a) × Upto g f) → (f ≡ g) × (a ≡ b)
-  by (inl x) (inl y) = absurd (not_both a b x y)
-  by (inl x) (inr y) = absurd (not_before a (subst (IsBefore a) y.0 x))
-  by (inr x) (inl y) = absurd (not_before b (subst (IsBefore b) x.0 y))
-  by (inr x) (inr y) = (upto_both f g x.1 y.1, x.0)
-
-module _ {A : Type 0} (make : Place → Goal → A) (keeps : (p q : Place) (g h : Goal) → make p g ≡ make q h → g ≡ h) (old new : List A) where
-  goal_is : (xs : List A) (m n : ℕ) (p q : Place) (g h : Goal) → m ≡ n → slice_get xs m ≡ Some (make p g) → slice_get xs n ≡ Some (make q h) → g ≡ h
-  goal_is xs m n p q g h e i j = keeps p q g h (some_is (make p g) (make q h) (sym i ∙ (ap (slice_get xs) e ∙ j)))
-
-  one_differing : (p q : Place) (w v x y : Goal) → IsFirstDiffering make old new p w v → IsFirstDiffering make old new q x y
-      → (p ≡ q) × (w ≡ x) × (v ≡ y)
-  one_differing p q w v x y h k = by (h.least k.number q x y k.differs) (k.least h.number p w v h.differs) where
-    by : IsBefore p q ⊎ ((p ≡ q) × (h.number ≤ k.number)) → IsBefore q p ⊎ ((q ≡ p) × (k.number ≤ h.number)) → (p ≡ q) × (w ≡ x) × (v ≡ y)
-    by (inl a) (inl b) = absurd (not_both p q a b)
-    by (inl a) (inr b) = absurd (not_before p (subst (IsBefore p) b.0 a))
-    by (inr a) (inl b) = absurd (not_before q (subst (IsBefore q) a.0 b))
-    by (inr a) (inr b) =
-        let le : h.number ≤ k.number = a.1 in
-        let ge : k.number ≤ h.number = b.1 in
-        let e : h.number ≡ k.number = omega (arith, le, ge) in (
-          a.0,
-          goal_is old h.number k.number p q w x e h.differs.old_one k.differs.old_one,
-          goal_is new h.number k.number p q v y e h.differs.new_one
-              k.differs.new_one,
-        )
-
-ref_goal : (p q : Place) (g h : Goal) → of_ref p g ≡ of_ref q h → g ≡ h
-ref_goal p q g h e = ap (λ (r : Ref). r.goal) e
-
-link_goal : (p q : Place) (g h : Goal) → of_link p g ≡ of_link q h → g ≡ h
-link_goal p q g h e = ap (λ (l : Link). l.source) e
-
 two : {A B D : Type 0} (f : A → B → D) (a a' : A) (b b' : B) → a ≡ a' → b ≡ b' → f a b ≡ f a' b'
 two f a a' b b' p q = ap (λ x. f x b) p ∙ ap (f a') q
-
-three : {A B C D : Type 0} (f : A → B → C → D) (a a' : A) (b b' : B) (c c' : C) → a ≡ a' → b ≡ b' → c ≡ c' → f a b c ≡ f a' b' c'
-three f a a' b b' c c' p q r = ap (λ x. f x b c) p ∙ (ap (λ x. f a' x c) q ∙ ap (λ x. f a' b' x) r)
 
 -- ---- the refusals of a project
 

@@ -18,13 +18,13 @@ use Rattle.binding_model.specs.Facts.{facts}
 use Rattle.binding_model.specs.Renaming.{Renaming, name_of}
 use Rattle.capture_check.specs.declared.fault.Fault.{Fault}
 use Rattle.capture_check.specs.Fault.{faults}
-use Rattle.capture_check.proofs.One.{faults_are_one}
+use Rattle.capture_check.proofs.One.{faults_are_one, one_before}
 use Rattle.project_reading.proofs.OneReading.{one_project}
 use Rattle.rename_files.specs.Answer.{Accepts, Rejects}
 use Rattle.rename_files.proofs.One.{one_check}
 use Rattle.rename_model.specs.Ladder.{GivesOne}
 use Rattle.rename_model.specs.Project.{counts_of}
-use Rattle.rename_model.proofs.One.{one_before, one_least}
+use Rattle.rename_model.proofs.One.{one_least}
 use Rattle.rename_respell.specs.Respelled.{mapped_words}
 use Rattle.rename_survey.specs.Survey.{binders_of}
 use Rattle.rename_verify.specs.declared.verdict.Verdict.{Verdict}

@@ -8,6 +8,7 @@ use Rattle.std.specs.Str.{bytes_eq}
 use Rattle.rotor_base.specs.Files.{FileSet, IsProject, names_of}
 use Rattle.rotor_base.specs.declared.place.Place.{Place}
 use Rattle.rotor_base.specs.declared.source.SourceFile.{SourceFile}
+use Rattle.rotor_base.proofs.Rising.{some_is}
 use Rattle.ml_lexer.specs.Lexed.{Lexeme}
 use Rattle.value_sites.specs.Places.{Site}
 use Rattle.value_sites.specs.Sound.{IsSound}
@@ -65,12 +66,9 @@ same_manifest None None h = refl
 same_manifest None (Some y) h = absurd (h (λ e. cc))
 same_manifest (Some x) None h = absurd (h (λ e. cc))
 same_manifest (Some x) (Some y) h = by (bytes_eq x y) refl where
-  some_is : Some x ≡ Some y → x ≡ y
-  some_is e = cc
-
   by : (b : Bool) → bytes_eq x y ≡ b → Some x ≡ Some y
   by true e = ap (λ (z : List ℕ). Some z) ((bytes_eq-Decides x y).0 e)
-  by false e = absurd (h (λ k. let yes : bytes_eq x y ≡ true = (bytes_eq-Decides x y).1 (some_is k) in let wrong : true ≡ false = sym yes ∙ e in cc))
+  by false e = absurd (h (λ k. let yes : bytes_eq x y ≡ true = (bytes_eq-Decides x y).1 (some_is x y k) in let wrong : true ≡ false = sym yes ∙ e in cc))
 
 same_names : (old new : FileSet) → IsProject old → IsProject new → (IsMet (IsSources old new) → ⊥) → names_of old.entries ≡ names_of new.entries
 same_names old new p q none = by (first_alone (names_of old.entries) (names_of new.entries))

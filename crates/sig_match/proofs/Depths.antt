@@ -2,6 +2,7 @@
 use Rattle.std.proofs.Common.{◌≡◌, ℕ, zero, suc, ◌+◌, ◌*◌, ◌<◌, ◌≤◌, Option, Some, None, ap, ◌∙◌, arith}
 use Rattle.std.specs.Borrow.{Bor}
 use Rattle.std.specs.Prelude.{option_copied}
+use Rattle.rotor_base.proofs.Rising.{some_is}
 use Rattle.shape_core.specs.Shape.{Name, Shape, Struct, Functor, Unitary, Opaque, Entries, none, a_val, a_mod, a_mty, a_dark, depth, depths}
 use Rattle.shape_core.specs.Shape.{entries_in, entries_from, param_of, result_of, find_mod, find_mty}
 use Rattle.shape_core.specs.Links.{or_empty}
@@ -41,19 +42,16 @@ mty_below s n X t rest h =
     let c = list_depth s in
     omega (arith, a, b, c)
 
-some_is : (a b : Shape) → Some a ≡ Some b → depth a ≡ depth b
-some_is a b h = ap depth (let e : a ≡ b = cc in e)
-
 param_under : (t s : Shape) → Some t ≡ param_of s → depth t + 1 ≤ depth s
 param_under t (Struct es) h = absurd cc
-param_under t (Functor p r) h = let e = some_is t p h in omega (arith, e)
+param_under t (Functor p r) h = let e = ap depth (some_is t p h) in omega (arith, e)
 param_under t (Unitary r) h = absurd cc
 param_under t Opaque h = absurd cc
 
 result_under : (t s : Shape) → Some t ≡ result_of s → depth t + 1 ≤ depth s
 result_under t (Struct es) h = absurd cc
-result_under t (Functor p r) h = let e = some_is t r h in omega (arith, e)
-result_under t (Unitary r) h = let e = some_is t r h in omega (arith, e)
+result_under t (Functor p r) h = let e = ap depth (some_is t r h) in omega (arith, e)
+result_under t (Unitary r) h = let e = ap depth (some_is t r h) in omega (arith, e)
 result_under t Opaque h = absurd cc
 
 pub param_below : (o : Option (Bor Shape)) (s : Shape) → option_copied o ≡ param_of s → depth_of_part o < 4 * depth s + 3

@@ -3,6 +3,7 @@ use Rattle.std.proofs.Common.{◌≡◌, ◌≢◌, ◌⊎◌, inl, inr, List, [
 use Rattle.rotor_base.specs.declared.place.Goal.{Goal}
 use Rattle.rotor_base.specs.declared.place.Goal.TheVariants.{Decl, Outside, Missing, Hidden, Blur}
 use Rattle.rotor_base.specs.declared.place.Place.{Place}
+use Rattle.rotor_base.proofs.Rising.{some_is}
 use Rattle.value_sites.specs.Each.{Each}
 use Rattle.value_sites.specs.Places.{Site}
 use Rattle.value_sites.specs.Sound.{IsSound}
@@ -27,9 +28,6 @@ use Rattle.rename_verify.specs.Laws.{IsMap}
 use Rattle.verified_respellings.proofs.Firsts.{at_firsts, firsts, in_filtered, in_firsts, one_first}
 use Rattle.verified_respellings.proofs.OwnFiles.{AreAlikeIn}
 
-some_same : (x y : Name) → Some x ≡ Some y → x ≡ y
-some_same x y e = cc
-
 each_itself : (L : List (Place × Site)) → Each (λ e. e.1.name ≡ e.1.name) L
 each_itself [] = tt
 each_itself (e ∷ L) = (refl, each_itself L)
@@ -50,7 +48,7 @@ module _ (us : List UnitTree) (r : Renaming) (sound : IsSound us) (valid : IsVal
   w = words_of others (facts us).refs
 
   pub is_map : IsMap plain
-  is_map d y z c k = some_same y z (sym (one_first r d y c) ∙ one_first r d z k)
+  is_map d y z c k = some_is y z (sym (one_first r d y c) ∙ one_first r d z k)
 
   -- ---- the map without hidden entries is valid
 
