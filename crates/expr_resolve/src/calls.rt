@@ -15,7 +15,7 @@ ghost use Rattle.binding_model.specs.Walk.{expr_steps};
 
 use crate::expressions::expression;
 use binding_model::Sums;
-use found_facts::{facts_in, from_nothing, from_sums, looks_in, recorder_of};
+use found_facts::{facts_in, start_from_nothing, start_from_sums, looks_in, recorder_of};
 use ml_trees::Expr;
 use rotor_base::{Facts, Looks, MAX_WORK, Memory, Place, Watch};
 use shape_core::{FactError, Scope};
@@ -44,7 +44,7 @@ pub fn expr_refs(
     ensures heavy { (at : Place) → result ≡ Err (Heavy at) → heavy_from sums (expr_steps file (entries_of scope.old) (view e.now)) ≡ Some at }
     ensures scope { scope.new ≡ scope.old }
 {
-    let mut found = from_sums(alloc, sums);
+    let mut found = start_from_sums(alloc, sums);
     expression(alloc, &mut found, file, e, scope)?;
     let sums = found.sums;
     let facts = facts_in(found)?;
@@ -68,7 +68,7 @@ pub fn expr_looks(
     ensures scope { scope.new ≡ scope.old }
 {
     let recorder = recorder_of(alloc, watch)?;
-    let mut found = from_nothing(alloc, Some(recorder));
+    let mut found = start_from_nothing(alloc, Some(recorder));
     match expression(alloc, &mut found, file, e, scope) {
         Ok(()) => {}
         Err(_) => return Err(Memory),

@@ -11,7 +11,7 @@ use rotor_base::{Facts, Looks, Memory, Row};
 use std::alloc::Global;
 
 /// The state of a resolver at its start, with a recorder or without.
-pub fn from_nothing(alloc: Global, recorder: Option<Recorder>) -> Found
+pub fn start_from_nothing(alloc: Global, recorder: Option<Recorder>) -> Found
     ensures { result ≡ nothing_found recorder }
 {
     Found {
@@ -28,7 +28,7 @@ pub fn from_nothing(alloc: Global, recorder: Option<Recorder>) -> Found
 }
 
 /// The state of a resolver that begins with some sums.
-pub fn from_sums(alloc: Global, sums: Sums) -> Found
+pub fn start_from_sums(alloc: Global, sums: Sums) -> Found
     ensures { result ≡ found_from sums }
 {
     Found {

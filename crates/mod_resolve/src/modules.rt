@@ -17,7 +17,7 @@ use expr_resolve::{expression, let_part, let_parts};
 use ml_trees::{FunctorParam, Item, ModArgument, ModExpr, ModType, SigItem};
 use module_entries::{
     Added, add_nothing, add_opened, add_shown, append, declare_value, functor_from, functor_of,
-    module_site, named_module, no_param, param_entries, token_of, type_at, type_entry, type_start,
+    module_site, named_module, end_empty_param, param_entries, token_of, type_at, type_entry, type_start,
 };
 use name_resolve::{go_on_with, group, match_target, resolve_opening, end_weighed_site};
 use pattern_resolve::{apply, apply_to_nothing, let_values, module_entry, shape_at, share_result};
@@ -191,7 +191,7 @@ fn functor_param(
             Ok(Some(shape))
         }
         FunctorParam::NoParam { open } => {
-            no_param(alloc, found, file, *open)?;
+            end_empty_param(alloc, found, file, *open)?;
             Ok(None)
         }
     }

@@ -13,7 +13,7 @@ ghost use Rattle.binding_model.specs.Scopes.{after_units};
 ghost use Rattle.binding_model.specs.Sums.{heavy};
 
 use crate::project::units;
-use found_facts::{facts_in, from_nothing, looks_in, recorder_of};
+use found_facts::{facts_in, start_from_nothing, looks_in, recorder_of};
 use ml_trees::Project;
 use rotor_base::{Facts, Looks, Memory, Place, Row, Watch};
 use shape_core::{FactError, Scope};
@@ -36,7 +36,7 @@ pub fn facts(alloc: Global, project: &Project) -> Result<Resolved, FactError>
     ensures light { IsOk result → heavy (view_project project.now) ≡ None }
     ensures heavy { (at : Place) → result ≡ Err (Heavy at) → heavy (view_project project.now) ≡ Some at }
 {
-    let mut found = from_nothing(alloc, None);
+    let mut found = start_from_nothing(alloc, None);
     let mut top = Scope::new(alloc)?;
     units(alloc, &mut found, &project.units, &mut top)?;
     let facts = facts_in(found)?;
@@ -61,7 +61,7 @@ pub fn looks(alloc: Global, project: &Project, watch: &Watch) -> Result<Looks, M
     ensures { IfOk result (λ looks. looks ≡ looks_of watch.now (view_project project.now)) }
 {
     let recorder = recorder_of(alloc, watch)?;
-    let mut found = from_nothing(alloc, Some(recorder));
+    let mut found = start_from_nothing(alloc, Some(recorder));
     let mut top = Scope::new(alloc)?;
     match units(alloc, &mut found, &project.units, &mut top) {
         Ok(()) => looks_in(found),

@@ -67,7 +67,7 @@ pub fn param_entries(
 
 /// Ends the site of a parameter `()`, whose `(` is `paren`: its shape is Opaque. The errors are `Heavy`, at this site,
 /// and `Memory`.
-pub fn no_param(alloc: Global, found: &mut Found, file: u32, paren: u32) -> Result<(), FactError>
+pub fn end_empty_param(alloc: Global, found: &mut Found, file: u32, paren: u32) -> Result<(), FactError>
     ensures taken { HasTaken result found.old found.new (WeighedSite (here file (suc paren)) Opaque) }
     ensures heavy { HasStopped result found.old (WeighedSite (here file (suc paren)) Opaque) }
 {

@@ -9,5 +9,5 @@ pub use entries::{
     type_entry,
 };
 pub use functors::{
-    functor_from, functor_of, module_site, no_param, param_entries, type_at, type_start,
+    functor_from, functor_of, module_site, end_empty_param, param_entries, type_at, type_start,
 };

@@ -10,7 +10,7 @@ use std::collections::BTreeSet;
 
 /// The least place at which an outside module hides what a member is: a reference with a member behind; a member that
 /// is the item of a link with such a source, or is behind one.
-pub fn least_blurred(refs: &[Ref], links: &[Link], members: &BTreeSet<Place>) -> Option<Place>
+pub fn find_least_blurred(refs: &[Ref], links: &[Link], members: &BTreeSet<Place>) -> Option<Place>
     ensures { IsLeastOrNone (λ p. BlursRef members.now refs.now p ⊎ BlursLink members.now links.now p) result }
 {
     let mut least = None;

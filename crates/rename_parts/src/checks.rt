@@ -57,7 +57,7 @@ pub fn has_operator(marks: &[Hit]) -> bool
 }
 
 /// The least of them whose word is a label or a field too.
-pub fn least_pun(marks: &[Hit]) -> Option<Place>
+pub fn find_least_pun(marks: &[Hit]) -> Option<Place>
     ensures { IsLeastOrNone (λ p. (h : Hit) × Contains marks.now h × (h.pun ≡ true) × (h.place ≡ p)) result }
 {
     let mut least = None;

@@ -14,8 +14,8 @@ ghost use Rattle.rename_parts.specs.Leasts.{IsLeastOrNone};
 ghost use Rattle.shape_core.specs.Places.{HasPlaces};
 ghost use Rattle.rename_parts.specs.Findings.{IsFree, IsRefused, refusal_of};
 
-use crate::blurred::least_blurred;
-use crate::checks::{Hit, has_operator, hit_marks, least_pun};
+use crate::blurred::find_least_blurred;
+use crate::checks::{Hit, has_operator, hit_marks, find_least_pun};
 use crate::members::hit_places;
 use rotor_base::{Facts, Place, Refusal, Watch, is_name};
 use std::alloc::Global;
@@ -82,8 +82,8 @@ fn find_all(facts: &Facts, watch: &Watch, members: &BTreeSet<Place>, marks: &[Hi
         valid: is_name(watch.new.as_bytes()),
         same: watch.new.as_bytes() == watch.old.as_bytes(),
         outside: watch.foot.outside,
-        pun: least_pun(marks),
-        blurred: least_blurred(facts.refs.as_slice(), facts.links.as_slice(), members),
+        pun: find_least_pun(marks),
+        blurred: find_least_blurred(facts.refs.as_slice(), facts.links.as_slice(), members),
     }
 }
 

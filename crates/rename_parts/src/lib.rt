@@ -15,12 +15,12 @@ mod sources;
 mod targets;
 
 pub use binders::{binder_at, placed_binder};
-pub use blurred::least_blurred;
+pub use blurred::find_least_blurred;
 pub use bytes::{find_first_over, new_bytes};
-pub use checks::{Hit, has_operator, hit_marks, least_pun};
+pub use checks::{Hit, has_operator, hit_marks, find_least_pun};
 pub use faults::refusal_of_fault;
 pub use findings::{Findings, Hits, judge_foot};
-pub use links::least_unmatched;
+pub use links::find_least_unmatched;
 pub use members::{count_refs, files_of, hit_places};
 pub use sources::{changed_files, new_source, remake};
 pub use targets::{find_dotted, number_of, token_at};

@@ -7,7 +7,7 @@ use crate::leasts::take_earlier;
 use rotor_base::{Goal, Link, Place};
 
 /// The least item of a link that lacks its source.
-pub fn least_unmatched(links: &[Link]) -> Option<Place>
+pub fn find_least_unmatched(links: &[Link]) -> Option<Place>
     ensures { result ≡ least (unmatched_items links.now) }
 {
     let mut least = None;

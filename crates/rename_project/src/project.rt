@@ -17,7 +17,7 @@ ghost use Rattle.rename_project.specs.Steps.{IsRefusedFor, IsFreeOf};
 use capture_check::first_repeat;
 use ml_trees::Project;
 use mod_shape::{Resolved, facts, groups};
-use rename_parts::least_unmatched;
+use rename_parts::find_least_unmatched;
 use rotor_base::{Link, Refusal};
 use shape_core::FactError;
 use std::alloc::Global;
@@ -107,7 +107,7 @@ fn check_links(links: &[Link]) -> Result<(), Refusal>
     ensures passed { OnOk result (least (unmatched_items links.now) ≡ None) }
     ensures refused { IfErr result (λ why. (item : Place) × (least (unmatched_items links.now) ≡ Some item) × (why ≡ refusal.Unmatched item)) }
 {
-    match least_unmatched(links) {
+    match find_least_unmatched(links) {
         None => Ok(()),
         Some(item) => Err(Refusal::Unmatched { item }),
     }

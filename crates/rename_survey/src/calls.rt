@@ -14,7 +14,7 @@ use crate::binders::list_binders;
 use capture_check::first_repeat;
 use ml_trees::Project;
 use project_reading::read_project;
-use rename_parts::least_unmatched;
+use rename_parts::find_least_unmatched;
 use rename_project::resolve_facts;
 use rotor_base::{Facts, Files, Memory, Refusal};
 use std::alloc::Global;
@@ -53,14 +53,14 @@ fn look_over(
     ensures bad { IfOk result (λ found. IsFirstBad (view_project project.now) found.1) }
 {
     let placed = PlacedProject::new(alloc, project)?;
-    let bad = first_bad(alloc, &placed, facts)?;
+    let bad = find_first_bad(alloc, &placed, facts)?;
     let binders = list_binders(alloc, &placed)?;
     Ok((binders, bad))
 }
 
 /// The first of `Duplicate` and `Unmatched` that holds of a project with these places and facts, or none. `Memory` is the
 /// only error.
-fn first_bad(
+fn find_first_bad(
     alloc: Global,
     placed: &PlacedProject<'_>,
     facts: &Facts,
@@ -73,7 +73,7 @@ fn first_bad(
             again: repeat.again,
         }));
     }
-    match least_unmatched(facts.links.as_slice()) {
+    match find_least_unmatched(facts.links.as_slice()) {
         None => Ok(None),
         Some(item) => Ok(Some(Refusal::Unmatched { item })),
     }

@@ -43,7 +43,7 @@ pub fn edits_of(
     ensures refused { IfErr result (IsRefused files.now.entries done.now.changed) }
 {
     let sources = files.entries();
-    if let Some(file) = first_no_text(sources, done.changed.as_slice()) {
+    if let Some(file) = find_no_text(sources, done.changed.as_slice()) {
         return Err(EditsError::NotText { file });
     }
     let set = changed_places(alloc, facts, done)?;
@@ -61,7 +61,7 @@ fn changed_places(alloc: Global, facts: &Facts, done: &Renamed) -> Result<BTreeS
 }
 
 /// The first source of some numbers that is no text in UTF-8.
-fn first_no_text(sources: &[SourceFile], numbers: &[u32]) -> Option<u32>
+fn find_no_text(sources: &[SourceFile], numbers: &[u32]) -> Option<u32>
     requires { All (λ number. number < length sources.now) numbers.now }
     ensures found { IfSome result (IsNoText sources.now numbers.now) }
     ensures none { IfNone result (All (IsText sources.now) numbers.now) }

@@ -2,7 +2,7 @@
 
 use crate::pieces::{Object, goal, line, list, place};
 use binding_model::Sums;
-use found_facts::from_nothing;
+use found_facts::start_from_nothing;
 use ml_trees::Project;
 use mod_shape::units;
 use rename_survey::{Survey, survey};
@@ -29,7 +29,7 @@ pub fn facts_object(alloc: Global, files: &Files) -> Result<String, Refusal> {
 
 /// The running sums after all units.
 fn sums_of(alloc: Global, project: &Project) -> Result<Sums, Refusal> {
-    let mut found = from_nothing(alloc, None);
+    let mut found = start_from_nothing(alloc, None);
     let mut top = Scope::new(alloc)?;
     match units(alloc, &mut found, &project.units, &mut top) {
         Ok(()) => Ok(found.sums),

@@ -4,8 +4,8 @@ use Rattle.renaming_edits.specs.Edits.{AreListed}
 use Rattle.renaming_edits.proofs.Listed.{changed_within, are_edits}
 use Rattle.renaming_edits.proofs.renaming.edits_of.Goals as goal
 
-pub first_no_text-requires : goal.first_no_text-requires
-first_no_text-requires c =
+pub find_no_text-requires : goal.find_no_text-requires
+find_no_text-requires c =
     let within = changed_within c.args.files.now c.args.facts.now c.args.done.now c.requires in
     subst (All (λ f. f < length c.entries-sources.result.now)) (sym c.as_slice.ensures)
     (subst (λ (l : List SourceFile). All (λ f. f < length l) c.args.done.now.changed) (sym c.entries-sources.ensures.entries) within)

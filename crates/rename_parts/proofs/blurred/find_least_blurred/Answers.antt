@@ -2,7 +2,7 @@ use Rattle.std.proofs.Common.{◌≡◌, ap, ◌∙◌, Option}
 use Rattle.rotor_base.specs.declared.place.Place.{Place}
 use Rattle.rename_parts.specs.Blurs.{earlier_of}
 use Rattle.rename_parts.proofs.Blurring.{ref_step, link_step, links_begin, links_end}
-use Rattle.rename_parts.proofs.blurred.least_blurred.Goals as goal
+use Rattle.rename_parts.proofs.blurred.find_least_blurred.Goals as goal
 
 -- two steps of the fold
 folded : (best a b x y new half : Option Place) → half ≡ earlier_of best x → x ≡ a → y ≡ b → new ≡ earlier_of half y

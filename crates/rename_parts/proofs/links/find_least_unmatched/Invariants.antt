@@ -1,6 +1,6 @@
 use Rattle.std.proofs.Common.{◌≡◌, ◌≤◌, drop, length}
 use Rattle.binding_model.specs.Facts.{least, unmatched_items}
-use Rattle.rename_parts.proofs.links.least_unmatched.Given as goal
+use Rattle.rename_parts.proofs.links.find_least_unmatched.Given as goal
 
 -- the least of the links from here on
 abbrev pub invariant-loop-left : goal.invariant-loop-left

@@ -4,7 +4,7 @@ use Rattle.std.specs.Str.{is_utf8}
 use Rattle.std.proofs.lemmas.List.{take_all}
 use Rattle.renaming_edits.specs.Edits.{IsText}
 use Rattle.renaming_edits.proofs.Texts.{no_text, text_here, all_more}
-use Rattle.renaming_edits.proofs.renaming.first_no_text.Goals as goal
+use Rattle.renaming_edits.proofs.renaming.find_no_text.Goals as goal
 
 pub returns-then-not-is_text-clause-found : goal.returns-then-not-is_text-clause-found
 returns-then-not-is_text-clause-found c =

@@ -1,6 +1,6 @@
 use Rattle.rename_parts.specs.Leasts.{IsLeastOrNone}
 use Rattle.rename_parts.proofs.Hitting.{PunBelow}
-use Rattle.rename_parts.proofs.checks.least_pun.Given as goal
+use Rattle.rename_parts.proofs.checks.find_least_pun.Given as goal
 
 -- the least among those so far
 abbrev pub invariant-loop-mark : goal.invariant-loop-mark

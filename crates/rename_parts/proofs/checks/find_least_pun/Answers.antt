@@ -1,5 +1,5 @@
 use Rattle.rename_parts.proofs.Hitting.{pun_step, pun_all}
-use Rattle.rename_parts.proofs.checks.least_pun.Goals as goal
+use Rattle.rename_parts.proofs.checks.find_least_pun.Goals as goal
 
 pub loop-mark-preserved : goal.loop-mark-preserved
 loop-mark-preserved c = pun_step c.loop-mark.mark-index c.args.marks.now _ c.loop-mark.least c.take_pun-least.result c.loop-mark-test.true

@@ -1,6 +1,6 @@
 use Rattle.rename_parts.specs.Leasts.{IsLeastOrNone}
 use Rattle.rename_parts.proofs.Blurring.{RefBelow, Below}
-use Rattle.rename_parts.proofs.blurred.least_blurred.Given as goal
+use Rattle.rename_parts.proofs.blurred.find_least_blurred.Given as goal
 
 -- the least among the references so far
 abbrev pub invariant-loop-reference : goal.invariant-loop-reference
