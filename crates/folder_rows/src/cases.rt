@@ -3,9 +3,9 @@
 //! and the exit code.
 
 use crate::folder::folder_of;
-use crate::pieces::decoded_text;
 use explain_main::explain_words;
 use rotor_base::Memory;
+use row_pieces::decode_text;
 use std::alloc::Global;
 use tree_io::MemSink;
 
@@ -13,7 +13,7 @@ use tree_io::MemSink;
 const ROOM: u32 = 100_000;
 
 /// What a row prints.
-pub fn answer(alloc: Global, row: &[&str]) -> Result<String, Memory> {
+pub fn answer_row(alloc: Global, row: &[&str]) -> Result<String, Memory> {
     match row {
         [name, words, folder @ ..] => case_answer(alloc, name, words, folder),
         _ => Ok(String::from_str(alloc, "no row\n")?),
@@ -36,7 +36,7 @@ fn case_answer(alloc: Global, name: &str, words: &str, folder: &[&str]) -> Resul
 fn words_of(alloc: Global, words: &str) -> Result<Vec<String>, Memory> {
     let mut list = Vec::new(alloc);
     for word in words.split(' ') {
-        list.push(decoded_text(alloc, word)?)?;
+        list.push(decode_text(alloc, word)?)?;
     }
     Ok(list)
 }

@@ -1,8 +1,8 @@
 //! The folders of a row. The names and the texts of their files are percent-encoded.
 
-use crate::pieces::{decoded, decoded_text};
 use folders::{MemFolder, MemFolders};
-use rotor_base::{Memory, Row, SourceFile, Text};
+use rotor_base::{Memory, Text};
+use row_pieces::{decode_source, decode_text};
 use std::alloc::Global;
 use tree_io::{SoundTree, have_distinct_names};
 
@@ -11,7 +11,7 @@ pub fn folder_of(alloc: Global, pieces: &[&str]) -> Result<Option<SoundTree>, Me
     let mut files = Vec::new(alloc);
     for pair in pieces.chunks_exact(2) {
         if let [name, text] = pair {
-            files.push(file_of(alloc, name, text)?)?;
+            files.push(decode_source(alloc, name, text)?)?;
         }
     }
     if have_distinct_names(&files) {
@@ -39,20 +39,12 @@ fn folder_at(alloc: Global, piece: &str) -> Result<Option<MemFolder>, Memory> {
     let mut files = Vec::new(alloc);
     for file in pieces.split(',') {
         if let Some((name, text)) = file.split_once('=') {
-            files.push(file_of(alloc, name, text)?)?;
+            files.push(decode_source(alloc, name, text)?)?;
         }
     }
     if !have_distinct_names(&files) {
         return Ok(None);
     }
-    let path = Text::from_string(decoded_text(alloc, path)?);
+    let path = Text::from_string(decode_text(alloc, path)?);
     Ok(Some(MemFolder { path, files }))
-}
-
-/// A file by its name and its text.
-fn file_of(alloc: Global, name: &str, text: &str) -> Result<SourceFile, Memory> {
-    Ok(SourceFile {
-        name: Text::from_string(decoded_text(alloc, name)?),
-        bytes: Row::from_vec(decoded(alloc, text)?),
-    })
 }

@@ -4,14 +4,14 @@
 //! the name, then the exit code, and then the bytes of the output.
 
 use crate::folder::folders_of;
-use crate::pieces::decoded;
 use document_answers::DocumentAnswers;
 use lsp_main::serve_words;
 use rotor_base::Memory;
+use row_pieces::decode_bytes;
 use std::alloc::Global;
 
 /// What a row prints.
-pub fn answer(alloc: Global, row: &[&str]) -> Result<String, Memory> {
+pub fn answer_row(alloc: Global, row: &[&str]) -> Result<String, Memory> {
     match row {
         [name, bytes, folders @ ..] => session_answer(alloc, name, bytes, folders),
         _ => Ok(String::from_str(alloc, "no row\n")?),
@@ -29,7 +29,7 @@ fn session_answer(
         return Ok(String::from_str(alloc, "no folders\n")?);
     };
     let mut answers = DocumentAnswers::new(folders);
-    let bytes = decoded(alloc, bytes)?;
+    let bytes = decode_bytes(alloc, bytes)?;
     let mut input = bytes.as_slice();
     let mut output = Vec::new(alloc);
     let code = serve_words(alloc, &[], &mut answers, &mut input, &mut output).code();

@@ -8,13 +8,13 @@ mod places;
 mod project;
 mod renaming;
 
-use crate::pieces::number;
 use rotor_base::{Memory, Refusal};
+use row_pieces::read_number;
 use std::alloc::Global;
 use text_places::Counting;
 
 /// What a row prints.
-pub fn answer(alloc: Global, row: &[&str]) -> Result<String, Memory> {
+pub fn answer_row(alloc: Global, row: &[&str]) -> Result<String, Memory> {
     let mut text = value_answer(alloc, row)?;
     text.push_str("\n")?;
     Ok(text)
@@ -22,17 +22,17 @@ pub fn answer(alloc: Global, row: &[&str]) -> Result<String, Memory> {
 
 fn value_answer(alloc: Global, row: &[&str]) -> Result<String, Memory> {
     match row {
-        ["at", name, offset, folder @ ..] => at::answer(alloc, name, number(offset), folder),
+        ["at", name, offset, folder @ ..] => at::answer_row(alloc, name, read_number(offset), folder),
         ["references", counting, name, offset, folder @ ..] => {
-            places::answer(alloc, counting_of(counting), name, number(offset), folder)
+            places::answer_row(alloc, counting_of(counting), name, read_number(offset), folder)
         }
         ["rename", counting, name, offset, new, folder @ ..] => {
             let new = new.as_bytes();
-            renaming::answer(
+            renaming::answer_row(
                 alloc,
                 counting_of(counting),
                 name,
-                number(offset),
+                read_number(offset),
                 new,
                 folder,
             )

@@ -1,5 +1,6 @@
 use rotor_app::rotor;
 use rotor_base::{Memory, Row as Bytes, SourceFile, Text};
+use row_pieces::read_number;
 use std::alloc::{AllocError, Global};
 use tree_io::{MemSink, MemTree, SoundTree, Tree, have_distinct_names};
 
@@ -75,14 +76,14 @@ impl Row {
                 self.files.push(file)?;
             }
             "spaces" => {
-                for _ in 0..number(value) {
+                for _ in 0..read_number(value) {
                     self.add(" ")?;
                 }
             }
             "word" => self.words.push(String::from_str(alloc, value)?)?,
-            "call" => self.calls.push(number(value))?,
-            "put" => self.puts.push(number(value))?,
-            "room" => self.room = number(value),
+            "call" => self.calls.push(read_number(value))?,
+            "put" => self.puts.push(read_number(value))?,
+            "room" => self.room = read_number(value),
             "again" => self.runs = self.runs.saturating_add(1),
             "sound" => self.is_sound = true,
             _ => {}
@@ -178,10 +179,6 @@ fn push_file(ended: &mut String, name: &str, bytes: &[u8]) -> Result<(), AllocEr
     ended.push_str("\n>")?;
     ended.push_str(text_of(bytes))?;
     ended.push_str("\n")
-}
-
-fn number(value: &str) -> u32 {
-    value.parse::<u32>().unwrap_or(0)
 }
 
 fn text_of(bytes: &[u8]) -> &str {

@@ -4,12 +4,12 @@
 //! `+NAME=TEXT` for a document that is opened, `*NAME=TEXT` for a whole change, `?NAME` for a part of one, and `-NAME`
 //! for one that is closed.
 
-use crate::pieces::{decoded, decoded_text, encoded};
 use document_uris::{read_uri, write_uri};
 use open_documents::{Document, Documents, OpenText, OpenTree, Workspace};
 use project_load::load;
 use requests::{message_of, read_json};
-use rotor_base::{Memory, Row, SourceFile, Text};
+use rotor_base::{Memory, SourceFile};
+use row_pieces::{decode_bytes, decode_source, decode_text, encode_bytes};
 use std::alloc::Global;
 use tree_io::{SoundTree, have_distinct_names};
 
@@ -17,10 +17,10 @@ use tree_io::{SoundTree, have_distinct_names};
 const FOLDER: &str = "/data";
 
 /// What a row prints.
-pub fn answer(alloc: Global, row: &[&str]) -> Result<String, Memory> {
+pub fn answer_row(alloc: Global, row: &[&str]) -> Result<String, Memory> {
     match row {
-        ["uri", uri] => uri_answer(alloc, &decoded(alloc, uri)?),
-        ["message", bytes] => message_answer(alloc, &decoded(alloc, bytes)?),
+        ["uri", uri] => uri_answer(alloc, &decode_bytes(alloc, uri)?),
+        ["message", bytes] => message_answer(alloc, &decode_bytes(alloc, bytes)?),
         ["folder", files, steps] => folder_answer(alloc, files, steps),
         _ => Ok(String::from_str(alloc, "no row\n")?),
     }
@@ -31,8 +31,8 @@ fn uri_answer(alloc: Global, bytes: &[u8]) -> Result<String, Memory> {
     match read_uri(alloc, uri.as_str())? {
         None => Ok(String::from_str(alloc, "no file\n")?),
         Some(place) => {
-            let folder = encoded(alloc, place.folder.as_bytes())?;
-            let name = encoded(alloc, place.name.as_bytes())?;
+            let folder = encode_bytes(alloc, place.folder.as_bytes())?;
+            let name = encode_bytes(alloc, place.name.as_bytes())?;
             let again = write_uri(alloc, place.folder.as_str(), place.name.as_str())?;
             Ok(format!(in alloc; "{folder} {name} {again}\n")?)
         }
@@ -71,10 +71,7 @@ fn files_of(alloc: Global, pieces: &str) -> Result<Vec<SourceFile>, Memory> {
     let mut files = Vec::new(alloc);
     for piece in pieces.split(',') {
         if let Some((name, text)) = piece.split_once('=') {
-            files.push(SourceFile {
-                name: Text::from_string(decoded_text(alloc, name)?),
-                bytes: Row::from_vec(decoded(alloc, text)?),
-            })?;
+            files.push(decode_source(alloc, name, text)?)?;
         }
     }
     Ok(files)
@@ -84,21 +81,21 @@ fn files_of(alloc: Global, pieces: &str) -> Result<Vec<SourceFile>, Memory> {
 fn take_step(alloc: Global, step: &str, workspace: &mut Workspace) -> Result<(), Memory> {
     let path = String::from_str(alloc, FOLDER)?;
     if let Some(name) = step.strip_prefix('-') {
-        workspace.close(FOLDER, decoded_text(alloc, name)?.as_str());
+        workspace.close(FOLDER, decode_text(alloc, name)?.as_str());
     } else if let Some(name) = step.strip_prefix('?') {
         let uri = String::from_str(alloc, name)?;
-        let name = decoded_text(alloc, name)?;
+        let name = decode_text(alloc, name)?;
         workspace.change(alloc, path, name, uri, Some(3), Some(OpenText::Unknown))?;
     } else if let Some((name, text)) = split_step(step, '*') {
         let uri = String::from_str(alloc, name)?;
-        let text = OpenText::Known(decoded_text(alloc, text)?);
-        let name = decoded_text(alloc, name)?;
+        let text = OpenText::Known(decode_text(alloc, text)?);
+        let name = decode_text(alloc, name)?;
         workspace.change(alloc, path, name, uri, Some(2), Some(text))?;
     } else if let Some((name, text)) = split_step(step, '+') {
         let uri = String::from_str(alloc, name)?;
-        let text = OpenText::Known(decoded_text(alloc, text)?);
+        let text = OpenText::Known(decode_text(alloc, text)?);
         let version = Some(1);
-        let name = decoded_text(alloc, name)?;
+        let name = decode_text(alloc, name)?;
         workspace.open(alloc, path, name, Document { uri, version, text })?;
     }
     Ok(())
@@ -130,14 +127,14 @@ fn files_answer(
     let mut answer = String::new(alloc);
     for file in files {
         let name = file.name.as_str();
-        let text = encoded(alloc, file.bytes.as_slice())?;
+        let text = encode_bytes(alloc, file.bytes.as_slice())?;
         match documents.get(name).and_then(|document| document.version) {
             Some(version) => answer.push_str(&format!(in alloc; "{name}={text} ({version}) ")?)?,
             None => answer.push_str(&format!(in alloc; "{name}={text} ")?)?,
         }
     }
     if let Some(bytes) = manifest {
-        let text = encoded(alloc, bytes)?;
+        let text = encode_bytes(alloc, bytes)?;
         answer.push_str(&format!(in alloc; "with {text}")?)?;
     }
     answer.push_str("\n")?;

@@ -3,28 +3,29 @@
 //! message whose header says one number of bytes and whose body has another. `write|BYTES` writes a message twice and
 //! reads both.
 
-use crate::pieces::{MOST, decoded, number};
+use crate::texts::MOST;
 use lsp_frames::{read_message, write_message};
 use rotor_base::Memory;
+use row_pieces::{decode_bytes, read_number};
 use std::alloc::Global;
 
 /// The most messages of a row.
 const MOST_MESSAGES: usize = 10;
 
 /// What a row prints.
-pub fn answer(alloc: Global, row: &[&str]) -> Result<String, Memory> {
+pub fn answer_row(alloc: Global, row: &[&str]) -> Result<String, Memory> {
     match row {
-        ["read", bytes] => read_answer(alloc, &decoded(alloc, bytes)?),
+        ["read", bytes] => read_answer(alloc, &decode_bytes(alloc, bytes)?),
         ["header", size] => read_answer(alloc, &with_header(alloc, size_of(size))?),
         ["body", count, size] => read_answer(alloc, &with_body(alloc, count, size_of(size))?),
-        ["write", bytes] => read_answer(alloc, &written_twice(alloc, &decoded(alloc, bytes)?)?),
+        ["write", bytes] => read_answer(alloc, &written_twice(alloc, &decode_bytes(alloc, bytes)?)?),
         _ => Ok(String::from_str(alloc, "no row\n")?),
     }
 }
 
 /// The number of bytes that a word writes.
 fn size_of(word: &str) -> usize {
-    (number(word) as usize).min(MOST)
+    (read_number(word) as usize).min(MOST)
 }
 
 /// A message whose header has so many bytes.

@@ -5,43 +5,27 @@
 
 mod documents;
 mod frames;
-mod pieces;
 mod reports;
 mod sentences;
 mod texts;
 
 use rotor_base::Memory;
-use std::alloc::{AllocError, Global};
+use row_pieces::print_answers;
+use std::alloc::Global;
 use std::io;
 
 fn main(rt: HostRuntime) -> io::Result<()> {
-    let alloc = rt.alloc();
-    for line in rt.lines(alloc) {
-        let line = line?;
-        print!(rt; "{}", printed(alloc, line.as_str())?)?;
-    }
-    Ok(())
+    print_answers(&rt, answer_row)
 }
 
 /// What a row prints.
-fn printed(alloc: Global, line: &str) -> Result<String, AllocError> {
-    match answer(alloc, line) {
-        Ok(answer) => Ok(answer),
-        Err(_) => String::from_str(alloc, "no memory\n"),
-    }
-}
-
-fn answer(alloc: Global, line: &str) -> Result<String, Memory> {
-    let mut pieces = Vec::new(alloc);
-    for piece in line.split('|') {
-        pieces.push(piece)?;
-    }
-    match pieces.as_slice() {
-        ["text", row @ ..] => texts::answer(alloc, row),
-        ["sentence", row @ ..] => sentences::answer(alloc, row),
-        ["report", row @ ..] => reports::answer(alloc, row),
-        ["frame", row @ ..] => frames::answer(alloc, row),
-        ["document", row @ ..] => documents::answer(alloc, row),
+fn answer_row(alloc: Global, pieces: &[&str]) -> Result<String, Memory> {
+    match pieces {
+        ["text", row @ ..] => texts::answer_row(alloc, row),
+        ["sentence", row @ ..] => sentences::answer_row(alloc, row),
+        ["report", row @ ..] => reports::answer_row(alloc, row),
+        ["frame", row @ ..] => frames::answer_row(alloc, row),
+        ["document", row @ ..] => documents::answer_row(alloc, row),
         _ => Ok(String::from_str(alloc, "no row\n")?),
     }
 }

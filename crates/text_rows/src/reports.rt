@@ -9,13 +9,13 @@ mod refusal;
 
 use asked::{target_answer, words_answer};
 use line::{batch_text, recover_text, verify_text};
-use outcome::outcome;
+use outcome::read_outcome;
 use report::{json, text};
 use rotor_base::Memory;
 use std::alloc::Global;
 
 /// What a row prints.
-pub fn answer(alloc: Global, row: &[&str]) -> Result<String, Memory> {
+pub fn answer_row(alloc: Global, row: &[&str]) -> Result<String, Memory> {
     match row {
         ["words", words @ ..] => words_answer(alloc, words),
         ["target", word] => target_answer(alloc, word),
@@ -46,7 +46,7 @@ fn outcome_text(
     names: &[String],
     pieces: &[&str],
 ) -> Result<Option<Vec<u8>>, Memory> {
-    let Some(outcome) = outcome(alloc, pieces)? else {
+    let Some(outcome) = read_outcome(alloc, pieces)? else {
         return Ok(None);
     };
     let mut bytes = text(alloc, names, &outcome)?;

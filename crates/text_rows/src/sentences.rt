@@ -8,21 +8,22 @@ mod targets;
 
 ghost use Rattle.std.specs.Prelude.{◌≤◌, length};
 
-use crate::pieces::MOST;
+use crate::texts::MOST;
 use messages::{Message, json_text, push_message};
 use refusal_words::cut_source;
 use rotor_base::{Memory, SourceFile};
 use row::Row;
+use row_pieces::decode_source;
 use sources::{folder_message, source_message};
 use std::alloc::Global;
 use targets::{command_message, renaming_message, target_message};
 
 /// What a row prints.
-pub fn answer(alloc: Global, row: &[&str]) -> Result<String, Memory> {
+pub fn answer_row(alloc: Global, row: &[&str]) -> Result<String, Memory> {
     let [name, file, text, places, words] = row else {
         return Ok(String::from_str(alloc, "no row\n")?);
     };
-    let source = row::source(alloc, file, text)?;
+    let source = decode_source(alloc, file, text)?;
     if source.bytes.as_slice().len() > MOST {
         return Ok(String::from_str(alloc, "too long\n")?);
     }

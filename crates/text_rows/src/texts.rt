@@ -4,40 +4,43 @@
 //! a stretch of a text, with a note at its first byte, and `bare|SENTENCE|HELP` one about no place, each as lines and
 //! as JSON. `word|WORD` prints a word as a message shows it.
 
-use crate::pieces::{MOST, decoded, number};
 use crate::sentences::message_answer;
 use messages::{Kind, Message, Note, Severity, Spot, shown_word, spot_in};
 use rotor_base::{Memory, Row};
+use row_pieces::{decode_bytes, read_number};
 use source_diff::diff;
 use std::alloc::Global;
 use text_places::{Counting, Position, offset_of, positions_of};
 
+/// The most bytes of a text in a row.
+pub const MOST: usize = 10_000;
+
 /// What a row prints.
-pub fn answer(alloc: Global, row: &[&str]) -> Result<String, Memory> {
+pub fn answer_row(alloc: Global, row: &[&str]) -> Result<String, Memory> {
     match row {
         ["positions", counting, text] => {
-            positions_answer(alloc, counting_of(counting), &decoded(alloc, text)?)
+            positions_answer(alloc, counting_of(counting), &decode_bytes(alloc, text)?)
         }
         ["offset", counting, line, column, text] => {
             let position = Position {
-                line: number(line),
-                column: number(column),
+                line: read_number(line),
+                column: read_number(column),
             };
             offset_answer(
                 alloc,
                 counting_of(counting),
-                &decoded(alloc, text)?,
+                &decode_bytes(alloc, text)?,
                 position,
             )
         }
-        ["diff", old, new] => diff_answer(alloc, &decoded(alloc, old)?, &decoded(alloc, new)?),
+        ["diff", old, new] => diff_answer(alloc, &decode_bytes(alloc, old)?, &decode_bytes(alloc, new)?),
         ["message", sentence, text, start, end, help] => {
-            let stretch = (number(start), number(end));
-            placed_answer(alloc, sentence, &decoded(alloc, text)?, stretch, help)
+            let stretch = (read_number(start), read_number(end));
+            placed_answer(alloc, sentence, &decode_bytes(alloc, text)?, stretch, help)
         }
         ["bare", sentence, help] => noted_answer(alloc, sentence, None, Row::new(alloc), help),
         ["word", word] => {
-            let word = shown_word(alloc, &decoded(alloc, word)?)?;
+            let word = shown_word(alloc, &decode_bytes(alloc, word)?)?;
             let mut answer = String::from_utf8_lossy(alloc, word.as_slice())?;
             answer.push_str("\n")?;
             Ok(answer)
@@ -119,12 +122,12 @@ fn noted_answer(
     let help = if help.is_empty() {
         None
     } else {
-        Some(Row::from_vec(decoded(alloc, help)?))
+        Some(Row::from_vec(decode_bytes(alloc, help)?))
     };
     let message = Message {
         severity: Severity::Error,
         kind: Kind::Clash,
-        text: Row::from_vec(decoded(alloc, sentence)?),
+        text: Row::from_vec(decode_bytes(alloc, sentence)?),
         at,
         notes,
         help,

@@ -12,7 +12,7 @@ use std::alloc::Global;
 use text_places::Counting;
 use value_at::{ValueAt, places_of, value_at};
 
-pub fn answer(
+pub fn answer_row(
     alloc: Global,
     counting: Counting,
     name: &str,

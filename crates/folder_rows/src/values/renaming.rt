@@ -12,7 +12,7 @@ use rotor_base::{Files, Memory, Outcome, Refusal};
 use std::alloc::Global;
 use text_places::Counting;
 
-pub fn answer(
+pub fn answer_row(
     alloc: Global,
     counting: Counting,
     name: &str,

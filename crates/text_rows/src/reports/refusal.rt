@@ -1,41 +1,41 @@
 //! Refusals and their places, as the rows give them.
 
-use crate::pieces::number;
 use rotor_base::{FormKind, Goal, LoadError, Memory, Name, Place, Refusal};
+use row_pieces::read_number;
 use std::alloc::Global;
 
 /// The refusal of a project or of a renaming, if the pieces are one.
-pub fn refusal(alloc: Global, pieces: &[&str]) -> Result<Option<Refusal>, Memory> {
+pub fn read_refusal(alloc: Global, pieces: &[&str]) -> Result<Option<Refusal>, Memory> {
     let refusal = match pieces {
         ["cycle", unit] => Refusal::Cycle {
             unit: Name::new(alloc, unit.as_bytes())?,
         },
         ["form", at, kind] => {
-            let Some(kind) = form_kind(kind) else {
+            let Some(kind) = read_form_kind(kind) else {
                 return Ok(None);
             };
-            let at = place(at);
+            let at = read_place(at);
             Refusal::Form { at, kind }
         }
-        [kind] => return Ok(read_bare(kind)),
-        [kind, first] => return Ok(of_one(kind, first)),
-        [kind, first, second] => return Ok(of_two(kind, first, second)),
+        [kind] => return Ok(read_bare_refusal(kind)),
+        [kind, first] => return Ok(read_with_one(kind, first)),
+        [kind, first, second] => return Ok(read_with_two(kind, first, second)),
         ["capture", at, was, would] => Refusal::Capture {
-            at: place(at),
-            was: goal(was),
-            would: goal(would),
+            at: read_place(at),
+            was: read_goal(was),
+            would: read_goal(would),
         },
         ["mislink", item, was, would] => Refusal::Mislink {
-            item: goal(item),
-            was: goal(was),
-            would: goal(would),
+            item: read_goal(item),
+            was: read_goal(was),
+            would: read_goal(would),
         },
         _ => return Ok(None),
     };
     Ok(Some(refusal))
 }
 
-fn read_bare(kind: &str) -> Option<Refusal> {
+fn read_bare_refusal(kind: &str) -> Option<Refusal> {
     match kind {
         "notarget" => Some(Refusal::NoTarget),
         "operator" => Some(Refusal::Operator),
@@ -46,8 +46,8 @@ fn read_bare(kind: &str) -> Option<Refusal> {
 }
 
 /// The refusal with one place or file.
-fn of_one(kind: &str, value: &str) -> Option<Refusal> {
-    let (at, file) = (place(value), number(value));
+fn read_with_one(kind: &str, value: &str) -> Option<Refusal> {
+    let (at, file) = (read_place(value), read_number(value));
     match kind {
         "deep" => Some(Refusal::Deep { at }),
         "syntax" => Some(Refusal::Syntax { file }),
@@ -62,9 +62,9 @@ fn of_one(kind: &str, value: &str) -> Option<Refusal> {
 }
 
 /// The refusal with a file and an offset, or with two places.
-fn of_two(kind: &str, one: &str, other: &str) -> Option<Refusal> {
-    let (file, offset) = (number(one), number(other));
-    let (first, again) = (place(one), place(other));
+fn read_with_two(kind: &str, one: &str, other: &str) -> Option<Refusal> {
+    let (file, offset) = (read_number(one), read_number(other));
+    let (first, again) = (read_place(one), read_place(other));
     match kind {
         "lex" => Some(Refusal::Lex { file, offset }),
         "longname" => Some(Refusal::LongName { file, offset }),
@@ -74,7 +74,7 @@ fn of_two(kind: &str, one: &str, other: &str) -> Option<Refusal> {
     }
 }
 
-fn form_kind(word: &str) -> Option<FormKind> {
+fn read_form_kind(word: &str) -> Option<FormKind> {
     match word {
         "object" => Some(FormKind::Object),
         "package" => Some(FormKind::Package),
@@ -92,10 +92,10 @@ fn form_kind(word: &str) -> Option<FormKind> {
 }
 
 /// Why a folder is not loaded, if the pieces say it.
-pub fn load_error(alloc: Global, pieces: &[&str]) -> Result<Option<LoadError>, Memory> {
+pub fn read_load_error(alloc: Global, pieces: &[&str]) -> Result<Option<LoadError>, Memory> {
     let error = match pieces {
         ["toomany", count] => LoadError::TooMany {
-            count: u64::from(number(count)),
+            count: u64::from(read_number(count)),
         },
         ["toolarge", file] => LoadError::TooLarge {
             file: Name::new(alloc, file.as_bytes())?,
@@ -103,48 +103,48 @@ pub fn load_error(alloc: Global, pieces: &[&str]) -> Result<Option<LoadError>, M
         ["doubleunit", unit] => LoadError::DoubleUnit {
             unit: Name::new(alloc, unit.as_bytes())?,
         },
-        ["badmanifest", line] => LoadError::BadManifest { line: number(line) },
+        ["badmanifest", line] => LoadError::BadManifest { line: read_number(line) },
         _ => return Ok(None),
     };
     Ok(Some(error))
 }
 
 /// The place `FILE#TOKEN`, with the number of the file.
-pub fn place(text: &str) -> Place {
+pub fn read_place(text: &str) -> Place {
     let (file, token) = text.split_once('#').unwrap_or(("0", "0"));
     Place {
-        file: number(file),
-        token: number(token),
+        file: read_number(file),
+        token: read_number(token),
     }
 }
 
 /// A goal: a place, a word, or `BY:PASSED:BEHIND` of a value that an outside module may hide.
-fn goal(text: &str) -> Goal {
+fn read_goal(text: &str) -> Goal {
     match text {
         "outside" => Goal::Outside,
         "missing" => Goal::Missing,
         "hidden" => Goal::Hidden,
         text => match text.split_once(':') {
-            Some((by, rest)) => blur(place(by), rest),
-            None => Goal::Decl(place(text)),
+            Some((by, rest)) => read_blur(read_place(by), rest),
+            None => Goal::Decl(read_place(text)),
         },
     }
 }
 
-fn blur(by: Place, text: &str) -> Goal {
+fn read_blur(by: Place, text: &str) -> Goal {
     let (passed, behind) = text.split_once(':').unwrap_or(("0", "none"));
     Goal::Blur {
         by,
-        passed: u64::from(number(passed)),
-        behind: place_or_none(behind),
+        passed: u64::from(read_number(passed)),
+        behind: read_place_or_none(behind),
     }
 }
 
 /// A place, or nothing for `none`.
-pub fn place_or_none(text: &str) -> Option<Place> {
+pub fn read_place_or_none(text: &str) -> Option<Place> {
     if text == "none" {
         None
     } else {
-        Some(place(text))
+        Some(read_place(text))
     }
 }

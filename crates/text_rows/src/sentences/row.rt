@@ -1,7 +1,7 @@
 //! The parts of a row.
 
-use crate::pieces::{decoded, number};
-use rotor_base::{Goal, Memory, Place, Row as List, SourceFile, Text};
+use rotor_base::{Goal, Memory, Place};
+use row_pieces::{decode_bytes, read_number};
 use std::alloc::Global;
 
 /// The numbers and the words of a row.
@@ -16,11 +16,11 @@ impl Row {
     pub fn new(alloc: Global, numbers: &str, words: &str) -> Result<Self, Memory> {
         let mut list = Vec::new(alloc);
         for word in numbers.split(' ') {
-            list.push(number(word))?;
+            list.push(read_number(word))?;
         }
         let mut all = Vec::new(alloc);
         for word in words.split(' ') {
-            all.push(decoded(alloc, word)?)?;
+            all.push(decode_bytes(alloc, word)?)?;
         }
         Ok(Row {
             numbers: list,
@@ -73,13 +73,4 @@ impl Row {
             },
         }
     }
-}
-
-/// The source of a name and a text.
-pub fn source(alloc: Global, name: &str, text: &str) -> Result<SourceFile, Memory> {
-    let name = decoded(alloc, name)?;
-    Ok(SourceFile {
-        name: Text::from_string(String::from_utf8_lossy(alloc, &name)?),
-        bytes: List::from_vec(decoded(alloc, text)?),
-    })
 }
