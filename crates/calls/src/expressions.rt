@@ -1,12 +1,13 @@
 //! The references and the looks of one expression, and whether facts are the same.
+use crate::lines::add_lines;
 use crate::places::tokens_of;
-use crate::values::{module, structure, value, watch};
+use crate::values::{push_module, structure, value, watch};
 use binding_model::{Sums, same_facts};
 use expr_resolve::{expr_looks, expr_refs};
 use parse_expr::parse_seq;
-use rotor_base::{Facts, Goal, Memory, Place, Ref, Row};
+use rotor_base::{Facts, Goal, Looks, Memory, Place, Ref, Row};
 use shape_core::Scope;
-use std::alloc::Global;
+use std::alloc::{AllocError, Global};
 use std::fmt::Write;
 
 /// Adds what the last expression of row opened-expression refers to, and what a renaming of `x` to `y` looks at in it.
@@ -17,9 +18,7 @@ pub fn add_opened_expression(alloc: Global, text: &mut String) -> Result<(), Mem
         return Err(Memory);
     };
     write!(text, "M.(x), up to {end}\n")?;
-    let mut scope = Scope::new(alloc)?;
-    scope.push(module(alloc, "M", structure(alloc, "y", 6)?)?)?;
-    scope.push(value(alloc, "x", 11)?)?;
+    let mut scope = make_scope(alloc)?;
     let sums = Sums {
         weight: 0,
         work: 0,
@@ -32,31 +31,35 @@ pub fn add_opened_expression(alloc: Global, text: &mut String) -> Result<(), Mem
     write!(text, "{after:?}, scope {}\n", scope.len())?;
     let watch = watch(alloc, "x", "y", 11)?;
     let looks = expr_looks(alloc, &mut scope, 0, &expression, &watch)?;
-    for look in looks.refs.as_slice() {
-        write!(text, "{look:?}\n")?;
-    }
-    let links = looks.links.as_slice().len();
-    write!(
-        text,
-        "links {links}, passed {}, scope {}\n",
-        looks.passed,
-        scope.len()
-    )?;
+    add_looks(text, &looks, scope.len())?;
     add_sameness(alloc, text, &facts)
 }
 
+/// The scope of the expression.
+fn make_scope(alloc: Global) -> Result<Scope, Memory> {
+    let mut scope = Scope::new(alloc)?;
+    push_module(alloc, &mut scope, "M", structure(alloc, &[("y", 6)])?)?;
+    scope.push(value(alloc, "x", 11)?)?;
+    Ok(scope)
+}
+
 /// Adds references, and the numbers of links and groups.
-fn add_facts(text: &mut String, facts: &Facts) -> Result<(), Memory> {
-    for reference in facts.refs.as_slice() {
-        write!(text, "{reference:?}\n")?;
-    }
+fn add_facts(text: &mut String, facts: &Facts) -> Result<(), AllocError> {
+    add_lines(text, facts.refs.as_slice())?;
     let links = facts.links.as_slice().len();
+    let groups = facts.groups.as_slice().len();
+    write!(text, "links {links}, groups {groups}\n")
+}
+
+/// Adds the looks of references, and the numbers of links and of entries of the scope.
+fn add_looks(text: &mut String, looks: &Looks, scope: usize) -> Result<(), AllocError> {
+    add_lines(text, looks.refs.as_slice())?;
+    let links = looks.links.as_slice().len();
     write!(
         text,
-        "links {links}, groups {}\n",
-        facts.groups.as_slice().len()
-    )?;
-    Ok(())
+        "links {links}, passed {}, scope {scope}\n",
+        looks.passed
+    )
 }
 
 /// Adds whether facts are the same as themselves, and as facts whose one reference leads outside.

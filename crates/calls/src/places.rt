@@ -21,12 +21,17 @@ pub fn add_places(alloc: Global, text: &mut String, source: &str) -> Result<(), 
     write!(text, "{source}\n")?;
     add_marks(text, "binders", &binders(alloc, &tree)?)?;
     add_marks(text, "value_refs", &value_refs(alloc, &tree)?)?;
-    write!(text, "puns")?;
-    for token in &puns(alloc, &tree)? {
+    add_tokens(text, "puns", &puns(alloc, &tree)?)?;
+    Ok(())
+}
+
+/// Adds tokens.
+fn add_tokens(text: &mut String, what: &str, tokens: &[u32]) -> Result<(), AllocError> {
+    write!(text, "{what}")?;
+    for token in tokens {
         write!(text, " {token}")?;
     }
-    write!(text, "\n")?;
-    Ok(())
+    write!(text, "\n")
 }
 
 /// Adds the variables of the pattern of row or-counted.
@@ -62,13 +67,9 @@ pub fn tokens_of(alloc: Global, source: &[u8], least: usize) -> Result<Vec<Token
 fn add_marks(text: &mut String, what: &str, marks: &[Mark]) -> Result<(), AllocError> {
     write!(text, "{what}")?;
     for mark in marks {
-        write!(text, " {}", mark.token)?;
-        if mark.pun {
-            write!(text, "p")?;
-        }
-        if mark.operator {
-            write!(text, "o")?;
-        }
+        let pun = if mark.pun { "p" } else { "" };
+        let operator = if mark.operator { "o" } else { "" };
+        write!(text, " {}{pun}{operator}", mark.token)?;
     }
     write!(text, "\n")
 }

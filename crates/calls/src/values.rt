@@ -1,6 +1,6 @@
 //! Small values that the calls take.
 use rotor_base::{Foot, Goal, Memory, Name, Place, Row, Watch};
-use shape_core::{Shared, SharedEntry, make_struct};
+use shape_core::{Scope, Shared, SharedEntry, make_functor, make_struct};
 use std::alloc::Global;
 
 /// The declaration at a token of the first file.
@@ -14,19 +14,42 @@ pub fn value(alloc: Global, name: &str, token: u32) -> Result<SharedEntry, Memor
     Ok(SharedEntry::Val(name, Goal::Decl(place(token))))
 }
 
-pub fn module(alloc: Global, name: &str, shape: Shared) -> Result<SharedEntry, Memory> {
-    Ok(SharedEntry::Mod(Name::new(alloc, name.as_bytes())?, shape))
+/// Adds a module to a scope.
+pub fn push_module(
+    alloc: Global,
+    scope: &mut Scope,
+    name: &str,
+    shape: Shared,
+) -> Result<(), Memory> {
+    scope.push(SharedEntry::Mod(Name::new(alloc, name.as_bytes())?, shape))
 }
 
-pub fn module_type(alloc: Global, name: &str, shape: Shared) -> Result<SharedEntry, Memory> {
-    Ok(SharedEntry::Mty(Name::new(alloc, name.as_bytes())?, shape))
+/// Adds a module type to a scope.
+pub fn push_module_type(
+    alloc: Global,
+    scope: &mut Scope,
+    name: &str,
+    shape: Shared,
+) -> Result<(), Memory> {
+    scope.push(SharedEntry::Mty(Name::new(alloc, name.as_bytes())?, shape))
 }
 
-/// A structure of one value.
-pub fn structure(alloc: Global, name: &str, token: u32) -> Result<Shared, Memory> {
+/// The structure of values, each with its name and its token.
+pub fn structure(alloc: Global, values: &[(&str, u32)]) -> Result<Shared, Memory> {
     let mut list = Vec::new(alloc);
-    list.push(value(alloc, name, token)?)?;
+    for (name, token) in values {
+        list.push(value(alloc, name, *token)?)?;
+    }
     make_struct(alloc, list)
+}
+
+/// The functor over a structure of values that gives another one.
+pub fn functor(
+    alloc: Global,
+    parameter: &[(&str, u32)],
+    body: &[(&str, u32)],
+) -> Result<Shared, Memory> {
+    make_functor(alloc, structure(alloc, parameter)?, structure(alloc, body)?)
 }
 
 /// The watch of a renaming whose footprint is one declaration.
