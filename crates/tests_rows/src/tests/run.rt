@@ -1,9 +1,10 @@
-// What the tests share: a folder in memory, and what it holds.
-use crate::sources;
+// What the tests share: a folder in memory, what it holds, and a run of a command.
+use crate::{sources, words};
+use rotor_app::{Status, rotor};
 use rotor_base::Memory;
 use std::alloc::Global;
 use std::process::Abort;
-use tree_io::{MemTree, have_distinct_names};
+use tree_io::{MemTree, Sink, Tree, have_distinct_names};
 
 pub const ONE_LINE: &str = "let x = 1 let y = x + x";
 
@@ -25,6 +26,17 @@ pub fn folder(
     let files = sources(alloc, files)?;
     assert!(rt; have_distinct_names(&files), "a name stands twice");
     MemTree::new(alloc, files, failing.to_vec(alloc)?)
+}
+
+/// Runs a command. It has no clause, so that no proof of a test contains those of `rotor`.
+pub fn run_command<T: Tree, S: Sink>(
+    alloc: Global,
+    list: &[&str],
+    tree: &mut T,
+    sink: &mut S,
+) -> Result<Status, Memory> {
+    let list = words(alloc, list)?;
+    Ok(rotor(alloc, &list, tree, sink))
 }
 
 /// Whether a folder has a file of this name with just this text.
