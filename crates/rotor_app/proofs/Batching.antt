@@ -21,6 +21,7 @@ use Rattle.rename_batch.specs.Reading.{AreSteps, IsBatch, IsUnread}
 use Rattle.rotor_app.specs.declared.reply.Reply.{Reply}
 use Rattle.rotor_app.specs.Said.{bad_batch, stopped_batch, batched_reply, unloaded_reply, batch_in, IsCommandReply, SaysSteps, stopped, batched}
 use Rattle.rotor_app.specs.Said.{SaysFound, lacks, large, unread, runs}
+use Rattle.rotor_app.proofs.NoMemory.{names_stop}
 use Rattle.rotor_app.proofs.Saying.{refusal_kind}
 
 -- ---- the bytes that are read
@@ -140,7 +141,7 @@ said_unread write file bytes files number error (Ok reply) l e bad h = unread by
 -- ---- the status of a reply to a batch
 
 steps_kind : (write : Bool) (files : FileSet) (steps : List Step) (reply : Reply) → SaysSteps write files steps reply → IsCommandReply reply
-steps_kind write files steps reply (stopped k why a e) = subst IsCommandReply (sym e) (refusal_kind why)
+steps_kind write files steps reply (stopped k why a e) = subst IsCommandReply (sym e) (refusal_kind why (names_stop files steps k why a))
 steps_kind write files steps reply (batched done a e) = subst IsCommandReply (sym e) tt
 
 pub found_kind : (file : List ℕ) (write : Bool) (found : Option (List ℕ)) (files : FileSet) (reply : Reply)

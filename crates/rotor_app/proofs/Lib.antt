@@ -1,5 +1,6 @@
 pub mod Concluded
 pub mod Endings
+pub mod NoMemory
 pub mod Saying
 pub mod Beside
 pub mod Undoing

@@ -32,19 +32,20 @@ use Rattle.rotor_app.specs.Said.{status_of_refusal, status_of, silent_reply, unl
 use Rattle.rotor_app.specs.Said.{Permits, Finds, SaysLoaded, not_loaded, over, SaysPermitted, pends, permitted, SaysChecked, SaysShown, SaysRenaming}
 use Rattle.rotor_app.specs.Said.{SaysRecovery, finished, reply_of, SaysSample, Says, SaysAlone, AsksNothing}
 use Rattle.rotor_app.specs.Said.{IsReply, IsCommandStatus, IsCommandReply}
+use Rattle.rotor_app.proofs.NoMemory.{names_check, names_shown, names_renaming, names_sample}
 
 -- ---- the status of a reply
 
-refusal_status : (r : Refusal) → (status_of_refusal r ≡ Refused) ⊎ (status_of_refusal r ≡ Project)
-refusal_status (refusal.Lex file offset) = inr refl
-refusal_status (refusal.LongName file offset) = inr refl
-refusal_status (refusal.Form at kind) = inr refl
-refusal_status (refusal.Deep at) = inr refl
-refusal_status (refusal.Syntax file) = inr refl
-refusal_status (refusal.Cycle unit) = inr refl
-refusal_status (refusal.Duplicate first again) = inr refl
-refusal_status (refusal.Heavy at) = inr refl
-refusal_status (refusal.Unmatched item) = inr refl
+refusal_status : (r : Refusal) → (status_of_refusal r ≡ Refused) ⊎ ((status_of_refusal r ≡ Project) ⊎ (r ≡ refusal.Memory))
+refusal_status (refusal.Lex file offset) = inr (inl refl)
+refusal_status (refusal.LongName file offset) = inr (inl refl)
+refusal_status (refusal.Form at kind) = inr (inl refl)
+refusal_status (refusal.Deep at) = inr (inl refl)
+refusal_status (refusal.Syntax file) = inr (inl refl)
+refusal_status (refusal.Cycle unit) = inr (inl refl)
+refusal_status (refusal.Duplicate first again) = inr (inl refl)
+refusal_status (refusal.Heavy at) = inr (inl refl)
+refusal_status (refusal.Unmatched item) = inr (inl refl)
 refusal_status refusal.NoTarget = inl refl
 refusal_status refusal.Operator = inl refl
 refusal_status refusal.BadName = inl refl
@@ -56,52 +57,57 @@ refusal_status (refusal.Grown file) = inl refl
 refusal_status (refusal.Clash first again) = inl refl
 refusal_status (refusal.Capture at was would) = inl refl
 refusal_status (refusal.Mislink item was would) = inl refl
-refusal_status refusal.Memory = inr refl
+refusal_status refusal.Memory = inr (inr refl)
 
-pub refusal_kind : (r : Refusal) → IsCommandStatus (status_of_refusal r) []
-refusal_kind r = by (status_of_refusal r) (refusal_status r) where
-  by : (s : Status) → (s ≡ Refused) ⊎ (s ≡ Project) → IsCommandStatus s []
-  by s (inl e) = subst (λ (t : Status). IsCommandStatus t []) (sym e) refl
-  by s (inr e) = subst (λ (t : Status). IsCommandStatus t []) (sym e) refl
+-- want of memory has a status of its own
+pub refusal_kind : (r : Refusal) → r ≢ refusal.Memory → IsCommandStatus (status_of_refusal r) []
+refusal_kind r other = by (refusal_status r) where
+  by : (status_of_refusal r ≡ Refused) ⊎ ((status_of_refusal r ≡ Project) ⊎ (r ≡ refusal.Memory)) → IsCommandStatus (status_of_refusal r) []
+  by (inl e) = subst (λ (t : Status). IsCommandStatus t []) (sym e) refl
+  by (inr (inl e)) = subst (λ (t : Status). IsCommandStatus t []) (sym e) refl
+  by (inr (inr e)) = absurd (other e)
 
 pub no_done_refusal : (r : Refusal) → status_of_refusal r ≡ Done → ⊥
-no_done_refusal r d = by (status_of_refusal r) (refusal_status r) d where
-  by : (s : Status) → (s ≡ Refused) ⊎ (s ≡ Project) → s ≡ Done → ⊥
-  by s (inl e) d = let no : Refused ≡ Done = sym e ∙ d in cc
-  by s (inr e) d = let no : Project ≡ Done = sym e ∙ d in cc
+no_done_refusal r d = by (refusal_status r) where
+  by : (status_of_refusal r ≡ Refused) ⊎ ((status_of_refusal r ≡ Project) ⊎ (r ≡ refusal.Memory)) → ⊥
+  by (inl e) = let no : Refused ≡ Done = sym e ∙ d in cc
+  by (inr (inl e)) = let no : Project ≡ Done = sym e ∙ d in cc
+  by (inr (inr e)) = let no : NoMemory ≡ Done = sym (ap status_of_refusal e) ∙ d in cc
 
 -- a reply that writes nothing and has an answer's status and text
 silent_kind : {A : Type 0} (f : A → Outcome) → ((a : A) → IsCommandStatus (status_of (f a)) []) → (json : Bool) (names : List (List ℕ))
-    (r : Result A Refusal) (reply : Reply) → reply ≡ silent_reply json names (as_outcome f r) → IsCommandReply reply
-silent_kind {A} f done json names r reply e = subst IsCommandReply (sym e) (by r) where
-  by : (r : Result A Refusal) → IsCommandStatus (status_of (as_outcome f r)) []
-  by (Ok a) = done a
-  by (Err why) = refusal_kind why
+    (r : Result A Refusal) (reply : Reply) → IfErr r (λ why. why ≢ refusal.Memory) → reply ≡ silent_reply json names (as_outcome f r)
+    → IsCommandReply reply
+silent_kind {A} f done json names r reply named e = subst IsCommandReply (sym e) (by r named) where
+  by : (r : Result A Refusal) → IfErr r (λ why. why ≢ refusal.Memory) → IsCommandStatus (status_of (as_outcome f r)) []
+  by (Ok a) named = done a
+  by (Err why) named = refusal_kind why named
 
 pub checked_kind : (files : FileSet) (reply : Reply) → SaysChecked files reply → IsCommandReply reply
-checked_kind files reply (r, h, e) = silent_kind outcome.Checked (λ a. tt) false (names_of files.entries) r reply e
+checked_kind files reply (r, h, e) = silent_kind outcome.Checked (λ a. tt) false (names_of files.entries) r reply (names_check files r h) e
 
 pub checked_writes : (files : FileSet) (reply : Reply) → SaysChecked files reply → reply.writes ≡ []
 checked_writes files reply (r, h, e) = ap (λ (x : Reply). x.writes) e
 
 pub shown_kind : (target : Target) (files : FileSet) (reply : Reply) → SaysShown target files reply → IsCommandReply reply
-shown_kind target files reply (r, h, e) = silent_kind outcome.Shown (λ a. tt) false (names_of files.entries) r reply e
+shown_kind target files reply (r, h, e) =
+    silent_kind outcome.Shown (λ a. tt) false (names_of files.entries) r reply (names_shown files target r h) e
 
 pub shown_writes : (target : Target) (files : FileSet) (reply : Reply) → SaysShown target files reply → reply.writes ≡ []
 shown_writes target files reply (r, h, e) = ap (λ (x : Reply). x.writes) e
 
 pub sample_kind : (units : ℕ) (reply : Reply) → SaysSample units reply → IsCommandReply reply
-sample_kind units reply (r, h, e) = silent_kind outcome.Sampled (λ a. tt) false [] r reply e
+sample_kind units reply (r, h, e) = silent_kind outcome.Sampled (λ a. tt) false [] r reply (names_sample units r h) e
 
 pub sample_writes : (units : ℕ) (reply : Reply) → SaysSample units reply → reply.writes ≡ []
 sample_writes units reply (r, h, e) = ap (λ (x : Reply). x.writes) e
 
 pub renaming_kind : (target : Target) (name : List ℕ) (writing : Writing) (json : Bool) (files : FileSet) (reply : Reply)
     → SaysRenaming target name writing json files reply → IsCommandReply reply
-renaming_kind target name writing json files reply (r, h, e) = subst IsCommandReply (sym e) (by r) where
-  by : (r : Result Renamed Refusal) → IsCommandReply (renaming_reply writing json (names_of files.entries) r)
-  by (Ok done) = tt
-  by (Err why) = refusal_kind why
+renaming_kind target name writing json files reply (r, h, e) = subst IsCommandReply (sym e) (by r (names_renaming files target name r h)) where
+  by : (r : Result Renamed Refusal) → IfErr r (λ why. why ≢ refusal.Memory) → IsCommandReply (renaming_reply writing json (names_of files.entries) r)
+  by (Ok done) named = tt
+  by (Err why) named = refusal_kind why named
 
 -- the kind of a reply to a command is that of a reply, and its status is not Usage
 pub command_kind : (result : Result Reply TreeError) → IfOk result IsCommandReply → IfOk result (λ reply. IsReply reply.status reply.writes)

@@ -1,7 +1,8 @@
 -- The reply to `verify`.
-use Rattle.std.proofs.Common.{◌≡◌, ◌⊎◌, ℕ, List, [], Option, Some, None, Result, Ok, Err, IfSome, IfOk, OnOk, refl, sym, ap, subst, inl, inr}
+use Rattle.std.proofs.Common.{◌≡◌, ◌⊎◌, ℕ, List, [], Option, Some, None, Result, Ok, Err, IfSome, IfOk, IfErr, OnOk, ◌≢◌, refl, sym, ap, subst, inl, inr}
 use Rattle.rotor_base.specs.Files.{FileSet, names_of}
 use Rattle.rotor_base.specs.declared.refusal.Refusal.{Refusal}
+use Rattle.rotor_base.specs.declared.refusal.Refusal.TheVariants as refusal
 use Rattle.tree_io.specs.Outside.{FileMap}
 use Rattle.tree_io.specs.declared.outside.TreeError.{TreeError}
 use Rattle.project_load.specs.Listed.{IsListAnswer, IsOutsideList, Lists}
@@ -11,16 +12,17 @@ use Rattle.rename_verify.specs.declared.verdict.Verdict.{Verdict}
 use Rattle.rename_verify.specs.declared.verdict.Verdict.TheVariants.{Yes, No}
 use Rattle.rotor_app.specs.declared.reply.Reply.{Reply}
 use Rattle.rotor_app.specs.Said.{IsJudged, IsCommandReply, RefusesList, SaysAgainst, unlisted, judged, SaysVerify, no_list, listed, judged_reply}
+use Rattle.rotor_app.proofs.NoMemory.{names_verdict}
 use Rattle.rotor_app.proofs.Saying.{refusal_kind}
 
 -- ---- the reply to a verdict
 
 pub judged_kind : (old new : FileSet) (reply : Reply) → IsJudged old new reply → IsCommandReply reply
-judged_kind old new reply (answer, v, e) = subst IsCommandReply (sym e) (by answer) where
-  by : (answer : Result Verdict Refusal) → IsCommandReply (judged_reply (names_of old.entries) answer)
-  by (Ok (Yes changes)) = tt
-  by (Ok (No why)) = refl
-  by (Err why) = refusal_kind why
+judged_kind old new reply (answer, v, e) = subst IsCommandReply (sym e) (by answer (names_verdict old new answer v)) where
+  by : (answer : Result Verdict Refusal) → IfErr answer (λ why. why ≢ refusal.Memory) → IsCommandReply (judged_reply (names_of old.entries) answer)
+  by (Ok (Yes changes)) named = tt
+  by (Ok (No why)) named = refl
+  by (Err why) named = refusal_kind why named
 
 pub judged_writes : (old new : FileSet) (reply : Reply) → IsJudged old new reply → reply.writes ≡ []
 judged_writes old new reply (Ok verdict, v, e) = ap (λ (r : Reply). r.writes) e

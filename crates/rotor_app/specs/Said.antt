@@ -54,7 +54,7 @@ use Rattle.rotor_app.specs.Writing.{writing_of, is_writing}
 
 -- ---- the reply to an outcome
 
--- the refusals of a renaming are Refused, and those of a project are Project
+-- the refusals of a renaming are Refused, and those of a project are Project; want of memory is Memory
 abbrev pub status_of_refusal : Refusal → Status
 status_of_refusal (refusal.Lex file offset) = Project
 status_of_refusal (refusal.LongName file offset) = Project
@@ -76,7 +76,7 @@ status_of_refusal (refusal.Grown file) = Refused
 status_of_refusal (refusal.Clash first again) = Refused
 status_of_refusal (refusal.Capture at was would) = Refused
 status_of_refusal (refusal.Mislink item was would) = Refused
-status_of_refusal refusal.Memory = Project
+status_of_refusal refusal.Memory = Memory
 
 abbrev pub status_of : Outcome → Status
 status_of (outcome.Done done) = Done

@@ -57,7 +57,7 @@ pub fn status_of(outcome: &Outcome) -> Status
     }
 }
 
-/// The status of a refusal: of a renaming, or of a project.
+/// The status of a refusal: of a renaming, of a project, or for want of memory.
 pub fn status_of_refusal(refusal: &Refusal) -> Status
     ensures { result ≡ status_of_refusal refusal.now }
 {
@@ -81,7 +81,7 @@ pub fn status_of_refusal(refusal: &Refusal) -> Status
         | Refusal::Cycle { .. }
         | Refusal::Duplicate { .. }
         | Refusal::Heavy { .. }
-        | Refusal::Unmatched { .. }
-        | Refusal::Memory => Status::Project,
+        | Refusal::Unmatched { .. } => Status::Project,
+        Refusal::Memory => Status::Memory,
     }
 }

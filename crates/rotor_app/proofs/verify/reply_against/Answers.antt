@@ -1,5 +1,8 @@
-use Rattle.rotor_app.proofs.Verifying.{said_judged, said_unlisted}
+use Rattle.rotor_app.proofs.Verifying.{judged_kind, said_judged, said_unlisted}
 use Rattle.rotor_app.proofs.verify.reply_against.Goals as goal
+
+pub returns-in_ok-judge-in-Ok-clause-kind : goal.returns-in_ok-judge-in-Ok-clause-kind
+returns-in_ok-judge-in-Ok-clause-kind g c = judged_kind c.args.old.now c.in-Ok.new c.in_ok-judge-in-Ok.field-0 c.in_ok-judge-in-Ok.ensures
 
 pub returns-in_ok-judge-in-Ok-clause-said : goal.returns-in_ok-judge-in-Ok-clause-said
 returns-in_ok-judge-in-Ok-clause-said g c =
