@@ -21,7 +21,7 @@ use tree_io::{Tree, TreeError, take_room};
 /// The most bytes of a batch that are read: one more than it may have.
 const READ_LIMIT: u32 = MAX_FILE_BYTES + 1;
 
-/// The reply to `batch`, with its room. The batch is in the file of this name.
+/// The reply to `batch`, with its room. The batch is in the file of this name. The errors are `Failed` and `Memory`.
 pub fn reply_to_batch<T: Tree>(
     alloc: Global,
     file: &str,

@@ -10,7 +10,7 @@ use rotor_base::{Files, Memory, Outcome};
 use std::alloc::Global;
 use tree_io::{Tree, TreeError};
 
-/// The reply to `check`, which writes nothing.
+/// The reply to `check`, which writes nothing. The errors are `Failed` and `Memory`.
 pub fn reply_to_check<T: Tree>(alloc: Global, tree: &mut T) -> Result<Reply, TreeError>
     ensures kind { IfOk result IsCommandReply }
     ensures silent { IfOk result (λ reply. reply.writes ≡ []) }

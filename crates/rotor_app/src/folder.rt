@@ -21,7 +21,8 @@ pub enum Opened {
     NotLoaded(LoadError),
 }
 
-/// The files that the folder loads as, or why it is not taken as a project's files.
+/// The files that the folder loads as, or why it is not taken as a project's files. The errors are `Failed` and
+/// `Memory`.
 pub fn load_project<T: Tree>(
     alloc: Global,
     tree: &mut T,
@@ -50,7 +51,7 @@ fn refused_load(error: LoadError) -> Result<Result<Files, LoadError>, TreeError>
     }
 }
 
-/// What a command finds in the folder. If it `writes`, the gate has to be closed.
+/// What a command finds in the folder. If it `writes`, the gate has to be closed. The errors are `Failed` and `Memory`.
 pub fn open_project<T: Tree>(alloc: Global, writes: bool, tree: &mut T) -> Result<Opened, TreeError>
     ensures found { IfOk result (λ opened. IfSome (T.content tree.old) (λ held. Finds writes held opened)) }
     ensures content { T.content tree.new ≡ T.content tree.old }

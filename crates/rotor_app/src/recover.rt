@@ -13,7 +13,7 @@ use rotor_base::{Memory, Row, SourceFile};
 use std::alloc::Global;
 use tree_io::{Tree, TreeError};
 
-/// The reply to `recover`, with its room.
+/// The reply to `recover`, with its room. The errors are `Failed` and `Memory`.
 pub fn reply_to_recover<T: Tree>(alloc: Global, tree: &mut T) -> Result<Reply, TreeError>
     ensures kind { IfOk result IsCommandReply }
     ensures said { IfOk result (λ reply. IfSome (T.content tree.old) (λ held. SaysRecovery held reply)) }

@@ -18,7 +18,7 @@ use rotor_base::{Files, Memory, Name, Outcome, Renamed, Row, Target};
 use std::alloc::Global;
 use tree_io::{Tree, TreeError, take_room};
 
-/// The reply to `rename`, with its room.
+/// The reply to `rename`, with its room. The errors are `Failed` and `Memory`.
 pub fn reply_to_rename<T: Tree>(
     alloc: Global,
     target: &Target,

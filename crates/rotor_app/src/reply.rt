@@ -27,7 +27,8 @@ pub fn reply_of(alloc: Global, status: Status, text: Vec<u8>) -> Reply
     }
 }
 
-/// The reply with the status and the text of an outcome, in files of these names, which writes nothing.
+/// The reply with the status and the text of an outcome, in files of these names, which writes nothing. `Memory` is the
+/// only error.
 pub fn silent_reply(
     alloc: Global,
     as_json: bool,
@@ -40,7 +41,7 @@ pub fn silent_reply(
     Ok(reply_of(alloc, status_of(outcome), text))
 }
 
-/// The reply to a refusal, in files of these names. Want of memory has none.
+/// The reply to a refusal, in files of these names. Want of memory has none, and is the only error.
 pub fn refused_reply(
     alloc: Global,
     as_json: bool,
@@ -56,14 +57,14 @@ pub fn refused_reply(
     }
 }
 
-/// The reply to a folder or a list that is not taken as a project's files.
+/// The reply to a folder or a list that is not taken as a project's files. `Memory` is the only error.
 pub fn unloaded_reply(alloc: Global, as_json: bool, error: LoadError) -> Result<Reply, Memory>
     ensures { IfOk result (λ reply. reply ≡ unloaded_reply as_json error) }
 {
     silent_reply(alloc, as_json, &[], &Outcome::NotLoaded(error))
 }
 
-/// The reply to a command that may not write, since the gate is open.
+/// The reply to a command that may not write, since the gate is open. `Memory` is the only error.
 pub fn pending_reply(alloc: Global, as_json: bool) -> Result<Reply, Memory>
     ensures { IfOk result (λ reply. reply ≡ pending_reply as_json) }
 {
@@ -71,14 +72,14 @@ pub fn pending_reply(alloc: Global, as_json: bool) -> Result<Reply, Memory>
     Ok(reply_of(alloc, Status::Project, text))
 }
 
-/// The reply to words of no form.
+/// The reply to words of no form. `Memory` is the only error.
 pub fn usage(alloc: Global) -> Result<Reply, Memory>
     ensures { IfOk result (λ reply. reply ≡ usage_reply) }
 {
     silent_reply(alloc, false, &[], &Outcome::BadWords)
 }
 
-/// The text of an outcome, as lines or as JSON.
+/// The text of an outcome, as lines or as JSON. `Memory` is the only error.
 pub fn outcome_text(
     alloc: Global,
     as_json: bool,
@@ -94,7 +95,7 @@ pub fn outcome_text(
     }
 }
 
-/// The names of the sources, which places number.
+/// The names of the sources, which places number. `Memory` is the only error.
 pub fn source_names(alloc: Global, files: &[SourceFile]) -> Result<Vec<String>, Memory>
     ensures { IfOk result (λ names. map string_bytes names.items ≡ names_of files.now) }
 {

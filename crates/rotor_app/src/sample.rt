@@ -7,7 +7,7 @@ use rotor_base::{Memory, Outcome};
 use sample_project::sample;
 use std::alloc::Global;
 
-/// The reply to `sample` over so many units.
+/// The reply to `sample` over so many units. `Memory` is the only error.
 pub fn reply_to_sample(alloc: Global, units: u32) -> Result<Reply, Memory>
     ensures { IfOk result (SaysSample units) }
 {

@@ -10,7 +10,7 @@ use rotor_base::{Files, Memory, Outcome, Target};
 use std::alloc::Global;
 use tree_io::{Tree, TreeError};
 
-/// The reply to `footprint`, which writes nothing.
+/// The reply to `footprint`, which writes nothing. The errors are `Failed` and `Memory`.
 pub fn reply_to_shape<T: Tree>(
     alloc: Global,
     target: &Target,

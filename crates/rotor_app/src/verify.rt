@@ -13,7 +13,8 @@ use rotor_base::{Files, LoadError, Memory};
 use std::alloc::Global;
 use tree_io::{Tree, TreeError};
 
-/// The reply to `verify` of a list of the old project and a list of the new one. The call reads the old list first.
+/// The reply to `verify` of a list of the old project and a list of the new one. The call reads the old list first. The
+/// errors are `Failed` and `Memory`.
 pub fn reply_to_verify<T: Tree>(
     alloc: Global,
     old: &str,

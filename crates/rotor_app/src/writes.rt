@@ -10,7 +10,8 @@ use apply_journal::{make_plan, safe_writes};
 use rotor_base::{Memory, Renamed, Row, SourceFile, Text};
 use std::alloc::Global;
 
-/// The writes of a renaming that is done: with `--safe` those of a plan, with `--write` the changed files.
+/// The writes of a renaming that is done: with `--safe` those of a plan, with `--write` the changed files. `Memory` is
+/// the only error.
 pub fn writes_of(alloc: Global, writing: Writing, done: &Renamed) -> Result<Row<SourceFile>, Memory>
     requires { ListsChanges done.now }
     ensures { IfOk result (λ writes. writes ≡ writes_of writing (files_at done.now.files.entries done.now.changed)) }
@@ -25,7 +26,7 @@ pub fn writes_of(alloc: Global, writing: Writing, done: &Renamed) -> Result<Row<
     }
 }
 
-/// The files of these numbers.
+/// The files of these numbers. `Memory` is the only error.
 #[tactic(auto, using(crate::proofs::Saying::pushed))]
 pub fn files_at(
     alloc: Global,

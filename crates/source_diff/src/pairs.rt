@@ -34,7 +34,7 @@ struct Cut<'a> {
     new: &'a [u8],
 }
 
-/// The lines of two texts, paired by their numbers.
+/// The lines of two texts, paired by their numbers. `Memory` is the only error.
 pub fn pairs_of<'a>(
     alloc: Global,
     old: &'a [u8],

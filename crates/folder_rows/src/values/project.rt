@@ -7,7 +7,7 @@ use rotor_base::{Files, LoadError, MAX_FILE_BYTES, Place, Token};
 use std::alloc::Global;
 use value_at::token_at;
 
-/// The files of a folder.
+/// The files of a folder. If two files have one name, the error is `Read`; the other errors are those of a load.
 pub fn files_of(alloc: Global, pieces: &[&str]) -> Result<Files, LoadError> {
     match folder_of(alloc, pieces)? {
         Some(mut tree) => load(alloc, &mut tree),
