@@ -7,7 +7,7 @@ ghost use Rattle.requests.specs.Asked.{query_words};
 ghost use Rattle.document_answers.specs.Refused.{IsRefusedAs, no_source_text, unknown_text, unread_text};
 ghost use Rattle.document_answers.specs.Replies.{RepliesIn};
 
-use crate::over::{Asked, over_files};
+use crate::over::{Asked, answer_over_files};
 use crate::refused::refused_reply;
 use document_uris::{FilePlace, read_uri};
 use folders::Folders;
@@ -110,7 +110,7 @@ impl<F: Folders + Drop> DocumentAnswers<F> {
                     position,
                     query,
                 };
-                over_files(alloc, &mut self.last, asked, files)
+                answer_over_files(alloc, &mut self.last, asked, files)
             }
             OpenFolder::Unread => unread_reply(alloc, query),
             OpenFolder::Refused { why, message } => {

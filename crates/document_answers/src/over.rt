@@ -63,7 +63,7 @@ pub(crate) struct Around<'a> {
 }
 
 /// The reply to a query over the files of a folder. If they are accepted as a project, it is kept.
-pub(crate) fn over_files(
+pub(crate) fn answer_over_files(
     alloc: Global,
     last: &mut Option<KeptProject>,
     asked: Asked<'_>,
@@ -73,7 +73,7 @@ pub(crate) fn over_files(
     ensures plain { IfOk result IsPlain }
 {
     match number_of(files.entries(), asked.file.name.as_bytes()) {
-        Some(number) => over_source(alloc, last, asked, files, number),
+        Some(number) => answer_over_source(alloc, last, asked, files, number),
         None => lacking_reply(alloc, asked.file.name.as_bytes(), asked.query),
     }
 }
@@ -88,7 +88,7 @@ fn lacking_reply(alloc: Global, name: &[u8], query: Query<&str>) -> Result<Reply
 }
 
 /// The reply to a query at a place of the source of a number.
-fn over_source(
+fn answer_over_source(
     alloc: Global,
     last: &mut Option<KeptProject>,
     asked: Asked<'_>,
@@ -102,7 +102,7 @@ fn over_source(
 {
     match open_project(alloc, last.take(), files) {
         Ok(kept) => {
-            let (kept, reply) = over_kept(alloc, asked, kept, number)?;
+            let (kept, reply) = answer_over_kept(alloc, asked, kept, number)?;
             *last = Some(kept);
             Ok(reply)
         }
@@ -111,7 +111,7 @@ fn over_source(
 }
 
 /// The reply to a query at a place of the source of a number, over a project, which is returned too.
-fn over_kept(
+fn answer_over_kept(
     alloc: Global,
     asked: Asked<'_>,
     kept: KeptProject,
@@ -123,12 +123,12 @@ fn over_kept(
     ensures plain { IfOk result (λ done. IsPlain done.1) }
 {
     let (files, project, resolved) = kept.into_parts();
-    let (project, reply) = over_project(alloc, asked, &files, project, &resolved, number)?;
+    let (project, reply) = answer_over_project(alloc, asked, &files, project, &resolved, number)?;
     Ok((KeptProject::from_parts(files, project, resolved), reply))
 }
 
 /// The same, over the files of the project.
-fn over_project(
+fn answer_over_project(
     alloc: Global,
     asked: Asked<'_>,
     files: &Files,
@@ -145,12 +145,12 @@ fn over_project(
 {
     let cuts = cut_sources(alloc, files.entries())?;
     let read = read_of(alloc, project, &cuts)?;
-    let reply = over_read(alloc, asked, files, &cuts, &read, resolved, number)?;
+    let reply = answer_over_read(alloc, asked, files, &cuts, &read, resolved, number)?;
     Ok((read.project, reply))
 }
 
 /// The same, over what the files are read as.
-fn over_read(
+fn answer_over_read(
     alloc: Global,
     asked: Asked<'_>,
     files: &Files,
@@ -182,7 +182,7 @@ fn over_read(
         scene,
         has_versions: asked.client.document_changes,
     };
-    at_position(alloc, around, number, asked.position, asked.query)
+    answer_at_position(alloc, around, number, asked.position, asked.query)
 }
 
 /// The reply to a query over files that are refused as a project.
@@ -224,7 +224,7 @@ fn counting_of(encoding: Encoding) -> Counting
 }
 
 /// The reply to a query at a position of the source of a number.
-fn at_position(
+fn answer_at_position(
     alloc: Global,
     around: Around<'_>,
     number: u32,
@@ -239,7 +239,7 @@ fn at_position(
     let cuts = around.scene.cuts;
     let cut = &cuts[number as usize];
     match offset_of(around.scene.counting, cut.bytes, position) {
-        Some(offset) => at_offset(alloc, around, cut, number, offset, query),
+        Some(offset) => answer_at_offset(alloc, around, cut, number, offset, query),
         None => bad_reply(alloc, b"the position names no character of the document"),
     }
 }
@@ -253,7 +253,7 @@ fn bad_reply(alloc: Global, text: &[u8]) -> Result<Reply, Memory>
 }
 
 /// The reply to a query at a byte of a source.
-fn at_offset(
+fn answer_at_offset(
     alloc: Global,
     around: Around<'_>,
     cut: &CutSource<'_>,

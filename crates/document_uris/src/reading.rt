@@ -43,7 +43,7 @@ fn written_path(uri: &[u8]) -> Option<&[u8]>
     if has_end(uri) {
         return None;
     }
-    behind_authority(behind_scheme(uri)?)
+    skip_authority(skip_scheme(uri)?)
 }
 
 /// Whether a URI has a query or a fragment.
@@ -54,7 +54,7 @@ fn has_end(uri: &[u8]) -> bool
 }
 
 /// What is behind the scheme `file:`, in any case.
-fn behind_scheme(uri: &[u8]) -> Option<&[u8]>
+fn skip_scheme(uri: &[u8]) -> Option<&[u8]>
     ensures { option_copied result ≡ behind_scheme uri.now }
 {
     let (scheme, rest) = uri.split_at_checked(SCHEME.len())?;
@@ -66,17 +66,17 @@ fn behind_scheme(uri: &[u8]) -> Option<&[u8]>
 }
 
 /// What is behind the first slash of a path that a host may be before.
-fn behind_authority(text: &[u8]) -> Option<&[u8]>
+fn skip_authority(text: &[u8]) -> Option<&[u8]>
     ensures { option_copied result ≡ behind_authority text.now }
 {
     match text {
-        [b'/', b'/', rest @ ..] => behind_host(rest),
-        _ => behind_slash(text),
+        [b'/', b'/', rest @ ..] => skip_host(rest),
+        _ => skip_slash(text),
     }
 }
 
 /// What is behind a host and its slash, if the host is this machine.
-fn behind_host(text: &[u8]) -> Option<&[u8]>
+fn skip_host(text: &[u8]) -> Option<&[u8]>
     ensures { option_copied result ≡ behind_host text.now }
 {
     let slash = first_slash(text)?;
@@ -103,7 +103,7 @@ fn is_local(host: &[u8]) -> bool
 }
 
 /// What is behind the first byte, if that is a slash.
-fn behind_slash(text: &[u8]) -> Option<&[u8]>
+fn skip_slash(text: &[u8]) -> Option<&[u8]>
     ensures { option_copied result ≡ behind_slash text.now }
 {
     match text {

@@ -155,12 +155,12 @@ fn path_message(alloc: Global, stop: PathStop, path: &[Name]) -> Result<Message,
 {
     match stop {
         PathStop::Lacks(step) => {
-            let name = path_up_to(alloc, path, step)?;
-            let text = join_words(alloc, &[lacking(step), name.as_slice(), b"`"])?;
+            let name = write_path_up_to(alloc, path, step)?;
+            let text = join_words(alloc, &[name_step(step), name.as_slice(), b"`"])?;
             explain_nameless(alloc, text)
         }
         PathStop::NoStructure(step) => {
-            let name = path_up_to(alloc, path, step)?;
+            let name = write_path_up_to(alloc, path, step)?;
             let end = b"` is no structure or signature";
             let text = join_words(alloc, &[b"`", name.as_slice(), end])?;
             explain_nameless(alloc, text)
@@ -170,7 +170,7 @@ fn path_message(alloc: Global, stop: PathStop, path: &[Name]) -> Result<Message,
 }
 
 /// What is missing: the first step of a path is a unit, and each later one a module.
-fn lacking(step: usize) -> &'static [u8]
+fn name_step(step: usize) -> &'static [u8]
     ensures { result.now ≡ lacking_of step }
 {
     if step == 0 {
@@ -181,15 +181,15 @@ fn lacking(step: usize) -> &'static [u8]
 }
 
 /// The names of a path up to a step.
-fn path_up_to(alloc: Global, path: &[Name], step: usize) -> Result<Row<u8>, Memory>
+fn write_path_up_to(alloc: Global, path: &[Name], step: usize) -> Result<Row<u8>, Memory>
     ensures { IfOk result (λ text. text ≡ path_up_to_of step path.now) }
 {
-    let name = dotted_words(alloc, up_to(path, step))?;
+    let name = dotted_words(alloc, take_steps(path, step))?;
     shown_word(alloc, name.as_slice())
 }
 
 /// The steps of a path up to one.
-fn up_to(path: &[Name], step: usize) -> &[Name]
+fn take_steps(path: &[Name], step: usize) -> &[Name]
     ensures { result.now ≡ take (step + 1) path.now }
 {
     if step < path.len() {

@@ -10,7 +10,7 @@ ghost use Rattle.refusal_words.specs.Cut.{view_cut};
 ghost use Rattle.cli_words.specs.Target.{target_of};
 ghost use Rattle.explain_at.specs.At.{IsRejected, SaysAt, SaysOver, SaysTarget, no_place as no_place_of};
 
-use crate::place::refused_at;
+use crate::place::refuse_at;
 use crate::spot::spot_told;
 use cli_words::read_target;
 use explain::{Told, explain_check};
@@ -89,7 +89,7 @@ fn word_told(
             let here = Position { line, column };
             spot_told(alloc, project, facts, sources, cuts, file.as_bytes(), here)
         }
-        Target::At { .. } | Target::Dotted(_) => refused_at(alloc, no_place(alloc, word)?),
+        Target::At { .. } | Target::Dotted(_) => refuse_at(alloc, no_place(alloc, word)?),
     }
 }
 

@@ -33,12 +33,12 @@ pub(crate) fn place_told(
 {
     match value_at(alloc, project, facts, place)? {
         ValueAt::Value(declared) => target_told(alloc, cuts, declared),
-        found => refused_at(alloc, explain_valueless(alloc, cuts, place, found)?),
+        found => refuse_at(alloc, explain_valueless(alloc, cuts, place, found)?),
     }
 }
 
 /// What is said of a place that has no target.
-pub(crate) fn refused_at(alloc: Global, message: Message) -> Result<Told, Memory>
+pub(crate) fn refuse_at(alloc: Global, message: Message) -> Result<Told, Memory>
     ensures { IfOk result (λ told. told ≡ refused_at_of message) }
 {
     maybe_told(alloc, Ending::Refused, Some(message))

@@ -7,7 +7,7 @@ ghost use Rattle.binding_model.specs.Facts.{facts as facts_of};
 ghost use Rattle.refusal_words.specs.Cut.{view_cut};
 ghost use Rattle.explain_at.specs.At.{SaysCut, SaysSpot};
 
-use crate::place::{place_told, refused_at};
+use crate::place::{place_told, refuse_at};
 use explain::Told;
 use ml_trees::Project;
 use refusal_words::{CutSource, explain_nameless, no_line, no_source, no_token_at};
@@ -36,7 +36,7 @@ pub(crate) fn spot_told(
 {
     match number_of(sources, file) {
         Some(number) => cut_told(alloc, project, facts, cuts, number, here),
-        None => refused_at(alloc, explain_nameless(alloc, no_source(alloc, file)?)?),
+        None => refuse_at(alloc, explain_nameless(alloc, no_source(alloc, file)?)?),
     }
 }
 
@@ -58,11 +58,11 @@ fn cut_told(
     let cut = &cuts[number as usize];
     let Some(offset) = offset_of(Counting::People, cut.bytes, here) else {
         let sentence = no_line(alloc, cut.name, here.line)?;
-        return refused_at(alloc, explain_nameless(alloc, sentence)?);
+        return refuse_at(alloc, explain_nameless(alloc, sentence)?);
     };
     let Some(token) = token_at(&cut.tokens, offset) else {
         let sentence = no_token_at(alloc, cut.name, here.line, here.column)?;
-        return refused_at(alloc, explain_nameless(alloc, sentence)?);
+        return refuse_at(alloc, explain_nameless(alloc, sentence)?);
     };
     let place = Place {
         file: number,

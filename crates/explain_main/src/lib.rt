@@ -9,4 +9,4 @@ mod words;
 pub use code::ExitStatus;
 pub use host::run;
 pub use told::explain_words;
-pub use words::{Asked, FilesQuestion, Question, asked_of};
+pub use words::{Asked, FilesQuestion, Question, read_asked};

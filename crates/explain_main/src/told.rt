@@ -8,7 +8,7 @@ ghost use Rattle.explain_main.specs.Said.{IsAnswered, IsPrinted, IsSaid, IsStopp
 ghost use Rattle.explain_main.specs.Words.{asked_in};
 
 use crate::code::ExitStatus;
-use crate::words::{Asked, FilesQuestion, Question, asked_of};
+use crate::words::{Asked, FilesQuestion, Question, read_asked};
 use cli_words::WordsError;
 use explain::{
     Ending, Told, explain_check, explain_footprint, explain_rename, told_text, unloaded_told,
@@ -37,7 +37,7 @@ pub fn explain_words<T: Tree, S: Sink>(
     ensures tree_fault { result ≡ ExitStatus.TreeFault → Rose (T.faults tree.old) (T.faults tree.new) }
     ensures sink_fault { result ≡ ExitStatus.SinkFault → Rose (S.faults out.old) (S.faults out.new) }
 {
-    match asked_of(alloc, words) {
+    match read_asked(alloc, words) {
         Err(WordsError::Usage) => ExitStatus::Usage,
         Err(WordsError::Memory) => ExitStatus::Memory,
         Ok(asked) => answer(alloc, &asked, tree, out),

@@ -45,19 +45,19 @@ pub enum FilesQuestion {
 /// # Errors
 ///
 /// `Usage` exactly if the words have none of the forms, and `Memory`, which is always possible.
-pub fn asked_of(alloc: Global, words: &[String]) -> Result<Asked, WordsError>
+pub fn read_asked(alloc: Global, words: &[String]) -> Result<Asked, WordsError>
     ensures ok { IfOk result (λ asked. asked_in words.now ≡ Some asked) }
     ensures usage { result ≡ Err WordsError.Usage → asked_in words.now ≡ None }
 {
     if ends_with_json(words) {
-        asked_as(alloc, &words[..words.len().saturating_sub(1)], true)
+        read_question(alloc, &words[..words.len().saturating_sub(1)], true)
     } else {
-        asked_as(alloc, words, false)
+        read_question(alloc, words, false)
     }
 }
 
 /// What the words before `--json` ask.
-fn asked_as(alloc: Global, words: &[String], as_json: bool) -> Result<Asked, WordsError>
+fn read_question(alloc: Global, words: &[String], as_json: bool) -> Result<Asked, WordsError>
     ensures ok { IfOk result (λ asked. asked_as_of as_json words.now ≡ Some asked) }
     ensures usage { result ≡ Err WordsError.Usage → asked_as_of as_json words.now ≡ None }
 {
@@ -66,7 +66,7 @@ fn asked_as(alloc: Global, words: &[String], as_json: bool) -> Result<Asked, Wor
             question: Question::Files(FilesQuestion::At(text_from(alloc, place)?)),
             as_json,
         }),
-        None => told_as(read_words(alloc, words)?, as_json),
+        None => ask_command(read_words(alloc, words)?, as_json),
     }
 }
 
@@ -112,7 +112,7 @@ fn ends_with_json(words: &[String]) -> bool
 }
 
 /// What a command of `rotor` asks.
-fn told_as(command: Command, as_json: bool) -> Result<Asked, WordsError>
+fn ask_command(command: Command, as_json: bool) -> Result<Asked, WordsError>
     ensures ok { IfOk result (λ asked. asked_for as_json (Some command) ≡ Some asked) }
     ensures usage { result ≡ Err WordsError.Usage → asked_for as_json (Some command) ≡ None }
 {
@@ -135,16 +135,16 @@ fn find_question(command: Command) -> Option<Question>
             write,
             safe,
             json,
-        } => renaming(target, name, write || safe || json),
+        } => ask_renaming(target, name, write || safe || json),
         Command::Sample(_) => None,
         Command::Verify { old, new } => Some(Question::Verify { old, new }),
-        Command::Batch { file, write } => batch(file, write),
+        Command::Batch { file, write } => ask_batch(file, write),
         Command::Recover => Some(Question::Recover),
     }
 }
 
 /// The question of a renaming, if it has no flag.
-fn renaming(target: Target, name: Name, has_flag: bool) -> Option<Question>
+fn ask_renaming(target: Target, name: Name, has_flag: bool) -> Option<Question>
     ensures { result ≡ renaming_of target name has_flag }
 {
     if has_flag {
@@ -155,7 +155,7 @@ fn renaming(target: Target, name: Name, has_flag: bool) -> Option<Question>
 }
 
 /// The question of a batch, if it does not write.
-fn batch(file: Text, write: bool) -> Option<Question>
+fn ask_batch(file: Text, write: bool) -> Option<Question>
     ensures { result ≡ batch_of file write }
 {
     if write {

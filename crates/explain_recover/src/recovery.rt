@@ -54,13 +54,13 @@ fn lost_told(alloc: Global) -> Result<Told, Memory>
 fn recovered_told(alloc: Global, writes: &[SourceFile]) -> Result<Told, Memory>
     ensures { IfOk result (λ told. (files : List SourceFile) → writes.now ≡ plan_writes files → told ≡ bare_told_of Ending.Done (recovery_text_of files)) }
 {
-    let files = without_last(writes);
+    let files = drop_last(writes);
     let text = recovery_text(alloc, files)?;
     Ok(bare_told(alloc, Ending::Done, text))
 }
 
 /// All files but the last.
-fn without_last(files: &[SourceFile]) -> &[SourceFile]
+fn drop_last(files: &[SourceFile]) -> &[SourceFile]
     ensures { (front : List SourceFile) → (last : SourceFile) → files.now ≡ front ++ last ∷ [] → result.now ≡ front }
 {
     match files {

@@ -88,7 +88,7 @@ impl<'a, R: Files<File = File>> Disk for FolderDisk<'a, R> {
     }
 
     /// The lock for a writer is never taken.
-    fn own(&mut self) -> io::Result<bool> {
+    fn lock_alone(&mut self) -> io::Result<bool> {
         Ok(false)
     }
 

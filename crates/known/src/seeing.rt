@@ -93,7 +93,7 @@ impl<T: Outer + Drop> Seeing<T> {
     }
 
     /// What was seen so far.
-    pub fn seen(&self) -> &Seen
+    pub fn recall(&self) -> &Seen
         ensures { result.now ≡ self.now.seen }
     {
         &self.seen

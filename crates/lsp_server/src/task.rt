@@ -57,7 +57,7 @@ fn respond(alloc: Global, id: Option<Id<&str>>, reply: Reply) -> Result<Turn, Me
     ensures open { IfOk result (λ turn. turn.status ≡ None) }
 {
     match said_text(alloc, id, reply) {
-        Ok(text) => Ok(going_on(text)),
+        Ok(text) => Ok(go_on(text)),
         Err(_) => starve(alloc, id),
     }
 }
@@ -81,7 +81,7 @@ fn answer<A: Answers>(
         return starve(alloc, Some(id));
     };
     match answered_text(alloc, Some(id), &reply) {
-        Ok(text) => Ok(going_on(text)),
+        Ok(text) => Ok(go_on(text)),
         Err(_) => starve(alloc, Some(id)),
     }
 }
@@ -103,11 +103,11 @@ pub(crate) fn starve(alloc: Global, id: Option<Id<&str>>) -> Result<Turn, Memory
     ensures open { IfOk result (λ turn. turn.status ≡ None) }
 {
     let text = failed_text(alloc, id, ErrorCode::Internal, "out of memory")?;
-    Ok(going_on(text))
+    Ok(go_on(text))
 }
 
 /// The turn of a response behind which the session goes on.
-fn going_on(text: Vec<u8>) -> Turn
+fn go_on(text: Vec<u8>) -> Turn
     ensures response { one_text result.response ≡ text.items ∷ [] }
     ensures open { result.status ≡ None }
 {

@@ -125,13 +125,13 @@ fn blanks_under(alloc: Global, head: &[char]) -> Result<Vec<u8>, Memory>
 {
     Ok(
         head.iter()
-            .map(|character| padding(*character))
+            .map(|character| pad_under(*character))
             .collect(alloc)?,
     )
 }
 
 /// What is under a character.
-fn padding(character: char) -> u8
+fn pad_under(character: char) -> u8
     ensures { result ≡ padding character }
 {
     if character == '\t' { b'\t' } else { b' ' }

@@ -30,7 +30,7 @@ pub fn spot_in(
         column: here.column,
         width: end.saturating_sub(start),
         before: Row::from_vec(front_of_line(before, behind).to_vec(alloc)?),
-        behind: Row::from_vec(without_return(behind).to_vec(alloc)?),
+        behind: Row::from_vec(trim_return(behind).to_vec(alloc)?),
     })
 }
 
@@ -82,7 +82,7 @@ fn first_feed(bytes: &[u8]) -> Option<usize>
 }
 
 /// The part of a line behind a place, without the CR that ends the line.
-fn without_return(behind: &[u8]) -> &[u8]
+fn trim_return(behind: &[u8]) -> &[u8]
     ensures { result.now ≡ strip_carriage_return behind.now }
 {
     match behind {
@@ -96,7 +96,7 @@ fn front_of_line<'a>(before: &'a [u8], behind: &[u8]) -> &'a [u8]
     ensures { result.now ≡ front_of_line before.entry.now behind.now }
 {
     if behind.is_empty() {
-        without_return(before)
+        trim_return(before)
     } else {
         before
     }

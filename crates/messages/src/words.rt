@@ -49,11 +49,11 @@ pub fn format_count(alloc: Global, number: u64, word: &str) -> Result<Row<u8>, M
     ensures { IfOk result (λ text. text ≡ counted_of number word.now) }
 {
     let digits = group_digits(alloc, number)?;
-    with_ending(alloc, digits.as_slice(), word, ending(number))
+    add_ending(alloc, digits.as_slice(), word, choose_ending(number))
 }
 
 /// A number, a word and its ending.
-fn with_ending<'a>(
+fn add_ending<'a>(
     alloc: Global,
     number: &'a [u8],
     word: &'a str,
@@ -65,7 +65,7 @@ fn with_ending<'a>(
 }
 
 /// The ending of the word for a number of things.
-fn ending(number: u64) -> &'static str
+fn choose_ending(number: u64) -> &'static str
     ensures { result.now ≡ cond (number == 1) [] (codes "s") }
 {
     if number == 1 { "" } else { "s" }

@@ -28,7 +28,7 @@ pub(crate) fn add_applications(
             file,
             token: number,
         };
-        push_application(alloc, found, at, applied_to(before, token, behind))?;
+        push_application(alloc, found, at, find_argument(before, token, behind))?;
         before = token.bytes;
         number += 1;
         rest = behind;
@@ -56,7 +56,7 @@ fn push_application(
 
 /// The last name of the argument of a token, by the word before it and the tokens behind it, if it is a functor that is
 /// applied in a type.
-fn applied_to<'a>(before: &[u8], token: &Token<'a>, behind: &[Token<'a>]) -> Option<&'a [u8]>
+fn find_argument<'a>(before: &[u8], token: &Token<'a>, behind: &[Token<'a>]) -> Option<&'a [u8]>
     ensures { option_copied result ≡ applied_to_of before.now (view_token token.now) (view_tokens behind.now) }
 {
     if is_upper(token) && !begins_module(before) {

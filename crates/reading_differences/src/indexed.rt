@@ -121,13 +121,13 @@ fn declares_source(form: Indexed, sources: &[Vec<Token<'_>>], file: u32) -> bool
     ensures { result ≡ declared_in_of form (lexemes_of (map (λ list. view_tokens list.items) sources.now) file) }
 {
     match sources.get(file as usize) {
-        Some(tokens) => declared_in(form, tokens),
+        Some(tokens) => is_declared_in(form, tokens),
         None => false,
     }
 }
 
 /// Whether some tokens declare the form's module.
-fn declared_in(form: Indexed, tokens: &[Token<'_>]) -> bool
+fn is_declared_in(form: Indexed, tokens: &[Token<'_>]) -> bool
     ensures { result ≡ declared_in_of form (view_tokens tokens.now) }
 {
     let mut rest = tokens;

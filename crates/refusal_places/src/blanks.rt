@@ -62,7 +62,7 @@ fn place_between(tokens: &[Token<'_>], name: &[u8], low: usize, high: usize) -> 
     ensures after { low < result }
     ensures before { result < high }
 {
-    let named = named_between(tokens, name, low, high);
+    let named = search_name(tokens, name, low, high);
     if low < named && named < high {
         named
     } else {
@@ -71,7 +71,7 @@ fn place_between(tokens: &[Token<'_>], name: &[u8], low: usize, high: usize) -> 
 }
 
 /// A place by a token of this name between two others: at first the first one, then one in the middle.
-fn named_between(tokens: &[Token<'_>], name: &[u8], low: usize, high: usize) -> usize {
+fn search_name(tokens: &[Token<'_>], name: &[u8], low: usize, high: usize) -> usize {
     let count = tokens
         .iter()
         .skip(low)

@@ -25,7 +25,7 @@ pub fn unread_message(alloc: Global, cut: &CutSource<'_>) -> Result<Message, Mem
     let front = front_of(alloc, &cut.tokens, kind)?;
     let stop = stop_of(alloc, &cut.tokens, kind, front)?;
     let ends = ends_inside(alloc, &cut.tokens, kind, stop)?;
-    unread_at(alloc, cut, front, stop, ends)
+    explain_stop(alloc, cut, front, stop, ends)
 }
 
 /// What a source is, by the ending of its name.
@@ -41,7 +41,7 @@ pub(crate) fn kind_of(name: &[u8]) -> FileKind
 
 /// The message of a source whose item at the front is not read, by the place where the reading stops, and whether the
 /// file ends inside the item.
-fn unread_at(
+fn explain_stop(
     alloc: Global,
     cut: &CutSource<'_>,
     front: usize,
@@ -50,7 +50,7 @@ fn unread_at(
 ) -> Result<Message, Memory>
     ensures { IfOk result (λ message. message ≡ unread_at_of (view_cut cut.now) front stop ends) }
 {
-    let at = told_at(cut, stop, ends);
+    let at = choose_place(cut, stop, ends);
     let text = Row::from_vec(sentence(ends).as_bytes().to_vec(alloc)?);
     let spot = lexeme_spot(alloc, cut, at)?;
     let notes = begun_notes(alloc, cut, front, at)?;
@@ -66,7 +66,7 @@ fn unread_at(
 }
 
 /// The place that the message is about.
-fn told_at(cut: &CutSource<'_>, stop: usize, ends: bool) -> usize
+fn choose_place(cut: &CutSource<'_>, stop: usize, ends: bool) -> usize
     ensures { result ≡ told_at_of (view_cut cut.now) stop ends }
 {
     if ends {
@@ -123,13 +123,13 @@ fn advice(alloc: Global, cut: &CutSource<'_>, front: usize, stop: usize) -> Resu
     ensures { IfOk result (λ text. text ≡ advice_of (form_near_of (view_cut cut.now).lexemes front stop)) }
 {
     match form_near(&cut.tokens, front, stop) {
-        Some(form) => not_read(alloc, form),
+        Some(form) => say_not_read(alloc, form),
         None => usual_advice(alloc),
     }
 }
 
 /// That a form is not read.
-fn not_read(alloc: Global, form: &str) -> Result<Row<u8>, Memory>
+fn say_not_read(alloc: Global, form: &str) -> Result<Row<u8>, Memory>
     ensures { IfOk result (λ text. text ≡ advice_of (Some form.now)) }
 {
     join_words(alloc, &[form.as_bytes(), b" is not read"])

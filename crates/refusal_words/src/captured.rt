@@ -135,7 +135,7 @@ fn explain_captured(
 }
 
 /// A text, the place of a token, and a text behind it.
-fn of_place<'a>(
+fn name_place<'a>(
     alloc: Global,
     cuts: &[CutSource<'_>],
     before: &'a str,
@@ -163,7 +163,7 @@ fn meaning_text(alloc: Global, cuts: &[CutSource<'_>], goal: Goal) -> Result<Row
         Goal::Hidden => text(alloc, "means a hidden value"),
         Goal::Blur { by, .. } => {
             let begin = "may mean a value of the module opened at ";
-            of_place(alloc, cuts, begin, by, "")
+            name_place(alloc, cuts, begin, by, "")
         }
     }
 }
@@ -301,7 +301,7 @@ fn link_text<'a>(
         Goal::Hidden => text(alloc, "hidden by a later item of its name"),
         Goal::Blur { by, .. } => {
             let begin = "matched with what the module opened or included at ";
-            of_place(alloc, cuts, begin, by, " brings")
+            name_place(alloc, cuts, begin, by, " brings")
         }
     }
 }

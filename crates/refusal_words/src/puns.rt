@@ -135,14 +135,14 @@ fn pun_help(alloc: Global, pun: Pun, word: &[u8]) -> Result<Row<u8>, Memory>
     ensures { IfOk result (λ text. text ≡ pun_help_of pun word.now) }
 {
     match pun {
-        Pun::Label(mark) => written_for(alloc, word, mark_text(mark), ":", ""),
-        Pun::Argument(mark) => written_for(alloc, word, mark_text(mark), ":(", "("),
-        Pun::Field => written_for(alloc, word, "", " = ", ""),
+        Pun::Label(mark) => suggest_words(alloc, word, mark_text(mark), ":", ""),
+        Pun::Argument(mark) => suggest_words(alloc, word, mark_text(mark), ":(", "("),
+        Pun::Field => suggest_words(alloc, word, "", " = ", ""),
     }
 }
 
 /// The help to write a word twice with its mark and a text between, in place of once behind the mark and an opening.
-fn written_for<'a>(
+fn suggest_words<'a>(
     alloc: Global,
     word: &'a [u8],
     mark: &'a str,

@@ -77,30 +77,30 @@ fn request_for(method: Method, message: &Value) -> Option<Request<&str>>
             Some(Request::Initialize(client))
         }
         Method::Shutdown => Some(Request::Shutdown),
-        Method::PrepareRename => asked_there(message, Query::PrepareRename),
+        Method::PrepareRename => place_query(message, Query::PrepareRename),
         Method::Rename => {
             let name = name_of(message);
-            asked_there(message, Query::Rename { name })
+            place_query(message, Query::Rename { name })
         }
         Method::References => {
             let with_declarations = declarations_of(message);
-            asked_there(message, Query::References { with_declarations })
+            place_query(message, Query::References { with_declarations })
         }
-        Method::Definition => asked_there(message, Query::Definition),
-        Method::DocumentHighlight => asked_there(message, Query::DocumentHighlight),
+        Method::Definition => place_query(message, Query::Definition),
+        Method::DocumentHighlight => place_query(message, Query::DocumentHighlight),
     }
 }
 
 /// A query at the place that a request names; `None` if it names none.
-fn asked_there<'a>(message: &'a Value, query: Query<&'a str>) -> Option<Request<&'a str>>
+fn place_query<'a>(message: &'a Value, query: Query<&'a str>) -> Option<Request<&'a str>>
     ensures { option_map request_words result ≡ asked_there (view message.now) (query_words query.entry) }
 {
-    let spot = asked_spot(message)?;
+    let spot = read_spot(message)?;
     Some(Request::Document { spot, query })
 }
 
 /// The place that a request names.
-fn asked_spot(message: &Value) -> Option<Spot<&str>>
+fn read_spot(message: &Value) -> Option<Spot<&str>>
     ensures { option_map spot_words result ≡ asked_spot (view message.now) }
 {
     spot_of(message.get("params")?)

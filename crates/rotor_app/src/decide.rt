@@ -73,7 +73,7 @@ fn reply_to<T: Tree>(alloc: Global, command: &Command, tree: &mut T) -> Result<R
             safe,
             json,
         } => {
-            let writing = Writing::of_flags(*write, *safe);
+            let writing = Writing::from_flags(*write, *safe);
             reply_to_rename(alloc, target, name, writing, *json, tree)
         }
         Command::Sample(units) => Ok(reply_to_sample(alloc, *units)?),

@@ -16,7 +16,7 @@ impl Writing {
     ghost use Rattle.rotor_app.specs.Writing.{is_writing, writing_of};
 
     /// How `rename` with these flags writes. No words have both.
-    pub fn of_flags(write: bool, safe: bool) -> Self
+    pub fn from_flags(write: bool, safe: bool) -> Self
         ensures { result ≡ writing_of write safe }
     {
         if safe {

@@ -129,7 +129,7 @@ fn see_batch<T: Outer + Drop>(
 ) -> Result<(), TreeError>
     ensures { T.content (seeing_tree seeing.new) ≡ T.content (seeing_tree seeing.old) }
 {
-    if is_project_file(file) || !seeing.seen().has(file) {
+    if is_project_file(file) || !seeing.recall().has(file) {
         return Ok(());
     }
     match seeing.read(alloc, file, BATCH_LIMIT) {

@@ -107,7 +107,7 @@ pub fn position_of(counting: Counting, bytes: &[u8], offset: u32) -> Position
     match counting {
         Counting::People => people_position(bytes, offset),
         Counting::Utf16 | Counting::Utf8 => {
-            forward(counting, bytes, start_of(counting), offset).here
+            go_forward(counting, bytes, start_of(counting), offset).here
         }
     }
 }
@@ -126,14 +126,14 @@ pub fn positions_of(
     let mut positions = Vec::new(alloc);
     let mut stop = start_of(counting);
     for offset in offsets {
-        stop = forward(counting, bytes, stop, *offset);
+        stop = go_forward(counting, bytes, stop, *offset);
         positions.push(stop.here)?;
     }
     Ok(positions)
 }
 
 /// The last stop, from one on, that is not behind an offset.
-fn forward(counting: Counting, bytes: &[u8], start: Stop, offset: u32) -> Stop
+fn go_forward(counting: Counting, bytes: &[u8], start: Stop, offset: u32) -> Stop
     requires room { length bytes.now + 1 < 2 ^ 32 }
     requires start { IsWithin bytes.now start }
     requires before { start.at ≤ offset }

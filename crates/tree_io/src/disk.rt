@@ -63,7 +63,7 @@ pub trait Disk {
     fn share(&mut self) -> io::Result<bool>;
 
     /// Takes the lock of the folder for a writer, which it keeps. `false`: another run has a lock.
-    fn own(&mut self) -> io::Result<bool>;
+    fn lock_alone(&mut self) -> io::Result<bool>;
 
     /// Opens the listing of the folder.
     fn names(&mut self) -> io::Result<Self::Names>;

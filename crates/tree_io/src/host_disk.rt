@@ -60,7 +60,7 @@ impl<'a, R: Files<File = File>> Disk for HostDisk<'a, R> {
         Ok(is_shared)
     }
 
-    fn own(&mut self) -> io::Result<bool> {
+    fn lock_alone(&mut self) -> io::Result<bool> {
         if self.is_owned {
             return Ok(true);
         }

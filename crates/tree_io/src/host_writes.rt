@@ -7,7 +7,7 @@ use rotor_base::Failed;
 
 /// Whether this run alone has the folder's lock.
 pub(crate) fn is_owned<D: Disk>(disk: &mut D) -> bool {
-    matches!(disk.own(), Ok(true))
+    matches!(disk.lock_alone(), Ok(true))
 }
 
 /// Whether a write to this name may begin: nothing is there, or a regular file with no other name, no link, that can be

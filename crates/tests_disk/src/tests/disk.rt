@@ -145,7 +145,7 @@ impl Disk for TestDisk {
         Ok(!self.setting.is_locked)
     }
 
-    fn own(&mut self) -> io::Result<bool> {
+    fn lock_alone(&mut self) -> io::Result<bool> {
         self.call(Call::Own)?;
         Ok(!self.setting.is_locked)
     }

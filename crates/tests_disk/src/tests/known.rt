@@ -58,7 +58,7 @@ impl Disk for KnownDisk {
         Ok(true)
     }
 
-    fn own(&mut self) -> io::Result<bool> {
+    fn lock_alone(&mut self) -> io::Result<bool> {
         Ok(true)
     }
 

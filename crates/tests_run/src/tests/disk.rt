@@ -120,7 +120,7 @@ impl<'a> Disk for NamedDisk<'a> {
         Ok(true)
     }
 
-    fn own(&mut self) -> io::Result<bool> {
+    fn lock_alone(&mut self) -> io::Result<bool> {
         self.calls.add();
         Ok(true)
     }

@@ -9,16 +9,16 @@ pub returns-in_default : goal.returns-in_default
 returns-in_default c =
     said_past (view_project c.args.project.now) (map view_cut c.args.cuts.now) c.args.number (view_cut c.index-cuts-number.result) c.args.here
     (cut_there c.args.cuts.now c.args.number c.index-cuts-number.result c.requires.within c.index-cuts-number.is)
-    c.in_ok-sentence.sentence c.in_ok-explain_nameless.field-0 c.refused_at.result (sym c.offset_of.ensures ∙ c.in_default.is) c.in_ok-sentence.ensures
-    c.in_ok-explain_nameless.ensures c.refused_at.ensures
+    c.in_ok-sentence.sentence c.in_ok-explain_nameless.field-0 c.refuse_at.result (sym c.offset_of.ensures ∙ c.in_default.is) c.in_ok-sentence.ensures
+    c.in_ok-explain_nameless.ensures c.refuse_at.ensures
 
 pub returns-in_default-token_at : goal.returns-in_default-token_at
 returns-in_default-token_at c =
     said_between (view_project c.args.project.now) (map view_cut c.args.cuts.now) c.args.number (view_cut c.index-cuts-number.result) c.args.here
     (cut_there c.args.cuts.now c.args.number c.index-cuts-number.result c.requires.within c.index-cuts-number.is) c.in-Some.offset
-    c.in_ok-sentence-2.sentence c.in_ok-explain_nameless-2.field-0 c.refused_at-in_default-token_at.result (sym c.offset_of.ensures ∙ c.in-Some.is)
+    c.in_ok-sentence-2.sentence c.in_ok-explain_nameless-2.field-0 c.refuse_at-in_default-token_at.result (sym c.offset_of.ensures ∙ c.in-Some.is)
     (token_there c.in-Some.offset c.deref.result.now _ c.token_at.result _ c.deref.ensures.value c.token_at.ensures c.in_default-token_at.is)
-    c.in_ok-sentence-2.ensures c.in_ok-explain_nameless-2.ensures c.refused_at-in_default-token_at.ensures
+    c.in_ok-sentence-2.ensures c.in_ok-explain_nameless-2.ensures c.refuse_at-in_default-token_at.ensures
 
 pub returns : goal.returns
 returns c =

@@ -10,4 +10,4 @@ returns-in-Ok-answered_text-clause-response g c =
     answered c.client_of-client.result c.in-Ok.reply (sym c.state.ensures ∙ c.client_of-client.ensures)
     (subst (λ (w : Workspace). g.A.Answers.replies (g.A.Answers.content c.args.answers.now) c.client_of-client.result w (spot_words c.args.spot)
     (query_words c.args.query) c.in-Ok.reply) c.workspace.ensures c.in-Ok.ensures.reply)
-    (c.going_on.ensures.response ∙ ap (λ (t : List ℕ). t ∷ []) c.in-Ok-answered_text.ensures)
+    (c.go_on.ensures.response ∙ ap (λ (t : List ℕ). t ∷ []) c.in-Ok-answered_text.ensures)

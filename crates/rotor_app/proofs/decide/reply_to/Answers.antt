@@ -29,7 +29,7 @@ returns-in-Rename-clause-said g c =
     says_as (g.T.Tree.content c.args.tree.now) c.reply_to_rename.result c.args.command.now
     (Rename c.in-Rename.target c.in-Rename.name c.in-Rename.write c.in-Rename.safe c.in-Rename.json) c.in-Rename.is
     (subst (λ (w : Writing). IfOk c.reply_to_rename.result (λ reply. IfSome (g.T.Tree.content c.args.tree.now)
-    (λ held. SaysRename c.in-Rename.target c.in-Rename.name w c.in-Rename.json held reply))) c.of_flags-writing.ensures
+    (λ held. SaysRename c.in-Rename.target c.in-Rename.name w c.in-Rename.json held reply))) c.from_flags-writing.ensures
     c.reply_to_rename.ensures.said)
 
 pub returns-in-Verify-clause-said : goal.returns-in-Verify-clause-said

@@ -17,7 +17,7 @@ returns-in-Files-clause-reply g c =
     let same = c.in_ok-folder.ensures ∙ ap (g.F.Folders.content c.args.self.now.folders) c.as_str.ensures.value in
     let is = subst (λ (o : OpenFolder). IsOpenFolder there held o) c.in-Files.is
     (subst (λ (k : Option FileMap). IsOpenFolder k held c.in_ok-opened.opened) same c.in_ok-opened.ensures) in
-    IfOk-weaker c.over_files.result _ _ (λ reply h. project c.in-Files.files c.requires is h) c.over_files.ensures.reply
+    IfOk-weaker c.answer_over_files.result _ _ (λ reply h. project c.in-Files.files c.requires is h) c.answer_over_files.ensures.reply
 
 pub returns-in-Unread-clause-reply : goal.returns-in-Unread-clause-reply
 returns-in-Unread-clause-reply g c = IfOk-weaker c.unread_reply.result _ _ (λ reply h. unread c.requires h) c.unread_reply.ensures.reply

@@ -2,7 +2,7 @@ use Rattle.std.proofs.Common.{◌+◌, ℕ, Bool, List, Option, None, Some, cond
 use Rattle.std.specs.Option.{option_and_then, option_copied}
 use Rattle.std.proofs.lemmas.List.{take_rest}
 use Rattle.document_uris.specs.Uris.{behind_host, is_local}
-use Rattle.document_uris.proofs.reading.behind_host.Goals as goal
+use Rattle.document_uris.proofs.reading.skip_host.Goals as goal
 
 -- what is behind a slash at this position
 abbrev behind : List ℕ → ℕ → Option (List ℕ)

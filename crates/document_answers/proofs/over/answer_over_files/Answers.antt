@@ -6,7 +6,7 @@ use Rattle.rename_model.specs.Target.{number_of}
 use Rattle.rotor_base.specs.declared.source.SourceFile.{SourceFile}
 use Rattle.document_answers.specs.Over.{lacking}
 use Rattle.document_answers.specs.Refused.{IsRefusedAs, lacking_text}
-use Rattle.document_answers.proofs.over.over_files.Goals as goal
+use Rattle.document_answers.proofs.over.answer_over_files.Goals as goal
 
 -- the number that is found is that of the name among the files
 found_among : (sources entries : List SourceFile) (bytes name : Word) (found given : Option ℕ) → sources ≡ entries → bytes ≡ name
@@ -14,13 +14,13 @@ found_among : (sources entries : List SourceFile) (bytes name : Word) (found giv
 found_among sources entries bytes name found given same is number e =
     ap (λ (w : Word). number_of entries w) (sym is) ∙ ap (λ (s : List SourceFile). number_of s bytes) (sym same) ∙ sym number ∙ e
 
-pub over_source-requires-clause-number : goal.over_source-requires-clause-number
-over_source-requires-clause-number c =
+pub answer_over_source-requires-clause-number : goal.answer_over_source-requires-clause-number
+answer_over_source-requires-clause-number c =
     found_among c.entries.result.now c.args.files.entries c.as_bytes.result.now (string_bytes c.args.asked.file.now.name) c.number_of.result
     (Some c.in-Some.number) c.entries.ensures.entries c.as_bytes.ensures.value c.number_of.ensures.found c.in-Some.is
 
-pub over_source-requires-clause-within : goal.over_source-requires-clause-within
-over_source-requires-clause-within c =
+pub answer_over_source-requires-clause-within : goal.answer_over_source-requires-clause-within
+answer_over_source-requires-clause-within c =
     subst (λ (s : List SourceFile). c.in-Some.number < length s) c.entries.ensures.entries c.in-Some.ensures.within
 
 pub returns-in-None-clause-reply : goal.returns-in-None-clause-reply

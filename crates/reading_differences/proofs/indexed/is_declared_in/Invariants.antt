@@ -1,7 +1,7 @@
 use Rattle.std.proofs.Common.{◌≡◌, length, map}
 use Rattle.ml_lexer.specs.Lexed.{view_token}
 use Rattle.reading_differences.specs.Indexed.{declared_in}
-use Rattle.reading_differences.proofs.indexed.declared_in.Given as goal
+use Rattle.reading_differences.proofs.indexed.is_declared_in.Given as goal
 
 -- what is left decides
 abbrev pub invariant-loop-rest : goal.invariant-loop-rest

@@ -3,7 +3,7 @@ use Rattle.std.specs.Option.{option_copied}
 use Rattle.std.proofs.lemmas.List.{length-take}
 use Rattle.document_uris.specs.Uris.{behind_scheme, is_same_word}
 use Rattle.document_uris.proofs.Words.{other_word, same_word}
-use Rattle.document_uris.proofs.reading.behind_scheme.Goals as goal
+use Rattle.document_uris.proofs.reading.skip_scheme.Goals as goal
 
 pub returns-in_err-scheme : goal.returns-in_err-scheme
 unfolding behind_scheme

@@ -7,15 +7,15 @@ use Rattle.rename_project.specs.Steps.{IsRefusedFor}
 use Rattle.requests.specs.Asked.{query_words}
 use Rattle.document_answers.specs.Asked.{RepliesTo}
 use Rattle.document_answers.proofs.Told.{over_rejected}
-use Rattle.document_answers.proofs.over.over_source.Goals as goal
+use Rattle.document_answers.proofs.over.answer_over_source.Goals as goal
 
-pub over_kept-requires-clause-number : goal.over_kept-requires-clause-number
-over_kept-requires-clause-number c =
+pub answer_over_kept-requires-clause-number : goal.answer_over_kept-requires-clause-number
+answer_over_kept-requires-clause-number c =
     subst (λ (f : FileSet). number_of f.entries (string_bytes c.args.asked.file.now.name) ≡ Some c.args.number) (sym c.in-Ok.ensures.kept)
     c.requires.number
 
-pub over_kept-requires-clause-within : goal.over_kept-requires-clause-within
-over_kept-requires-clause-within c =
+pub answer_over_kept-requires-clause-within : goal.answer_over_kept-requires-clause-within
+answer_over_kept-requires-clause-within c =
     subst (λ (f : FileSet). c.args.number < length f.entries) (sym c.in-Ok.ensures.kept) c.requires.within
 
 pub returns-in_ok-kept-in-Ok-clause-reply : goal.returns-in_ok-kept-in-Ok-clause-reply

@@ -1,7 +1,7 @@
 use Rattle.std.proofs.Common.{◌≡◌, ℕ, ◌-◌, ◌≤◌, length}
 use Rattle.text_places.specs.Marks.{last_upto}
 use Rattle.text_places.specs.Stops.{IsWithin, marks_at}
-use Rattle.text_places.proofs.walk.forward.Given as goal
+use Rattle.text_places.proofs.walk.go_forward.Given as goal
 
 abbrev pub decreases-loop-front : goal.decreases-loop-front
 decreases-loop-front l = length l.bytes - l.stop.at

@@ -2,7 +2,7 @@ use Rattle.std.proofs.Common.{◌∙◌, sym}
 use Rattle.std.proofs.lemmas.Result.{IfOk-weaker}
 use Rattle.document_answers.specs.Over.{at_token, between, nameless}
 use Rattle.document_answers.proofs.Cutting.{token_there}
-use Rattle.document_answers.proofs.over.at_offset.Goals as goal
+use Rattle.document_answers.proofs.over.answer_at_offset.Goals as goal
 
 pub returns-then-is_nameless-clause-reply : goal.returns-then-is_nameless-clause-reply
 returns-then-is_nameless-clause-reply c = λ here at.

@@ -3,7 +3,7 @@ use Rattle.text_places.specs.declared.walk.Stop.{Stop}
 use Rattle.text_places.specs.Marks.{last_upto}
 use Rattle.text_places.specs.Stops.{IsWithin, marks_at}
 use Rattle.text_places.proofs.Walks.{within_behind, last_next, last_here}
-use Rattle.text_places.proofs.walk.forward.Goals as goal
+use Rattle.text_places.proofs.walk.go_forward.Goals as goal
 
 pub loop-front-preserved : goal.loop-front-preserved
 loop-front-preserved c =
