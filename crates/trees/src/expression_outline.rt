@@ -1,20 +1,20 @@
 //! Expressions as outlines.
 
 use crate::outline::Outline;
-use crate::pattern_outline::pattern;
+use crate::pattern_outline::add_pattern;
 use ml_trees::{
     Argument, Binding, Case, Expr, Field, LocalArgument, LocalModule, Param, Part, Variable, Word,
 };
 
 /// Adds an expression.
 #[cycle(expression_outline)]
-pub fn expression(out: &mut Outline, e: &Expr) {
+pub fn add_expression(out: &mut Outline, e: &Expr) {
     match e {
         Expr::Seq { first, rest, last } => {
             out.open("seq");
-            expression(out, first);
-            expressions(out, rest);
-            out.flag(*last, "last");
+            add_expression(out, first);
+            add_expressions(out, rest);
+            out.add_flag(*last, "last");
             out.close();
         }
         Expr::Let {
@@ -25,11 +25,11 @@ pub fn expression(out: &mut Outline, e: &Expr) {
             body,
         } => {
             out.open("let");
-            out.token(*at);
-            out.flag(*recursive, "rec");
-            binding(out, first);
-            bindings(out, rest);
-            expression(out, body);
+            out.add_token(*at);
+            out.add_flag(*recursive, "rec");
+            add_binding(out, first);
+            add_bindings(out, rest);
+            add_expression(out, body);
             out.close();
         }
         Expr::LetOpen {
@@ -40,13 +40,13 @@ pub fn expression(out: &mut Outline, e: &Expr) {
             body,
         } => {
             out.open("let-open");
-            out.token(*at);
-            out.token(*open);
+            out.add_token(*at);
+            out.add_token(*open);
             if let Some(bang) = bang {
-                out.token(bang.token);
+                out.add_token(bang.token);
             }
-            out.path(path);
-            expression(out, body);
+            out.add_path(path);
+            add_expression(out, body);
             out.close();
         }
         Expr::LetModule {
@@ -58,19 +58,19 @@ pub fn expression(out: &mut Outline, e: &Expr) {
             body,
         } => {
             out.open("let-module");
-            out.token(*at);
-            out.token(*module);
-            out.token(name.token);
-            out.token(*equals);
-            local_module(out, value);
-            expression(out, body);
+            out.add_token(*at);
+            out.add_token(*module);
+            out.add_token(name.token);
+            out.add_token(*equals);
+            add_local_module(out, value);
+            add_expression(out, body);
             out.close();
         }
         Expr::Fun { at, params, body } => {
             out.open("fun");
-            out.token(*at);
-            parameters(out, params);
-            expression(out, body);
+            out.add_token(*at);
+            add_parameters(out, params);
+            add_expression(out, body);
             out.close();
         }
         Expr::Function {
@@ -80,10 +80,10 @@ pub fn expression(out: &mut Outline, e: &Expr) {
             rest,
         } => {
             out.open("function");
-            out.token(*at);
-            out.flag(*bar, "bar");
-            case(out, first);
-            cases(out, rest);
+            out.add_token(*at);
+            out.add_flag(*bar, "bar");
+            add_case(out, first);
+            add_cases(out, rest);
             out.close();
         }
         Expr::Match {
@@ -94,11 +94,11 @@ pub fn expression(out: &mut Outline, e: &Expr) {
             rest,
         } => {
             out.open("match");
-            out.token(*at);
-            expression(out, subject);
-            out.flag(*bar, "bar");
-            case(out, first);
-            cases(out, rest);
+            out.add_token(*at);
+            add_expression(out, subject);
+            out.add_flag(*bar, "bar");
+            add_case(out, first);
+            add_cases(out, rest);
             out.close();
         }
         Expr::Try {
@@ -109,11 +109,11 @@ pub fn expression(out: &mut Outline, e: &Expr) {
             rest,
         } => {
             out.open("try");
-            out.token(*at);
-            expression(out, subject);
-            out.flag(*bar, "bar");
-            case(out, first);
-            cases(out, rest);
+            out.add_token(*at);
+            add_expression(out, subject);
+            out.add_flag(*bar, "bar");
+            add_case(out, first);
+            add_cases(out, rest);
             out.close();
         }
         Expr::If {
@@ -124,48 +124,48 @@ pub fn expression(out: &mut Outline, e: &Expr) {
             otherwise,
         } => {
             out.open("if");
-            out.token(*at);
-            expression(out, test);
-            expression(out, then);
+            out.add_token(*at);
+            add_expression(out, test);
+            add_expression(out, then);
             for branch in more {
                 out.open("branch");
-                out.token(branch.at);
-                expression(out, &branch.test);
-                expression(out, &branch.then);
+                out.add_token(branch.at);
+                add_expression(out, &branch.test);
+                add_expression(out, &branch.then);
                 out.close();
             }
             if let Some(otherwise) = otherwise {
                 out.open("else");
-                expression(out, otherwise);
+                add_expression(out, otherwise);
                 out.close();
             }
             out.close();
         }
-        further => operation(out, further),
+        further => add_operation(out, further),
     }
 }
 
 /// Adds an expression with operators or arguments.
 #[cycle(expression_outline)]
-fn operation(out: &mut Outline, e: &Expr) {
+fn add_operation(out: &mut Outline, e: &Expr) {
     match e {
         Expr::Assign { first, rest } => {
             out.open("assign");
-            expression(out, first);
-            links(out, rest);
+            add_expression(out, first);
+            add_links(out, rest);
             out.close();
         }
         Expr::Chain { level, first, rest } => {
             out.open("chain");
-            out.token(*level);
-            expression(out, first);
-            links(out, rest);
+            out.add_token(*level);
+            add_expression(out, first);
+            add_links(out, rest);
             out.close();
         }
         Expr::Tuple { first, rest } => {
             out.open("tuple");
-            expression(out, first);
-            expressions(out, rest);
+            add_expression(out, first);
+            add_expressions(out, rest);
             out.close();
         }
         Expr::Minus { sign, operand } => add_inside(out, "minus", sign.token, operand),
@@ -185,37 +185,37 @@ fn operation(out: &mut Outline, e: &Expr) {
             arguments,
         } => {
             out.open("apply");
-            expression(out, function);
+            add_expression(out, function);
             for part in arguments {
-                argument(out, part);
+                add_argument(out, part);
             }
             out.close();
         }
         Expr::ConstrApply { path, argument } => {
             out.open("constructor");
-            out.path(path);
-            expression(out, argument);
+            out.add_path(path);
+            add_expression(out, argument);
             out.close();
         }
         Expr::Postfix { base, parts } => {
             out.open("postfix");
-            expression(out, base);
+            add_expression(out, base);
             for piece in parts {
-                part(out, piece);
+                add_part(out, piece);
             }
             out.close();
         }
         Expr::Opened { path, body } => {
             out.open("opened");
-            out.path(path);
-            expression(out, body);
+            out.add_path(path);
+            add_expression(out, body);
             out.close();
         }
         Expr::While { at, test, body } => {
             out.open("while");
-            out.token(*at);
-            expression(out, test);
-            expression(out, body);
+            out.add_token(*at);
+            add_expression(out, test);
+            add_expression(out, body);
             out.close();
         }
         further => add_bracketed(out, further),
@@ -228,17 +228,17 @@ fn add_bracketed(out: &mut Outline, e: &Expr) {
     match e {
         Expr::Typed { at, body, run } => {
             out.open("typed");
-            out.token(*at);
-            expression(out, body);
-            out.run(run);
+            out.add_token(*at);
+            add_expression(out, body);
+            out.add_run(run);
             out.close();
         }
         Expr::Coerced { at, body, from, to } => {
             out.open("coerced");
-            out.token(*at);
-            expression(out, body);
-            out.maybe_run(from);
-            out.run(to);
+            out.add_token(*at);
+            add_expression(out, body);
+            out.add_run_if_some(from);
+            out.add_run(to);
             out.close();
         }
         Expr::List {
@@ -249,11 +249,11 @@ fn add_bracketed(out: &mut Outline, e: &Expr) {
             last,
         } => {
             out.open("list");
-            out.bracket(*bracket);
-            out.token(*at);
-            expression(out, first);
-            expressions(out, rest);
-            out.flag(*last, "last");
+            out.add_bracket(*bracket);
+            out.add_token(*at);
+            add_expression(out, first);
+            add_expressions(out, rest);
+            out.add_flag(*last, "last");
             out.close();
         }
         Expr::Record {
@@ -264,17 +264,17 @@ fn add_bracketed(out: &mut Outline, e: &Expr) {
             last,
         } => {
             out.open("record");
-            out.token(*at);
+            out.add_token(*at);
             if let Some(base) = base {
                 out.open("base");
-                expression(out, base);
+                add_expression(out, base);
                 out.close();
             }
-            field(out, first);
+            add_field(out, first);
             for part in rest {
-                field(out, part);
+                add_field(out, part);
             }
-            out.flag(*last, "last");
+            out.add_flag(*last, "last");
             out.close();
         }
         Expr::For {
@@ -287,16 +287,16 @@ fn add_bracketed(out: &mut Outline, e: &Expr) {
             body,
         } => {
             out.open("for");
-            out.token(*at);
+            out.add_token(*at);
             match variable {
-                Variable::Lower(word) => out.token(word.token),
-                Variable::Any { at } => out.leaf("any", &[*at]),
+                Variable::Lower(word) => out.add_token(word.token),
+                Variable::Any { at } => out.add_production("any", &[*at]),
             }
-            out.token(*equals);
-            expression(out, from);
-            out.flag(*down, "down");
-            expression(out, to);
-            expression(out, body);
+            out.add_token(*equals);
+            add_expression(out, from);
+            out.add_flag(*down, "down");
+            add_expression(out, to);
+            add_expression(out, body);
             out.close();
         }
         leaf => add_leaf(out, leaf),
@@ -306,27 +306,27 @@ fn add_bracketed(out: &mut Outline, e: &Expr) {
 /// Adds an expression without parts.
 fn add_leaf(out: &mut Outline, e: &Expr) {
     match e {
-        Expr::Literal(word) => out.leaf("literal", &[word.token]),
+        Expr::Literal(word) => out.add_production("literal", &[word.token]),
         Expr::Bool { at, value } => {
             out.open("bool");
-            out.token(*at);
-            out.flag(*value, "true");
+            out.add_token(*at);
+            out.add_flag(*value, "true");
             out.close();
         }
         Expr::Value { path, name } => {
             out.open("value");
-            out.words(path);
-            out.name(name);
+            out.add_words(path);
+            out.add_name(name);
             out.close();
         }
-        Expr::Constr(path) => out.path_leaf("constructor", &path.words),
-        Expr::Tag(tag) => out.leaf("tag", &[tag.token]),
-        Expr::Unit { at } => out.leaf("unit", &[*at]),
-        Expr::EmptyBegin { at } => out.leaf("begin", &[*at]),
+        Expr::Constr(path) => out.add_path_production("constructor", &path.words),
+        Expr::Tag(tag) => out.add_production("tag", &[tag.token]),
+        Expr::Unit { at } => out.add_production("unit", &[*at]),
+        Expr::EmptyBegin { at } => out.add_production("begin", &[*at]),
         Expr::Empty { at, bracket } => {
             out.open("empty");
-            out.bracket(*bracket);
-            out.token(*at);
+            out.add_bracket(*bracket);
+            out.add_token(*at);
             out.close();
         }
         _ => {}
@@ -335,10 +335,10 @@ fn add_leaf(out: &mut Outline, e: &Expr) {
 
 /// Adds operators with the operands after them.
 #[cycle(expression_outline)]
-fn links(out: &mut Outline, rest: &[(Word, Expr)]) {
+fn add_links(out: &mut Outline, rest: &[(Word, Expr)]) {
     for (operator, operand) in rest {
-        out.token(operator.token);
-        expression(out, operand);
+        out.add_token(operator.token);
+        add_expression(out, operand);
     }
 }
 
@@ -346,28 +346,28 @@ fn links(out: &mut Outline, rest: &[(Word, Expr)]) {
 #[cycle(expression_outline)]
 fn add_inside(out: &mut Outline, name: &str, at: u32, e: &Expr) {
     out.open(name);
-    out.token(at);
-    expression(out, e);
+    out.add_token(at);
+    add_expression(out, e);
     out.close();
 }
 
 #[cycle(expression_outline)]
-fn expressions(out: &mut Outline, list: &[Expr]) {
+fn add_expressions(out: &mut Outline, list: &[Expr]) {
     for e in list {
-        expression(out, e);
+        add_expression(out, e);
     }
 }
 
 /// Adds the parts of a `let`.
 #[cycle(expression_outline)]
-pub fn bindings(out: &mut Outline, list: &[Binding]) {
+pub fn add_bindings(out: &mut Outline, list: &[Binding]) {
     for part in list {
-        binding(out, part);
+        add_binding(out, part);
     }
 }
 
 #[cycle(expression_outline)]
-pub fn binding(out: &mut Outline, part: &Binding) {
+pub fn add_binding(out: &mut Outline, part: &Binding) {
     match part {
         Binding::Plain {
             pat,
@@ -376,10 +376,10 @@ pub fn binding(out: &mut Outline, part: &Binding) {
             value,
         } => {
             out.open("plain");
-            pattern(out, pat);
-            out.maybe_run(run);
-            out.token(*equals);
-            expression(out, value);
+            add_pattern(out, pat);
+            out.add_run_if_some(run);
+            out.add_token(*equals);
+            add_expression(out, value);
         }
         Binding::Applied {
             name,
@@ -389,61 +389,61 @@ pub fn binding(out: &mut Outline, part: &Binding) {
             value,
         } => {
             out.open("applied");
-            out.name(name);
-            parameters(out, params);
-            out.maybe_run(run);
-            out.token(*equals);
-            expression(out, value);
+            out.add_name(name);
+            add_parameters(out, params);
+            out.add_run_if_some(run);
+            out.add_token(*equals);
+            add_expression(out, value);
         }
     }
     out.close();
 }
 
 #[cycle(expression_outline)]
-fn cases(out: &mut Outline, list: &[Case]) {
+fn add_cases(out: &mut Outline, list: &[Case]) {
     for part in list {
-        case(out, part);
+        add_case(out, part);
     }
 }
 
 #[cycle(expression_outline)]
-fn case(out: &mut Outline, part: &Case) {
+fn add_case(out: &mut Outline, part: &Case) {
     out.open("case");
-    pattern(out, &part.pat);
+    add_pattern(out, &part.pat);
     if let Some(guard) = &part.guard {
         out.open("when");
-        expression(out, guard);
+        add_expression(out, guard);
         out.close();
     }
-    expression(out, &part.body);
+    add_expression(out, &part.body);
     out.close();
 }
 
 #[cycle(expression_outline)]
-fn argument(out: &mut Outline, part: &Argument) {
+fn add_argument(out: &mut Outline, part: &Argument) {
     match part {
-        Argument::Positional(value) => expression(out, value),
-        Argument::LabelPun(label) => out.leaf("pun", &[label.token]),
+        Argument::Positional(value) => add_expression(out, value),
+        Argument::LabelPun(label) => out.add_production("pun", &[label.token]),
         Argument::Labelled { label, value } => add_inside(out, "labelled", label.token, value),
     }
 }
 
 #[cycle(expression_outline)]
-fn parameters(out: &mut Outline, params: &[Param]) {
+fn add_parameters(out: &mut Outline, params: &[Param]) {
     for part in params {
-        parameter(out, part);
+        add_parameter(out, part);
     }
 }
 
 #[cycle(expression_outline)]
-fn parameter(out: &mut Outline, part: &Param) {
+fn add_parameter(out: &mut Outline, part: &Param) {
     match part {
-        Param::Pattern(pat) => pattern(out, pat),
-        Param::Label(label) => out.leaf("label", &[label.token]),
+        Param::Pattern(pat) => add_pattern(out, pat),
+        Param::Label(label) => out.add_production("label", &[label.token]),
         Param::LabelPattern { label, pat } => {
             out.open("labelled");
-            out.token(label.token);
-            pattern(out, pat);
+            out.add_token(label.token);
+            add_pattern(out, pat);
             out.close();
         }
         Param::Default {
@@ -455,12 +455,12 @@ fn parameter(out: &mut Outline, part: &Param) {
             value,
         } => {
             out.open("default");
-            out.token(label.token);
-            out.token(*open);
-            pattern(out, pat);
-            out.maybe_run(run);
-            out.token(*equals);
-            expression(out, value);
+            out.add_token(label.token);
+            out.add_token(*open);
+            add_pattern(out, pat);
+            out.add_run_if_some(run);
+            out.add_token(*equals);
+            add_expression(out, value);
             out.close();
         }
         Param::Wrapped {
@@ -471,11 +471,11 @@ fn parameter(out: &mut Outline, part: &Param) {
             run,
         } => {
             out.open("wrapped");
-            out.token(*at);
-            out.flag(*optional, "optional");
-            out.token(*open);
-            out.token(name.token);
-            out.maybe_run(run);
+            out.add_token(*at);
+            out.add_flag(*optional, "optional");
+            out.add_token(*open);
+            out.add_token(name.token);
+            out.add_run_if_some(run);
             out.close();
         }
         Param::WrappedDefault {
@@ -487,30 +487,30 @@ fn parameter(out: &mut Outline, part: &Param) {
             value,
         } => {
             out.open("wrapped-default");
-            out.token(*at);
-            out.token(*open);
-            out.token(name.token);
-            out.maybe_run(run);
-            out.token(*equals);
-            expression(out, value);
+            out.add_token(*at);
+            out.add_token(*open);
+            out.add_token(name.token);
+            out.add_run_if_some(run);
+            out.add_token(*equals);
+            add_expression(out, value);
             out.close();
         }
         Param::Types { open, names } => {
             out.open("types");
-            out.token(*open);
-            out.words(names);
+            out.add_token(*open);
+            out.add_words(names);
             out.close();
         }
     }
 }
 
 #[cycle(expression_outline)]
-fn part(out: &mut Outline, piece: &Part) {
+fn add_part(out: &mut Outline, piece: &Part) {
     match piece {
         Part::Select { path, label } => {
             out.open("select");
-            out.words(path);
-            out.token(label.token);
+            out.add_words(path);
+            out.add_token(label.token);
             out.close();
         }
         Part::Index { open, index } => add_inside(out, "index", *open, index),
@@ -519,13 +519,13 @@ fn part(out: &mut Outline, piece: &Part) {
 }
 
 #[cycle(expression_outline)]
-fn field(out: &mut Outline, part: &Field) {
+fn add_field(out: &mut Outline, part: &Field) {
     match part {
         Field::FieldPun { path, label, run } => {
             out.open("pun");
-            out.words(path);
-            out.token(label.token);
-            out.maybe_run(run);
+            out.add_words(path);
+            out.add_token(label.token);
+            out.add_run_if_some(run);
             out.close();
         }
         Field::Assigned {
@@ -536,27 +536,27 @@ fn field(out: &mut Outline, part: &Field) {
             value,
         } => {
             out.open("field");
-            out.words(path);
-            out.token(label.token);
-            out.maybe_run(run);
-            out.token(*equals);
-            expression(out, value);
+            out.add_words(path);
+            out.add_token(label.token);
+            out.add_run_if_some(run);
+            out.add_token(*equals);
+            add_expression(out, value);
             out.close();
         }
     }
 }
 
 #[cycle(local_outline)]
-fn local_module(out: &mut Outline, module: &LocalModule) {
+fn add_local_module(out: &mut Outline, module: &LocalModule) {
     out.open("module");
-    out.path(&module.path);
+    out.add_path(&module.path);
     for part in &module.arguments {
         match part {
             LocalArgument::Module { open, module } => {
-                out.token(*open);
-                local_module(out, module);
+                out.add_token(*open);
+                add_local_module(out, module);
             }
-            LocalArgument::Nothing { open } => out.leaf("nothing", &[*open]),
+            LocalArgument::Nothing { open } => out.add_production("nothing", &[*open]),
         }
     }
     out.close();

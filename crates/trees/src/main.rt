@@ -2,7 +2,7 @@
 //!
 //! A line `>TEXT` adds to the text, `|LINE` adds with a line feed, `times N TEXT` adds N times, and `byte N` adds a
 //! byte. Every other line is a request, `KIND` or `KIND TEXT`: it adds TEXT, is answered by a line, and the text is
-//! empty again. The kinds are in [`readings::answer`].
+//! empty again. The kinds are in [`readings::answer_request`].
 #![tactic(auto)]
 
 mod expression_outline;
@@ -15,7 +15,7 @@ mod patterns;
 mod readings;
 mod refusals;
 
-use readings::answer;
+use readings::answer_request;
 use std::alloc::{AllocError, Global};
 use std::io;
 
@@ -45,9 +45,9 @@ fn answer_row(alloc: Global, text: &mut Vec<u8>, line: &str) -> Result<String, A
         Some(("byte", number)) => text.push(number.parse::<u8>().unwrap_or(0))?,
         Some((kind, rest)) => {
             text.extend_from_slice(rest.as_bytes())?;
-            return answer_request(alloc, text, kind);
+            return answer_line(alloc, text, kind);
         }
-        None => return answer_request(alloc, text, line),
+        None => return answer_line(alloc, text, line),
     }
     Ok(String::new(alloc))
 }
@@ -63,8 +63,8 @@ fn add_times(text: &mut Vec<u8>, rest: &str) -> Result<(), AllocError> {
 }
 
 /// The line that answers a request. It leaves the text empty.
-fn answer_request(alloc: Global, text: &mut Vec<u8>, kind: &str) -> Result<String, AllocError> {
-    let mut answer = answer(alloc, kind, text.as_slice())?;
+fn answer_line(alloc: Global, text: &mut Vec<u8>, kind: &str) -> Result<String, AllocError> {
+    let mut answer = answer_request(alloc, kind, text.as_slice())?;
     answer.push('\n')?;
     text.clear();
     Ok(answer)

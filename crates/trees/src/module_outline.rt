@@ -1,6 +1,6 @@
 //! Files as outlines.
 
-use crate::expression_outline::{binding, bindings, expression};
+use crate::expression_outline::{add_binding, add_bindings, add_expression};
 use crate::outline::Outline;
 use ml_trees::{
     Constraint, External, FileTree, FunctorParam, Item, ModArgument, ModExpr, ModType, ModuleName,
@@ -8,25 +8,25 @@ use ml_trees::{
 };
 
 /// Adds the items of a file.
-pub fn file(out: &mut Outline, tree: &FileTree) {
+pub fn add_file(out: &mut Outline, tree: &FileTree) {
     match tree {
-        FileTree::Body(_, list) => items(out, list),
-        FileTree::Face(_, list) => signature_items(out, list),
+        FileTree::Body(_, list) => add_items(out, list),
+        FileTree::Face(_, list) => add_signature_items(out, list),
     }
 }
 
 #[cycle(module_outline)]
-fn items(out: &mut Outline, list: &[Item]) {
+fn add_items(out: &mut Outline, list: &[Item]) {
     for part in list {
-        item(out, part);
+        add_item(out, part);
     }
 }
 
 #[cycle(module_outline)]
-fn item(out: &mut Outline, part: &Item) {
+fn add_item(out: &mut Outline, part: &Item) {
     match part {
-        Item::Expression(e) => expression(out, e),
-        Item::Separator => out.leaf(";;", &[]),
+        Item::Expression(e) => add_expression(out, e),
+        Item::Separator => out.add_production(";;", &[]),
         Item::Value {
             at,
             recursive,
@@ -34,18 +34,18 @@ fn item(out: &mut Outline, part: &Item) {
             rest,
         } => {
             out.open("let");
-            out.token(*at);
-            out.flag(*recursive, "rec");
-            binding(out, first);
-            bindings(out, rest);
+            out.add_token(*at);
+            out.add_flag(*recursive, "rec");
+            add_binding(out, first);
+            add_bindings(out, rest);
             out.close();
         }
         Item::External(part) => add_external(out, part),
-        Item::Type(run) => out.run(run),
+        Item::Type(run) => out.add_run(run),
         Item::Exception { at, run } => {
             out.open("exception");
-            out.token(*at);
-            out.run(run);
+            out.add_token(*at);
+            out.add_run(run);
             out.close();
         }
         Item::Module {
@@ -57,14 +57,14 @@ fn item(out: &mut Outline, part: &Item) {
             body,
         } => {
             out.open("module");
-            out.token(*at);
-            module_name(out, name);
-            functor_params(out, params);
+            out.add_token(*at);
+            add_module_name(out, name);
+            add_functor_params(out, params);
             if let Some(signature) = signature {
-                module_type(out, signature);
+                add_module_type(out, signature);
             }
-            out.token(*equals);
-            module(out, body);
+            out.add_token(*equals);
+            add_module(out, body);
             out.close();
         }
         Item::ModuleType {
@@ -74,48 +74,48 @@ fn item(out: &mut Outline, part: &Item) {
             signature,
         } => {
             out.open("module-type");
-            out.token(*at);
-            out.token(name.token);
-            out.token(*equals);
-            module_type(out, signature);
+            out.add_token(*at);
+            out.add_token(name.token);
+            out.add_token(*equals);
+            add_module_type(out, signature);
             out.close();
         }
-        Item::Open(part) => open(out, part),
+        Item::Open(part) => add_open(out, part),
         Item::Include {
             at,
             module: included,
         } => {
             out.open("include");
-            out.token(*at);
-            module(out, included);
+            out.add_token(*at);
+            add_module(out, included);
             out.close();
         }
     }
 }
 
 #[cycle(module_outline)]
-fn signature_items(out: &mut Outline, list: &[SigItem]) {
+fn add_signature_items(out: &mut Outline, list: &[SigItem]) {
     for part in list {
-        signature_item(out, part);
+        add_signature_item(out, part);
     }
 }
 
 #[cycle(module_outline)]
-fn signature_item(out: &mut Outline, part: &SigItem) {
+fn add_signature_item(out: &mut Outline, part: &SigItem) {
     match part {
-        SigItem::SigSeparator => out.leaf(";;", &[]),
+        SigItem::SigSeparator => out.add_production(";;", &[]),
         SigItem::Val { name, run } => {
             out.open("val");
-            out.name(name);
-            out.run(run);
+            out.add_name(name);
+            out.add_run(run);
             out.close();
         }
         SigItem::SigExternal(part) => add_external(out, part),
-        SigItem::SigType(run) => out.run(run),
+        SigItem::SigType(run) => out.add_run(run),
         SigItem::SigException { at, run } => {
             out.open("exception");
-            out.token(*at);
-            out.run(run);
+            out.add_token(*at);
+            out.add_run(run);
             out.close();
         }
         SigItem::SigModule {
@@ -125,10 +125,10 @@ fn signature_item(out: &mut Outline, part: &SigItem) {
             signature,
         } => {
             out.open("module");
-            out.token(*at);
-            module_name(out, name);
-            functor_params(out, params);
-            module_type(out, signature);
+            out.add_token(*at);
+            add_module_name(out, name);
+            add_functor_params(out, params);
+            add_module_type(out, signature);
             out.close();
         }
         SigItem::Alias {
@@ -138,10 +138,10 @@ fn signature_item(out: &mut Outline, part: &SigItem) {
             path,
         } => {
             out.open("alias");
-            out.token(*at);
-            out.token(name.token);
-            out.token(*equals);
-            out.path(path);
+            out.add_token(*at);
+            out.add_token(name.token);
+            out.add_token(*equals);
+            out.add_path(path);
             out.close();
         }
         SigItem::SigModuleType {
@@ -151,17 +151,17 @@ fn signature_item(out: &mut Outline, part: &SigItem) {
             signature,
         } => {
             out.open("module-type");
-            out.token(*at);
-            out.token(name.token);
-            out.token(*equals);
-            module_type(out, signature);
+            out.add_token(*at);
+            out.add_token(name.token);
+            out.add_token(*equals);
+            add_module_type(out, signature);
             out.close();
         }
-        SigItem::SigOpen(part) => open(out, part),
+        SigItem::SigOpen(part) => add_open(out, part),
         SigItem::SigInclude { at, signature } => {
             out.open("include");
-            out.token(*at);
-            module_type(out, signature);
+            out.add_token(*at);
+            add_module_type(out, signature);
             out.close();
         }
     }
@@ -169,39 +169,39 @@ fn signature_item(out: &mut Outline, part: &SigItem) {
 
 fn add_external(out: &mut Outline, part: &External) {
     out.open("external");
-    out.name(&part.name);
-    out.run(&part.run);
-    out.token(part.equals);
-    out.words(&part.texts);
+    out.add_name(&part.name);
+    out.add_run(&part.run);
+    out.add_token(part.equals);
+    out.add_words(&part.texts);
     out.close();
 }
 
-fn open(out: &mut Outline, part: &Open) {
+fn add_open(out: &mut Outline, part: &Open) {
     out.open("open");
-    out.token(part.at);
+    out.add_token(part.at);
     if let Some(bang) = &part.bang {
-        out.token(bang.token);
+        out.add_token(bang.token);
     }
-    out.path(&part.path);
+    out.add_path(&part.path);
     out.close();
 }
 
-fn module_name(out: &mut Outline, name: &ModuleName) {
+fn add_module_name(out: &mut Outline, name: &ModuleName) {
     match name {
-        ModuleName::Upper(word) => out.token(word.token),
-        ModuleName::Any { at } => out.leaf("any", &[*at]),
+        ModuleName::Upper(word) => out.add_token(word.token),
+        ModuleName::Any { at } => out.add_production("any", &[*at]),
     }
 }
 
 #[cycle(module_outline)]
-fn functor_params(out: &mut Outline, params: &[FunctorParam]) {
+fn add_functor_params(out: &mut Outline, params: &[FunctorParam]) {
     for part in params {
-        functor_param(out, part);
+        add_functor_param(out, part);
     }
 }
 
 #[cycle(module_outline)]
-fn functor_param(out: &mut Outline, part: &FunctorParam) {
+fn add_functor_param(out: &mut Outline, part: &FunctorParam) {
     match part {
         FunctorParam::Named {
             open,
@@ -209,30 +209,30 @@ fn functor_param(out: &mut Outline, part: &FunctorParam) {
             signature,
         } => {
             out.open("parameter");
-            out.token(*open);
-            module_name(out, name);
-            module_type(out, signature);
+            out.add_token(*open);
+            add_module_name(out, name);
+            add_module_type(out, signature);
             out.close();
         }
-        FunctorParam::NoParam { open } => out.leaf("parameter", &[*open]),
+        FunctorParam::NoParam { open } => out.add_production("parameter", &[*open]),
     }
 }
 
 #[cycle(module_outline)]
-fn module(out: &mut Outline, m: &ModExpr) {
+fn add_module(out: &mut Outline, m: &ModExpr) {
     match m {
-        ModExpr::ModPath(path) => out.path_leaf("path", &path.words),
+        ModExpr::ModPath(path) => out.add_path_production("path", &path.words),
         ModExpr::Struct { at, items: list } => {
             out.open("struct");
-            out.token(*at);
-            items(out, list);
+            out.add_token(*at);
+            add_items(out, list);
             out.close();
         }
         ModExpr::Functor { at, params, body } => {
             out.open("functor");
-            out.token(*at);
-            functor_params(out, params);
-            module(out, body);
+            out.add_token(*at);
+            add_functor_params(out, params);
+            add_module(out, body);
             out.close();
         }
         ModExpr::Apply {
@@ -240,16 +240,16 @@ fn module(out: &mut Outline, m: &ModExpr) {
             arguments,
         } => {
             out.open("apply");
-            module(out, function);
+            add_module(out, function);
             for part in arguments {
-                module_argument(out, part);
+                add_module_argument(out, part);
             }
             out.close();
         }
         ModExpr::Paren { at, body } => {
             out.open("parentheses");
-            out.token(*at);
-            module(out, body);
+            out.add_token(*at);
+            add_module(out, body);
             out.close();
         }
         ModExpr::Sealed {
@@ -258,24 +258,24 @@ fn module(out: &mut Outline, m: &ModExpr) {
             signature,
         } => {
             out.open("sealed");
-            out.token(*at);
-            module(out, body);
-            module_type(out, signature);
+            out.add_token(*at);
+            add_module(out, body);
+            add_module_type(out, signature);
             out.close();
         }
     }
 }
 
 #[cycle(module_outline)]
-fn module_argument(out: &mut Outline, part: &ModArgument) {
+fn add_module_argument(out: &mut Outline, part: &ModArgument) {
     match part {
         ModArgument::Given {
             open,
             module: given,
         } => {
             out.open("argument");
-            out.token(*open);
-            module(out, given);
+            out.add_token(*open);
+            add_module(out, given);
             out.close();
         }
         ModArgument::SealedModule {
@@ -284,23 +284,23 @@ fn module_argument(out: &mut Outline, part: &ModArgument) {
             signature,
         } => {
             out.open("argument");
-            out.token(*open);
-            module(out, given);
-            module_type(out, signature);
+            out.add_token(*open);
+            add_module(out, given);
+            add_module_type(out, signature);
             out.close();
         }
-        ModArgument::Nothing { open } => out.leaf("argument", &[*open]),
+        ModArgument::Nothing { open } => out.add_production("argument", &[*open]),
     }
 }
 
 #[cycle(module_outline)]
-fn module_type(out: &mut Outline, signature: &ModType) {
+fn add_module_type(out: &mut Outline, signature: &ModType) {
     match signature {
-        ModType::TypePath(path) => out.path_leaf("path", &path.words),
+        ModType::TypePath(path) => out.add_path_production("path", &path.words),
         ModType::Sig { at, items: list } => {
             out.open("sig");
-            out.token(*at);
-            signature_items(out, list);
+            out.add_token(*at);
+            add_signature_items(out, list);
             out.close();
         }
         ModType::TypeOf {
@@ -308,24 +308,24 @@ fn module_type(out: &mut Outline, signature: &ModType) {
             module: of_module,
         } => {
             out.open("type-of");
-            out.token(*at);
-            module(out, of_module);
+            out.add_token(*at);
+            add_module(out, of_module);
             out.close();
         }
         ModType::TypeParen { at, body } => {
             out.open("parentheses");
-            out.token(*at);
-            module_type(out, body);
+            out.add_token(*at);
+            add_module_type(out, body);
             out.close();
         }
         ModType::With { body, clauses } => {
             out.open("with");
-            module_type(out, body);
+            add_module_type(out, body);
             for clause in clauses {
                 out.open("clause");
-                constraint(out, &clause.first);
+                add_constraint(out, &clause.first);
                 for part in &clause.rest {
-                    constraint(out, part);
+                    add_constraint(out, part);
                 }
                 out.close();
             }
@@ -333,29 +333,29 @@ fn module_type(out: &mut Outline, signature: &ModType) {
         }
         ModType::FunctorType { at, params, result } => {
             out.open("functor");
-            out.token(*at);
-            functor_params(out, params);
-            module_type(out, result);
+            out.add_token(*at);
+            add_functor_params(out, params);
+            add_module_type(out, result);
             out.close();
         }
         ModType::ParamArrow { param, result } => {
             out.open("arrow");
-            functor_param(out, param);
-            module_type(out, result);
+            add_functor_param(out, param);
+            add_module_type(out, result);
             out.close();
         }
         ModType::Arrow { param, result } => {
             out.open("arrow");
-            module_type(out, param);
-            module_type(out, result);
+            add_module_type(out, param);
+            add_module_type(out, result);
             out.close();
         }
     }
 }
 
-fn constraint(out: &mut Outline, part: &Constraint) {
-    out.run(&part.left);
-    out.token(part.sign.token);
-    out.flag(part.private, "private");
-    out.run(&part.right);
+fn add_constraint(out: &mut Outline, part: &Constraint) {
+    out.add_run(&part.left);
+    out.add_token(part.sign.token);
+    out.add_flag(part.private, "private");
+    out.add_run(&part.right);
 }

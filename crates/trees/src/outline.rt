@@ -47,74 +47,74 @@ impl Outline {
     }
 
     /// Adds the number of a token.
-    pub fn token(&mut self, token: u32) {
+    pub fn add_token(&mut self, token: u32) {
         if write!(self.text, " {token}").is_err() {
             self.is_cut = true;
         }
     }
 
     /// Adds a word if the tree has it.
-    pub fn flag(&mut self, is_there: bool, word: &str) {
+    pub fn add_flag(&mut self, is_there: bool, word: &str) {
         if is_there {
             self.add(" ");
             self.add(word);
         }
     }
 
-    pub fn words(&mut self, words: &[Word]) {
+    pub fn add_words(&mut self, words: &[Word]) {
         for word in words {
-            self.token(word.token);
+            self.add_token(word.token);
         }
     }
 
-    pub fn path(&mut self, path: &Path) {
-        self.words(&path.words);
+    pub fn add_path(&mut self, path: &Path) {
+        self.add_words(&path.words);
     }
 
-    pub fn name(&mut self, name: &ValueName) {
+    pub fn add_name(&mut self, name: &ValueName) {
         match name {
-            ValueName::Lower(word) => self.token(word.token),
+            ValueName::Lower(word) => self.add_token(word.token),
             ValueName::Operator { open, word } => {
-                self.flag(true, "operator");
-                self.token(*open);
-                self.token(word.token);
+                self.add_flag(true, "operator");
+                self.add_token(*open);
+                self.add_token(word.token);
             }
         }
     }
 
-    pub fn bracket(&mut self, bracket: Bracket) {
-        self.flag(bracket == Bracket::Array, "array");
+    pub fn add_bracket(&mut self, bracket: Bracket) {
+        self.add_flag(bracket == Bracket::Array, "array");
     }
 
     /// Adds a run: its first and its last token.
-    pub fn run(&mut self, run: &Run) {
+    pub fn add_run(&mut self, run: &Run) {
         self.open("run");
         if let (Some(first), Some(last)) = (run.words.first(), run.words.last()) {
-            self.token(first.token);
-            self.token(last.token);
+            self.add_token(first.token);
+            self.add_token(last.token);
         }
         self.close();
     }
 
-    pub fn maybe_run(&mut self, run: &Option<Run>) {
+    pub fn add_run_if_some(&mut self, run: &Option<Run>) {
         if let Some(run) = run {
-            self.run(run);
+            self.add_run(run);
         }
     }
 
     /// Adds a production of tokens alone.
-    pub fn leaf(&mut self, name: &str, tokens: &[u32]) {
+    pub fn add_production(&mut self, name: &str, tokens: &[u32]) {
         self.open(name);
         for token in tokens {
-            self.token(*token);
+            self.add_token(*token);
         }
         self.close();
     }
 
     /// Adds a production of a path alone.
-    pub fn path_leaf(&mut self, name: &str, words: &[Word]) {
+    pub fn add_path_production(&mut self, name: &str, words: &[Word]) {
         self.open(name);
-        self.words(words);
+        self.add_words(words);
         self.close();
     }
 }

@@ -5,38 +5,38 @@ use ml_trees::{Pat, PatField};
 
 /// Adds a pattern.
 #[cycle(pattern_outline)]
-pub fn pattern(out: &mut Outline, pat: &Pat) {
+pub fn add_pattern(out: &mut Outline, pat: &Pat) {
     match pat {
         Pat::As { pat, names } => {
             out.open("as");
-            pattern(out, pat);
+            add_pattern(out, pat);
             for name in names {
-                out.name(name);
+                out.add_name(name);
             }
             out.close();
         }
         Pat::Or { first, rest } => {
             out.open("or");
-            pattern(out, first);
-            patterns(out, rest);
+            add_pattern(out, first);
+            add_patterns(out, rest);
             out.close();
         }
         Pat::Tuple { first, rest } => {
             out.open("tuple");
-            pattern(out, first);
-            patterns(out, rest);
+            add_pattern(out, first);
+            add_patterns(out, rest);
             out.close();
         }
         Pat::Cons { first, rest } => {
             out.open("cons");
-            pattern(out, first);
-            patterns(out, rest);
+            add_pattern(out, first);
+            add_patterns(out, rest);
             out.close();
         }
         Pat::ConstrApply { path, argument } => {
             out.open("constructor");
-            out.path(path);
-            pattern(out, argument);
+            out.add_path(path);
+            add_pattern(out, argument);
             out.close();
         }
         Pat::TagApply { tag, argument } => add_inside(out, "tag", tag.token, argument),
@@ -45,9 +45,9 @@ pub fn pattern(out: &mut Outline, pat: &Pat) {
         Pat::Paren { at, pat } => add_inside(out, "parentheses", *at, pat),
         Pat::Typed { at, pat, run } => {
             out.open("typed");
-            out.token(*at);
-            pattern(out, pat);
-            out.run(run);
+            out.add_token(*at);
+            add_pattern(out, pat);
+            out.add_run(run);
             out.close();
         }
         Pat::List {
@@ -58,11 +58,11 @@ pub fn pattern(out: &mut Outline, pat: &Pat) {
             last,
         } => {
             out.open("list");
-            out.bracket(*bracket);
-            out.token(*at);
-            pattern(out, first);
-            patterns(out, rest);
-            out.flag(*last, "last");
+            out.add_bracket(*bracket);
+            out.add_token(*at);
+            add_pattern(out, first);
+            add_patterns(out, rest);
+            out.add_flag(*last, "last");
             out.close();
         }
         Pat::Record {
@@ -73,53 +73,53 @@ pub fn pattern(out: &mut Outline, pat: &Pat) {
             last,
         } => {
             out.open("record");
-            out.token(*at);
-            field(out, first);
+            out.add_token(*at);
+            add_field(out, first);
             for part in rest {
-                field(out, part);
+                add_field(out, part);
             }
             if let Some(open) = open {
-                out.token(*open);
+                out.add_token(*open);
             }
-            out.flag(*last, "last");
+            out.add_flag(*last, "last");
             out.close();
         }
         Pat::Opened { path, at, pat } => {
             out.open("opened");
-            out.path(path);
-            out.token(*at);
-            pattern(out, pat);
+            out.add_path(path);
+            out.add_token(*at);
+            add_pattern(out, pat);
             out.close();
         }
-        simple => leaf(out, simple),
+        simple => add_leaf(out, simple),
     }
 }
 
 /// Adds a pattern without parts.
-fn leaf(out: &mut Outline, pat: &Pat) {
+fn add_leaf(out: &mut Outline, pat: &Pat) {
     match pat {
-        Pat::Any { at } => out.leaf("any", &[*at]),
+        Pat::Any { at } => out.add_production("any", &[*at]),
         Pat::Value(name) => {
             out.open("value");
-            out.name(name);
+            out.add_name(name);
             out.close();
         }
-        Pat::Literal(word) => out.leaf("literal", &[word.token]),
-        Pat::Negative { sign, number } => out.leaf("negative", &[sign.token, number.token]),
-        Pat::Range { low, high } => out.leaf("range", &[low.token, high.token]),
-        Pat::Constr(path) => out.path_leaf("constructor", &path.words),
-        Pat::Tag(tag) => out.leaf("tag", &[tag.token]),
+        Pat::Literal(word) => out.add_production("literal", &[word.token]),
+        Pat::Negative { sign, number } => out.add_production("negative", &[sign.token, number.token]),
+        Pat::Range { low, high } => out.add_production("range", &[low.token, high.token]),
+        Pat::Constr(path) => out.add_path_production("constructor", &path.words),
+        Pat::Tag(tag) => out.add_production("tag", &[tag.token]),
         Pat::Bool { at, value } => {
             out.open("bool");
-            out.token(*at);
-            out.flag(*value, "true");
+            out.add_token(*at);
+            out.add_flag(*value, "true");
             out.close();
         }
-        Pat::Unit { at } => out.leaf("unit", &[*at]),
+        Pat::Unit { at } => out.add_production("unit", &[*at]),
         Pat::Empty { at, bracket } => {
             out.open("empty");
-            out.bracket(*bracket);
-            out.token(*at);
+            out.add_bracket(*bracket);
+            out.add_token(*at);
             out.close();
         }
         _ => {}
@@ -130,26 +130,26 @@ fn leaf(out: &mut Outline, pat: &Pat) {
 #[cycle(pattern_outline)]
 fn add_inside(out: &mut Outline, name: &str, at: u32, pat: &Pat) {
     out.open(name);
-    out.token(at);
-    pattern(out, pat);
+    out.add_token(at);
+    add_pattern(out, pat);
     out.close();
 }
 
 #[cycle(pattern_outline)]
-fn patterns(out: &mut Outline, list: &[Pat]) {
+fn add_patterns(out: &mut Outline, list: &[Pat]) {
     for pat in list {
-        pattern(out, pat);
+        add_pattern(out, pat);
     }
 }
 
 #[cycle(pattern_outline)]
-fn field(out: &mut Outline, part: &PatField) {
+fn add_field(out: &mut Outline, part: &PatField) {
     match part {
         PatField::Punned { path, label, run } => {
             out.open("pun");
-            out.words(path);
-            out.token(label.token);
-            out.maybe_run(run);
+            out.add_words(path);
+            out.add_token(label.token);
+            out.add_run_if_some(run);
             out.close();
         }
         PatField::Matched {
@@ -160,11 +160,11 @@ fn field(out: &mut Outline, part: &PatField) {
             pat,
         } => {
             out.open("field");
-            out.words(path);
-            out.token(label.token);
-            out.maybe_run(run);
-            out.token(*equals);
-            pattern(out, pat);
+            out.add_words(path);
+            out.add_token(label.token);
+            out.add_run_if_some(run);
+            out.add_token(*equals);
+            add_pattern(out, pat);
             out.close();
         }
     }

@@ -3,12 +3,12 @@
 ghost use Rattle.std.specs.Prelude.{◌≤◌, length};
 ghost use Rattle.rotor_base.specs.Limits.{max_file_bytes};
 
-use crate::expression_outline::expression;
+use crate::expression_outline::add_expression;
 use crate::expressions::expression_text;
 use crate::files::tree_text;
-use crate::module_outline::file;
+use crate::module_outline::add_file;
 use crate::outline::Outline;
-use crate::pattern_outline::pattern;
+use crate::pattern_outline::add_pattern;
 use crate::patterns::production;
 use crate::refusals::{deep_text, fault_text, form_text, refusal_text, unread_text};
 use ml_lexer::{LexError, lex};
@@ -26,12 +26,12 @@ use token_reading::{ReadError, TokenTable, declaration_run};
 /// deep (`depth`), the pattern, Simple pattern, declaration or expression that it begins with (`pat`, `simple`, `decl`,
 /// `seq`), or its tree as a file (`body`, `face`); the whole tree of these (`tree-pat`, `tree-seq`, `tree-body`,
 /// `tree-face`).
-pub fn answer(alloc: Global, kind: &str, source: &[u8]) -> Result<String, AllocError> {
+pub fn answer_request(alloc: Global, kind: &str, source: &[u8]) -> Result<String, AllocError> {
     if source.len() > MAX_FILE_BYTES as usize {
         return String::from_str(alloc, "too long");
     }
     match lex(alloc, source) {
-        Ok(tokens) => reading(alloc, kind, &tokens),
+        Ok(tokens) => answer_tokens(alloc, kind, &tokens),
         Err(LexError::Memory) => String::from_str(alloc, "memory"),
         Err(fault) => match kind {
             "tokens" => fault_text(alloc, fault),
@@ -40,7 +40,7 @@ pub fn answer(alloc: Global, kind: &str, source: &[u8]) -> Result<String, AllocE
     }
 }
 
-fn reading(alloc: Global, kind: &str, tokens: &[Token]) -> Result<String, AllocError>
+fn answer_tokens(alloc: Global, kind: &str, tokens: &[Token]) -> Result<String, AllocError>
     requires { length tokens.now ≤ max_file_bytes }
 {
     match kind {
@@ -82,13 +82,13 @@ fn pattern_at(alloc: Global, tokens: &[Token]) -> Result<String, AllocError>
 fn simple_at(alloc: Global, tokens: &[Token]) -> Result<String, AllocError>
     requires { length tokens.now ≤ max_file_bytes }
 {
-    match first_simple(alloc, tokens) {
+    match read_simple(alloc, tokens) {
         Ok((pat, end)) => format!(in alloc; "{}, end {end}", production(&pat)),
         Err(error) => unread_text(alloc, error),
     }
 }
 
-fn first_simple(alloc: Global, tokens: &[Token]) -> Result<(Pat, usize), ReadError>
+fn read_simple(alloc: Global, tokens: &[Token]) -> Result<(Pat, usize), ReadError>
     requires { length tokens.now ≤ max_file_bytes }
 {
     let table = TokenTable::new(alloc, tokens)?;
@@ -99,13 +99,13 @@ fn first_simple(alloc: Global, tokens: &[Token]) -> Result<(Pat, usize), ReadErr
 fn declaration_at(alloc: Global, tokens: &[Token]) -> Result<String, AllocError>
     requires { length tokens.now ≤ max_file_bytes }
 {
-    match first_declaration(alloc, tokens) {
+    match read_declaration(alloc, tokens) {
         Ok((run, end)) => format!(in alloc; "run, words {}, end {end}", run.words.len()),
         Err(error) => unread_text(alloc, error),
     }
 }
 
-fn first_declaration(alloc: Global, tokens: &[Token]) -> Result<(Run, usize), ReadError>
+fn read_declaration(alloc: Global, tokens: &[Token]) -> Result<(Run, usize), ReadError>
     requires { length tokens.now ≤ max_file_bytes }
 {
     let table = TokenTable::new(alloc, tokens)?;
@@ -138,7 +138,7 @@ fn pattern_tree(alloc: Global, tokens: &[Token]) -> Result<String, AllocError>
     match parse_pat(alloc, tokens, 0) {
         Ok((pat, _)) => {
             let mut out = Outline::new(alloc);
-            pattern(&mut out, &pat);
+            add_pattern(&mut out, &pat);
             out.finish()
         }
         Err(error) => refusal_text(alloc, error),
@@ -152,7 +152,7 @@ fn expression_tree(alloc: Global, tokens: &[Token]) -> Result<String, AllocError
     match parse_seq(alloc, tokens, 0) {
         Ok((expr, _)) => {
             let mut out = Outline::new(alloc);
-            expression(&mut out, &expr);
+            add_expression(&mut out, &expr);
             out.finish()
         }
         Err(error) => refusal_text(alloc, error),
@@ -166,7 +166,7 @@ fn file_tree(alloc: Global, tokens: &[Token], kind: FileKind) -> Result<String, 
     match parse_file(alloc, tokens, 0, kind) {
         Ok(tree) => {
             let mut out = Outline::new(alloc);
-            file(&mut out, &tree);
+            add_file(&mut out, &tree);
             out.finish()
         }
         Err(error) => refusal_text(alloc, error),
