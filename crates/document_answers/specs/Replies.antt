@@ -1,5 +1,5 @@
 -- The replies to what an editor asks at a place of a document (own).
-use Rattle.std.specs.Prelude.{◌≡◌, List, ℕ, true, false, Option, Some, Ok, Err, Result, IfSome, option_map}
+use Rattle.std.specs.Prelude.{◌≡◌, List, ℕ, true, false, Option, Some, Ok, Err, Result, IfSome, option_map, string_bytes}
 use Rattle.std.specs.FinMap.{get}
 use Rattle.report.specs.Pieces.{Word}
 use Rattle.rotor_base.specs.Files.{FileSet}
@@ -10,6 +10,7 @@ use Rattle.project_load.specs.Load.{loaded}
 use Rattle.folder_messages.specs.Folder.{message_of}
 use Rattle.text_places.specs.declared.counting.Position.{Position}
 use Rattle.document_uris.specs.Uris.{IsFile}
+use Rattle.document_uris.specs.declared.place.FilePlace.{FilePlace}
 use Rattle.messages.specs.declared.parts.Message.{Message}
 use Rattle.open_documents.specs.Document.{is_known}
 use Rattle.open_documents.specs.Documents.{AreKnown, DocumentMap, laid}
@@ -36,6 +37,11 @@ pub data RepliesIn (content : Option FileMap) (client : Client) (folder : Word) 
       → IsRefused asked (IsFolderFailure why message) reply → RepliesIn content client folder held name here asked reply
   project : (files : FileSet) → AreKnown held → IfSome content (λ there. loaded (laid held there) ≡ Ok files)
       → RepliesOver client folder held name files here asked reply → RepliesIn content client folder held name here asked reply
+
+-- the same at a place of a file of one of these folders
+abbrev pub RepliesFor : (List ℕ → Option FileMap) → Client → DocumentMap → FilePlace → Position → Query Word → Result Answer Failure → Type 0
+RepliesFor folders client held file here asked =
+    RepliesIn (folders (string_bytes file.folder)) client (string_bytes file.folder) held (string_bytes file.name) here asked
 
 -- The reply to a query at a place of a document, over these folders, for this client, under these documents. The document is a
 -- source of a folder; else the query is refused.

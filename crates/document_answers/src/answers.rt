@@ -5,7 +5,7 @@ ghost use Rattle.open_documents.specs.Documents.{AreKnown, documents};
 ghost use Rattle.open_documents.specs.Workspace.{documents_in};
 ghost use Rattle.requests.specs.Asked.{query_words};
 ghost use Rattle.document_answers.specs.Refused.{IsRefusedAs, no_source_text, unknown_text, unread_text};
-ghost use Rattle.document_answers.specs.Replies.{RepliesIn};
+ghost use Rattle.document_answers.specs.Replies.{RepliesFor};
 
 use crate::over::{Asked, answer_over_files};
 use crate::refused::refused_reply;
@@ -51,7 +51,7 @@ impl<F: Folders + Drop> DocumentAnswers<F> {
         position: Position,
         query: Query<&str>,
     ) -> Result<Reply, Memory>
-        ensures reply { IfOk result (RepliesIn (F.content self.old.folders (string_bytes file.now.folder)) client (string_bytes file.now.folder) (documents_in workspace.now (string_bytes file.now.folder)) (string_bytes file.now.name) position (query_words query.entry)) }
+        ensures reply { IfOk result (RepliesFor (F.content self.old.folders) client (documents_in workspace.now (string_bytes file.now.folder)) file.now position (query_words query.entry)) }
         ensures plain { IfOk result IsPlain }
         ensures kept { self.new.folders ≡ self.old.folders }
     {
@@ -74,7 +74,7 @@ impl<F: Folders + Drop> DocumentAnswers<F> {
         position: Position,
         query: Query<&str>,
     ) -> Result<Reply, Memory>
-        ensures reply { IfOk result (RepliesIn (F.content self.old.folders (string_bytes file.now.folder)) client (string_bytes file.now.folder) (documents held.now) (string_bytes file.now.name) position (query_words query.entry)) }
+        ensures reply { IfOk result (RepliesFor (F.content self.old.folders) client (documents held.now) file.now position (query_words query.entry)) }
         ensures plain { IfOk result IsPlain }
         ensures kept { self.new.folders ≡ self.old.folders }
     {
@@ -95,7 +95,7 @@ impl<F: Folders + Drop> DocumentAnswers<F> {
         query: Query<&str>,
     ) -> Result<Reply, Memory>
         requires { AreKnown (documents held.now) }
-        ensures reply { IfOk result (RepliesIn (F.content self.old.folders (string_bytes file.now.folder)) client (string_bytes file.now.folder) (documents held.now) (string_bytes file.now.name) position (query_words query.entry)) }
+        ensures reply { IfOk result (RepliesFor (F.content self.old.folders) client (documents held.now) file.now position (query_words query.entry)) }
         ensures plain { IfOk result IsPlain }
         ensures kept { self.new.folders ≡ self.old.folders }
     {

@@ -17,8 +17,8 @@ ghost use Rattle.explain.specs.Refused.{is_memory as is_memory_of};
 ghost use Rattle.query_failures.specs.Folder.{IsProjectFailure};
 ghost use Rattle.document_scene.specs.Scene.{view_scene};
 ghost use Rattle.document_answers.specs.Asked.{RepliesTo};
-ghost use Rattle.document_answers.specs.Known.{IsKnown};
-ghost use Rattle.document_answers.specs.Over.{RepliesAt, RepliesInSource, counting_of as counting_for};
+ghost use Rattle.document_answers.specs.Known.{IsKnown, RepliesAround};
+ghost use Rattle.document_answers.specs.Over.{RepliesInSource, counting_of as counting_for};
 ghost use Rattle.document_answers.specs.Refused.{IsBad, IsRefused, IsRefusedAs, lacking_text};
 ghost use Rattle.document_answers.specs.Value.{is_nameless as is_nameless_of};
 
@@ -263,7 +263,7 @@ fn answer_at_offset(
 ) -> Result<Reply, Memory>
     requires known { IsKnown around }
     requires small { length cut.now.tokens.items ≤ max_file_bytes }
-    ensures reply { (here : Position) → offset_for around.entry.scene.counting here cut.now.bytes.now ≡ Some offset → IfOk result (RepliesAt around.entry.files.now (view_project around.entry.read.now.project) (view_scene around.entry.scene) around.entry.has_versions number (view_cut cut.now) here (query_words query.entry)) }
+    ensures reply { (here : Position) → offset_for around.entry.scene.counting here cut.now.bytes.now ≡ Some offset → IfOk result (RepliesAround around.entry number (view_cut cut.now) here (query_words query.entry)) }
     ensures plain { IfOk result IsPlain }
 {
     if is_nameless(query) {

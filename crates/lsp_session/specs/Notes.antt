@@ -1,9 +1,9 @@
 -- What notifications do to the documents (Language Server Protocol 3.17, "Text Document Synchronization").
 use Rattle.std.specs.Prelude.{◌≡◌, ◌⊎◌, ℕ, ℤ, List, true, Option, Some, None, String, string_bytes, ⊤}
-use Rattle.std.specs.FinMap.{get, insert, remove}
+use Rattle.std.specs.FinMap.{insert, remove}
 use Rattle.std.specs.declared.alloc.Global.{Global}
 use Rattle.document_uris.specs.Uris.{IsFile}
-use Rattle.open_documents.specs.Document.{changed_from}
+use Rattle.open_documents.specs.Documents.{changed_in}
 use Rattle.open_documents.specs.Workspace.{KeepsFolders, SetsFolder, documents_in}
 use Rattle.open_documents.specs.declared.document.Document.{Document}
 use Rattle.open_documents.specs.declared.document.OpenText.{OpenText}
@@ -59,7 +59,7 @@ abbrev pub Changes : List ℕ → Option ℤ → Option (Change (List ℕ)) → 
 Changes uri version last old new =
     OfFile uri (λ folder name.
     (link : String Global) × (text : Option OpenText) × (string_bytes link ≡ uri) × IsChange last text
-    × SetsFolder folder (insert (documents_in old folder) name (changed_from (get (documents_in old folder) name) link version text)) old new)
+    × SetsFolder folder (changed_in (documents_in old folder) name link version text) old new)
     old new
 
 -- the document is no more held

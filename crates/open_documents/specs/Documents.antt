@@ -1,12 +1,13 @@
 -- The documents of a folder that an editor holds, and the folder with their texts in place of its files (own).
-use Rattle.std.specs.Prelude.{◌≡◌, ℕ, List, [], ◌∷◌, true, String, string_bytes, Some}
+use Rattle.std.specs.Prelude.{◌≡◌, ℤ, ℕ, List, [], ◌∷◌, true, String, string_bytes, Option, Some}
 use Rattle.std.specs.Ordering.{nat_cmp}
 use Rattle.std.specs.Cmp.Lexicographic.{slice_cmp}
 use Rattle.std.specs.FinMap.{FinMap, empty, entries, get, insert}
 use Rattle.std.specs.declared.alloc.Global.{Global}
 use Rattle.tree_io.specs.Outside.{FileMap}
-use Rattle.open_documents.specs.Document.{is_known, text_bytes}
+use Rattle.open_documents.specs.Document.{changed_from, is_known, text_bytes}
 use Rattle.open_documents.specs.declared.document.Document.{Document}
+use Rattle.open_documents.specs.declared.document.OpenText.{OpenText}
 use Rattle.open_documents.specs.declared.documents.Documents.{Documents}
 
 -- documents under the names of their files
@@ -21,6 +22,10 @@ gathered (e ∷ es) = insert (gathered es) (string_bytes e.0) e.1
 -- the documents that are held
 abbrev pub documents : Documents → DocumentMap
 documents folder = gathered folder.held.entries
+
+-- the documents after the change of one; if it is not open, the change opens it
+abbrev pub changed_in : DocumentMap → List ℕ → String Global → Option ℤ → Option OpenText → DocumentMap
+changed_in map name uri version text = insert map name (changed_from (get map name) uri version text)
 
 -- each text is known
 abbrev pub AreKnown : DocumentMap → Type 0

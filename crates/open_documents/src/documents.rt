@@ -15,8 +15,8 @@ pub struct Documents {
 }
 
 impl Documents {
-    ghost use Rattle.open_documents.specs.Document.{changed_from, is_known};
-    ghost use Rattle.open_documents.specs.Documents.{AreKnown, documents};
+    ghost use Rattle.open_documents.specs.Document.{is_known};
+    ghost use Rattle.open_documents.specs.Documents.{AreKnown, changed_in, documents};
 
     /// No document. It takes no memory.
     pub fn new(alloc: Global) -> Self
@@ -60,7 +60,7 @@ impl Documents {
         version: Option<i64>,
         text: Option<OpenText>,
     ) -> Result<(), Memory>
-        ensures changed { OnOk result (documents self.new ≡ insert (documents self.old) (string_bytes name) (changed_from (get (documents self.old) (string_bytes name)) uri version text)) }
+        ensures changed { OnOk result (documents self.new ≡ changed_in (documents self.old) (string_bytes name) uri version text) }
         ensures kept { OnErr result (documents self.new ≡ documents self.old) }
     {
         match self.held.get_mut(name.as_str()) {

@@ -1,7 +1,7 @@
 // The documents of all folders that an editor holds.
 ghost use Rattle.std.specs.Prelude.{◌≡◌, ℕ, List, string_bytes, OnErr, OnOk};
 ghost use Rattle.std.specs.Option.{option_copied};
-ghost use Rattle.std.specs.FinMap.{empty, get, insert, remove};
+ghost use Rattle.std.specs.FinMap.{empty, insert, remove};
 
 use crate::document::{Document, OpenText};
 use crate::documents::Documents;
@@ -16,7 +16,7 @@ pub struct Workspace {
 }
 
 impl Workspace {
-    ghost use Rattle.open_documents.specs.Document.{changed_from};
+    ghost use Rattle.open_documents.specs.Documents.{changed_in};
     ghost use Rattle.open_documents.specs.Workspace.{KeepsFolders, SetsFolder, documents_in, documents_or_none};
 
     /// No document. It takes no memory.
@@ -76,7 +76,7 @@ impl Workspace {
         version: Option<i64>,
         text: Option<OpenText>,
     ) -> Result<(), Memory>
-        ensures changed { OnOk result (SetsFolder (string_bytes path) (insert (documents_in self.old (string_bytes path)) (string_bytes name) (changed_from (get (documents_in self.old (string_bytes path)) (string_bytes name)) uri version text)) self.old self.new) }
+        ensures changed { OnOk result (SetsFolder (string_bytes path) (changed_in (documents_in self.old (string_bytes path)) (string_bytes name) uri version text) self.old self.new) }
         ensures kept { OnErr result (KeepsFolders self.old self.new) }
     {
         match self.folders.get_mut(path.as_str()) {
