@@ -42,7 +42,7 @@ impl<F: Folders + Drop> DocumentAnswers<F> {
     }
 
     /// The reply to a query at a place of a source of a folder.
-    fn in_folder(
+    fn answer_in_folder(
         &mut self,
         alloc: Global,
         client: Client,
@@ -56,16 +56,16 @@ impl<F: Folders + Drop> DocumentAnswers<F> {
         ensures kept { self.new.folders ≡ self.old.folders }
     {
         match workspace.folder(file.folder.as_str()) {
-            Some(held) => self.in_documents(alloc, client, held, file, position, query),
+            Some(held) => self.answer_in_documents(alloc, client, held, file, position, query),
             None => {
                 let held = Documents::new(alloc);
-                self.in_documents(alloc, client, &held, file, position, query)
+                self.answer_in_documents(alloc, client, &held, file, position, query)
             }
         }
     }
 
     /// The same, under the documents that the editor holds in the folder.
-    fn in_documents(
+    fn answer_in_documents(
         &mut self,
         alloc: Global,
         client: Client,
@@ -80,12 +80,12 @@ impl<F: Folders + Drop> DocumentAnswers<F> {
     {
         match held.first_unknown() {
             Some(name) => unknown_reply(alloc, name, query),
-            None => self.in_known(alloc, client, held, file, position, query),
+            None => self.answer_in_known(alloc, client, held, file, position, query),
         }
     }
 
     /// The same, where the texts of the documents are known.
-    fn in_known(
+    fn answer_in_known(
         &mut self,
         alloc: Global,
         client: Client,
@@ -178,7 +178,7 @@ impl<F: Folders + Drop> Answers for DocumentAnswers<F> {
             None => no_source_reply(alloc, query),
             Some(file) => {
                 if is_source(file.name.as_bytes()) {
-                    self.in_folder(alloc, client, workspace, &file, spot.position, query)
+                    self.answer_in_folder(alloc, client, workspace, &file, spot.position, query)
                 } else {
                     no_source_reply(alloc, query)
                 }

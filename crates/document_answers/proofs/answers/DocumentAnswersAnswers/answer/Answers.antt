@@ -16,8 +16,8 @@ pub returns-then-is_source-clause-reply : goal.returns-then-is_source-clause-rep
 returns-then-is_source-clause-reply g c =
     let is = subst (λ (o : Option FilePlace). IfSome o (λ place. IsFile c.args.spot.uri.now (string_bytes place.folder) (string_bytes place.name)))
     c.in-Some.is c.in_ok-found.ensures.file in
-    IfOk-weaker c.in_folder.result _ _ (λ reply h. source (string_bytes c.in-Some.file.folder) (string_bytes c.in-Some.file.name) is (sym (c.is_source.ensures ∙ ap is_source_name c.as_bytes.ensures.value) ∙ c.if-is_source.true) h)
-    c.in_folder.ensures.reply
+    IfOk-weaker c.answer_in_folder.result _ _ (λ reply h. source (string_bytes c.in-Some.file.folder) (string_bytes c.in-Some.file.name) is (sym (c.is_source.ensures ∙ ap is_source_name c.as_bytes.ensures.value) ∙ c.if-is_source.true) h)
+    c.answer_in_folder.ensures.reply
 
 pub returns-clause-reply : goal.returns-clause-reply
 returns-clause-reply g c =

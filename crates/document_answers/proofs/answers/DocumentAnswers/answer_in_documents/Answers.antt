@@ -1,6 +1,6 @@
 use Rattle.std.proofs.lemmas.Result.{IfOk-weaker}
 use Rattle.document_answers.specs.Replies.{unknown}
-use Rattle.document_answers.proofs.answers.DocumentAnswers.in_documents.Goals as goal
+use Rattle.document_answers.proofs.answers.DocumentAnswers.answer_in_documents.Goals as goal
 
 pub returns-in-Some-clause-reply : goal.returns-in-Some-clause-reply
 returns-in-Some-clause-reply g c =

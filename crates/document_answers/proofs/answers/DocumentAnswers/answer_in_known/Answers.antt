@@ -8,7 +8,7 @@ use Rattle.query_failures.specs.Folder.{IsFolderFailure}
 use Rattle.requests.specs.Asked.{query_words}
 use Rattle.document_answers.specs.Replies.{no_project, project, unread}
 use Rattle.document_answers.proofs.Refusing.{refused_as}
-use Rattle.document_answers.proofs.answers.DocumentAnswers.in_known.Goals as goal
+use Rattle.document_answers.proofs.answers.DocumentAnswers.answer_in_known.Goals as goal
 
 pub returns-in-Files-clause-reply : goal.returns-in-Files-clause-reply
 returns-in-Files-clause-reply g c =
