@@ -87,7 +87,7 @@ pub fn read_recovery<T: Tree>(
         return Ok(None);
     }
     let files = stored_plan(alloc, &listed, tree)?;
-    let writes = with_closed_gate(alloc, files)?;
+    let writes = add_closed_gate(alloc, files)?;
     take_room(alloc, &writes, tree)?;
     Ok(Some(writes))
 }
@@ -119,7 +119,7 @@ fn stored_plan<T: Tree>(
 }
 
 /// The files of a plan, and the empty gate behind them.
-pub(crate) fn with_closed_gate(
+pub(crate) fn add_closed_gate(
     alloc: Global,
     files: Vec<SourceFile>,
 ) -> Result<Vec<SourceFile>, Memory>

@@ -7,7 +7,7 @@ ghost use Rattle.apply_journal.specs.Recovered.{plan_writes, safe_writes};
 use crate::Plan;
 use crate::gate::{GATE, OPEN};
 use crate::plan::make_file;
-use crate::recovery::with_closed_gate;
+use crate::recovery::add_closed_gate;
 use rotor_base::{Failed, Memory, Row, SourceFile, Text};
 use std::alloc::Global;
 use tree_io::{Tree, write_all};
@@ -47,7 +47,7 @@ pub fn safe_writes(alloc: Global, plan: Plan) -> Result<Vec<SourceFile>, Memory>
         bytes: Row::from_vec(text),
     })?;
     writes.push(make_file(alloc, GATE, OPEN)?)?;
-    let mut rest = with_closed_gate(alloc, files)?;
+    let mut rest = add_closed_gate(alloc, files)?;
     writes.append(&mut rest)?;
     Ok(writes)
 }

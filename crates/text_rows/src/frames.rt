@@ -16,9 +16,9 @@ const MOST_MESSAGES: usize = 10;
 pub fn answer_row(alloc: Global, row: &[&str]) -> Result<String, Memory> {
     match row {
         ["read", bytes] => read_answer(alloc, &decode_bytes(alloc, bytes)?),
-        ["header", size] => read_answer(alloc, &with_header(alloc, size_of(size))?),
-        ["body", count, size] => read_answer(alloc, &with_body(alloc, count, size_of(size))?),
-        ["write", bytes] => read_answer(alloc, &written_twice(alloc, &decode_bytes(alloc, bytes)?)?),
+        ["header", size] => read_answer(alloc, &make_long_header(alloc, size_of(size))?),
+        ["body", count, size] => read_answer(alloc, &make_body(alloc, count, size_of(size))?),
+        ["write", bytes] => read_answer(alloc, &write_twice(alloc, &decode_bytes(alloc, bytes)?)?),
         _ => Ok(String::from_str(alloc, "no row\n")?),
     }
 }
@@ -29,7 +29,7 @@ fn size_of(word: &str) -> usize {
 }
 
 /// A message whose header has so many bytes.
-fn with_header(alloc: Global, size: usize) -> Result<Vec<u8>, Memory> {
+fn make_long_header(alloc: Global, size: usize) -> Result<Vec<u8>, Memory> {
     let mut bytes = Vec::new(alloc);
     bytes.extend_from_slice(b"Content-Length: 2\r\nX: ")?;
     bytes.resize(size.max(26) - 4, b'y')?;
@@ -38,7 +38,7 @@ fn with_header(alloc: Global, size: usize) -> Result<Vec<u8>, Memory> {
 }
 
 /// A header that says a number of bytes, and so many bytes.
-fn with_body(alloc: Global, count: &str, size: usize) -> Result<Vec<u8>, Memory> {
+fn make_body(alloc: Global, count: &str, size: usize) -> Result<Vec<u8>, Memory> {
     let mut bytes = Vec::new(alloc);
     bytes.extend_from_slice(b"Content-Length: ")?;
     bytes.extend_from_slice(count.as_bytes())?;
@@ -50,7 +50,7 @@ fn with_body(alloc: Global, count: &str, size: usize) -> Result<Vec<u8>, Memory>
 }
 
 /// A message, twice.
-fn written_twice(alloc: Global, body: &[u8]) -> Result<Vec<u8>, Memory> {
+fn write_twice(alloc: Global, body: &[u8]) -> Result<Vec<u8>, Memory> {
     let mut bytes = Vec::new(alloc);
     write_message(&mut bytes, body).map_err(|_| Memory)?;
     write_message(&mut bytes, body).map_err(|_| Memory)?;

@@ -9,7 +9,7 @@ use std::test::Fail;
 use tree_io::{HostTree, MemSink, SoundTree, have_distinct_names};
 
 /// The names of a listing that has only those of the things.
-fn listing(alloc: Global, things: &[(&str, Thing)]) -> Result<Vec<u8>, Fail> {
+fn list_names(alloc: Global, things: &[(&str, Thing)]) -> Result<Vec<u8>, Fail> {
     let mut names = Vec::new(alloc);
     for (name, _) in things {
         names.extend_from_slice(name.as_bytes())?;
@@ -134,7 +134,7 @@ const ROWS: &[Row] = &[
 /// Whether a row is met: the folder is listed once, each file is opened once.
 fn is_met(alloc: Global, row: &Row) -> Result<bool, Fail> {
     let calls = Calls::new(alloc);
-    let names = listing(alloc, PROJECT)?;
+    let names = list_names(alloc, PROJECT)?;
     let status = run_on(alloc, row.line, PROJECT, &names, &calls)?;
     Ok(
         status == row.status
@@ -159,7 +159,7 @@ const ALONE: &[&str] = &["sample 2", "check me", "rename", "recover --write"];
 fn words_that_ask_nothing_call_nothing(rt: HostRuntime) -> Result<(), Fail> {
     for line in ALONE {
         let calls = Calls::new(rt.alloc());
-        let names = listing(rt.alloc(), PROJECT)?;
+        let names = list_names(rt.alloc(), PROJECT)?;
         run_on(rt.alloc(), line, PROJECT, &names, &calls)?;
         assert_eq!(rt; calls.count.get(), 0);
     }
@@ -176,7 +176,7 @@ const STOPPED: &[(&str, Thing)] = &[
 #[test]
 fn an_open_gate_stops_before_the_batch(rt: HostRuntime) -> Result<(), Fail> {
     let calls = Calls::new(rt.alloc());
-    let names = listing(rt.alloc(), STOPPED)?;
+    let names = list_names(rt.alloc(), STOPPED)?;
     let status = run_on(rt.alloc(), "batch steps --write", STOPPED, &names, &calls)?;
     assert_eq!(rt; status, Status::Project);
     assert_eq!(rt; calls.listings.get(), 1);
@@ -191,7 +191,7 @@ const OTHERS: u32 = 20_000;
 #[test]
 fn other_names_are_not_opened(rt: HostRuntime) -> Result<(), Fail> {
     let calls = Calls::new(rt.alloc());
-    let mut names = listing(rt.alloc(), PROJECT)?;
+    let mut names = list_names(rt.alloc(), PROJECT)?;
     for number in 0..OTHERS {
         let name = format!(in rt.alloc(); "other.{number}\0")?;
         names.extend_from_slice(name.as_bytes())?;
@@ -207,7 +207,7 @@ fn other_names_are_not_opened(rt: HostRuntime) -> Result<(), Fail> {
 fn unread_files_are_read_in_further_turns(rt: HostRuntime) -> Result<(), Fail> {
     let alloc = rt.alloc();
     let calls = Calls::new(alloc);
-    let names = listing(alloc, PROJECT)?;
+    let names = list_names(alloc, PROJECT)?;
     let disk = NamedDisk {
         alloc,
         things: PROJECT,

@@ -22,7 +22,7 @@ fn weights(rt: HostRuntime) -> Result<(), Fail> {
 
 // Each level has twice the weight of the one below, and one more.
 #[test]
-fn doubled_weights(rt: HostRuntime) -> Result<(), Fail> {
+fn weights_double(rt: HostRuntime) -> Result<(), Fail> {
     let alloc = rt.alloc();
     let mut shape = make_opaque(alloc)?;
     let mut want = 0u64;

@@ -49,7 +49,7 @@ fn matched_types(alloc: Global, levels: usize, room: u32) -> Result<Option<(usiz
 
 // Rows nested-types and nested-types-over; 40 levels would make 1,099,511,627,776 links.
 #[test]
-fn doubled(rt: HostRuntime) -> Result<(), Fail> {
+fn links_double(rt: HostRuntime) -> Result<(), Fail> {
     let alloc = rt.alloc();
     for (levels, room, want) in [
         (20, ROOM, Some((1_048_576, 4_194_302))),

@@ -31,7 +31,7 @@ fn copy_unit(alloc: Global) -> Result<Shape, Memory> {
 }
 
 #[test]
-fn copied_and_shared(rt: HostRuntime) -> Result<(), Fail> {
+fn copies_and_shares_have_one_weight(rt: HostRuntime) -> Result<(), Fail> {
     let alloc = rt.alloc();
     let copied = copy_unit(alloc)?;
     assert_eq!(rt; weight(&copied), 14);
@@ -42,7 +42,7 @@ fn copied_and_shared(rt: HostRuntime) -> Result<(), Fail> {
 }
 
 #[test]
-fn looked_up(rt: HostRuntime) -> Result<(), Fail> {
+fn look_ups_find_the_last_entries(rt: HostRuntime) -> Result<(), Fail> {
     let alloc = rt.alloc();
     let list = entries(alloc, UNIT)?;
     assert_eq!(rt; list.len(), 7);
@@ -55,7 +55,7 @@ fn looked_up(rt: HostRuntime) -> Result<(), Fail> {
 }
 
 #[test]
-fn shown(rt: HostRuntime) -> Result<(), Fail> {
+fn hidden_entries_are_not_visible(rt: HostRuntime) -> Result<(), Fail> {
     let alloc = rt.alloc();
     let list = entries(alloc, UNIT)?;
     for at in 0..list.len() {
@@ -74,7 +74,7 @@ fn is_walked(alloc: Global, list: &[Entry], path: &[&str]) -> Result<bool, Memor
 }
 
 #[test]
-fn walked(rt: HostRuntime) -> Result<(), Fail> {
+fn walks_end_at_modules(rt: HostRuntime) -> Result<(), Fail> {
     let alloc = rt.alloc();
     let list = entries(alloc, UNIT)?;
     let rows: [(&[&str], bool); 5] = [
