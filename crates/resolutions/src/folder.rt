@@ -52,7 +52,7 @@ impl Folder {
         Ok(())
     }
 
-    /// The files of the project that the folder loads as.
+    /// The files of the project that the folder loads as. The errors are those of a load.
     pub fn load(&self, alloc: Global) -> Result<Files, LoadError> {
         let mut sources = Vec::new(alloc);
         for file in &self.files {
@@ -65,7 +65,8 @@ impl Folder {
     }
 }
 
-/// The files of the project that some files load as. If two have one name, the folder fails.
+/// The files of the project that some files load as. If two have one name, the error is `Read`; the others are those of
+/// a load.
 pub fn load_sources(alloc: Global, sources: Vec<SourceFile>) -> Result<Files, LoadError> {
     if !have_distinct_names(&sources) {
         return Err(LoadError::Read);

@@ -9,7 +9,8 @@ use std::alloc::{AllocError, Global};
 /// A position in a list, a declaration, and the number of outside modules after that position.
 type Spot = (u64, Place, u64);
 
-/// The looks as an object: those of references, those of links, and the number of all links.
+/// The looks as an object: those of references, those of links, and the number of all links. The errors are those of a
+/// renaming.
 pub fn looks_object(
     alloc: Global,
     files: &Files,

@@ -8,7 +8,7 @@ use rename_survey::{Binder, listed_are_binders, survey};
 use rotor_base::{Files, Memory, Name, Place, Refusal, SourceFile};
 use std::alloc::{AllocError, Global};
 
-/// The binders and the respelled sources as an object.
+/// The binders and the respelled sources as an object. The errors are those of `survey` and `respell`.
 pub fn respelled_object(alloc: Global, files: &Files, name: &str) -> Result<String, Refusal> {
     let survey = survey(alloc, files)?;
     listed_are_binders();

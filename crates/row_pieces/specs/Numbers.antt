@@ -1,4 +1,4 @@
--- The numbers in a row, as `parse` of Rust's u32 reads them.
+-- The numbers in a row, as `parse` of the Rust standard library reads a u32 (own).
 use Rattle.std.specs.Prelude.{ℕ, ◌^◌, ◌<◌, List}
 use Rattle.std.specs.Str.Parse.{IsNumeral, digits_value, without_leading_plus}
 
