@@ -1,5 +1,5 @@
 -- Want of memory is none of the refusals that a command answers with.
-use Rattle.std.proofs.Common.{◌≡◌, ℕ, suc, List, [], ◌∷◌, Result, Ok, Err, IfErr, ◌≢◌, inl, inr, subst}
+use Rattle.std.proofs.Common.{◌≡◌, ℕ, suc, codes, List, [], ◌∷◌, Result, Ok, Err, IfErr, ◌≢◌, inl, inr, subst}
 use Rattle.rotor_base.specs.Files.{FileSet}
 use Rattle.rotor_base.specs.declared.place.Foot.{Foot}
 use Rattle.rotor_base.specs.declared.place.Place.{Place}
@@ -23,7 +23,8 @@ use Rattle.rename_batch.specs.Batch.{Answers, Stops}
 use Rattle.rename_batch.specs.declared.step.Step.{Step}
 use Rattle.rename_verify.specs.declared.verdict.Verdict.{Verdict}
 use Rattle.rename_verify.specs.Verdict.{Verdicts}
-use Rattle.sample_project.specs.Sample.{Samples}
+use Rattle.sample_project.specs.Sample.{Samples, sample_target}
+use Rattle.sample_project.specs.Sources.{sample_files}
 
 -- ---- the refusals of a project
 
@@ -103,7 +104,7 @@ names_renaming files target new (Err why) h = renaming files target new why h
 
 pub names_sample : (units : ℕ) (r : Result SampleReport Refusal) → Samples units r → IfErr r (λ why. why ≢ refusal.Memory)
 names_sample units (Ok report) h = tt
-names_sample units (Err why) h = renaming _ _ _ why h
+names_sample units (Err why) h = renaming (sample_files units) sample_target (codes "renamed") why h
 
 pub names_verdict : (old new : FileSet) (r : Result Verdict Refusal) → Verdicts old new r → IfErr r (λ why. why ≢ refusal.Memory)
 names_verdict old new (Ok verdict) h = tt
