@@ -13,6 +13,7 @@ pub mod Soundness
 pub mod Made
 pub mod OneReading
 pub mod Twins
+pub mod Knowing
 pub mod HeadsKept
 pub mod OrderKept
 pub mod UnitsKept

@@ -4,9 +4,11 @@ ghost use Rattle.std.specs.Prelude.{IfErr, IfOk, map};
 ghost use Rattle.ml_lexer.specs.Lexed.{view_tokens};
 ghost use Rattle.value_sites.specs.Sound.{IsSound};
 ghost use Rattle.ml_trees.specs.View.{view_project};
+ghost use Rattle.project_reading.specs.Known.{AreKnown};
 ghost use Rattle.project_reading.specs.Reads.{IsRefused, Reads};
 ghost use Rattle.project_reading.specs.Sources.{AreCut};
 
+use crate::known::KnownTrees;
 use crate::order::{link_order, units_at};
 use crate::sources::read_sources;
 use crate::units::gather_units;
@@ -37,8 +39,24 @@ pub fn read_project<'a>(alloc: Global, files: &'a Files) -> Result<Read<'a>, Ref
     ensures tokens { IfOk result (λ read. AreCut files.now.entries (map (λ list. view_tokens list.items) read.tokens.items)) }
     ensures refused { IfErr result (IsRefused files.now) }
 {
+    read_rest(alloc, files, KnownTrees::new(alloc))
+}
+
+/// What [`read_project`] returns, if some trees are known. A source whose tree is known is cut into tokens, and its tokens
+/// are not read. The caller ensures that the known trees are those of the files. The errors are those of [`read_project`].
+pub fn read_rest<'a>(
+    alloc: Global,
+    files: &'a Files,
+    known: KnownTrees,
+) -> Result<Read<'a>, Refusal>
+    requires { AreKnown files.now.entries known }
+    ensures project { IfOk result (λ read. Reads files.now (view_project read.project)) }
+    ensures sound { IfOk result (λ read. IsSound (view_project read.project)) }
+    ensures tokens { IfOk result (λ read. AreCut files.now.entries (map (λ list. view_tokens list.items) read.tokens.items)) }
+    ensures refused { IfErr result (IsRefused files.now) }
+{
     let sources = files.entries();
-    let (trees, tokens) = match read_sources(alloc, sources) {
+    let (trees, tokens) = match read_sources(alloc, sources, known) {
         Ok(read) => read,
         Err(why) => return Err(why),
     };

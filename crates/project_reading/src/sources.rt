@@ -1,13 +1,16 @@
 //! The sources of a project, one after another, as their tokens and their trees.
 
-ghost use Rattle.std.specs.Prelude.{◌≡◌, ◌≤◌, All, IfErr, IfOk, length, map};
+ghost use Rattle.std.specs.Prelude.{◌≡◌, ◌≤◌, All, IfErr, IfOk, List, Some, length, map, slice_get};
+ghost use Rattle.rotor_base.specs.declared.source.SourceFile.{SourceFile};
 ghost use Rattle.rotor_base.specs.Limits.{max_file_bytes, max_sources};
 ghost use Rattle.rotor_base.specs.Stem.{is_body_name};
 ghost use Rattle.ml_lexer.specs.Lexed.{Lexed, view_tokens};
 ghost use Rattle.ml_trees.specs.View.{view_file};
+ghost use Rattle.project_reading.specs.Known.{AreKnown};
 ghost use Rattle.project_reading.specs.Source.{IsSourceRefused, ReadsAs, kind_of_source};
 ghost use Rattle.project_reading.specs.Sources.{AreCut, AreSourcesRefused, ReadAll};
 
+use crate::known::KnownTrees;
 use ml_lexer::{LexError, lex};
 use ml_trees::FileTree;
 use parse_base::ParseError;
@@ -83,17 +86,40 @@ fn tree_of(
     }
 }
 
-/// The trees and the tokens of sources, in order.
+/// The tree of a source with its number: the one that is known, or what its tokens are read as.
+fn find_tree(
+    alloc: Global,
+    number: u32,
+    source: &SourceFile,
+    tokens: &[Token<'_>],
+    known: &mut KnownTrees,
+) -> Result<FileTree, Refusal>
+    requires few { length tokens.now ≤ max_file_bytes }
+    requires cut { Lexed source.now.bytes (view_tokens tokens.now) }
+    ensures tree { IfOk result (λ tree. (sources : List SourceFile) → AreKnown sources known.old → slice_get sources number ≡ Some source.now → ReadsAs number source.now (view_file tree)) }
+    ensures refused { IfErr result (IsSourceRefused number source.now) }
+    ensures known { (sources : List SourceFile) → AreKnown sources known.old → AreKnown sources known.new }
+{
+    match known.take(number as usize) {
+        Some(tree) => Ok(tree),
+        None => tree_of(alloc, number, source, tokens),
+    }
+}
+
+/// The trees and the tokens of sources, in order. A tree that is known is taken.
 pub(crate) fn read_sources<'a>(
     alloc: Global,
     sources: &'a [SourceFile],
+    known: KnownTrees,
 ) -> Result<(Vec<FileTree>, Vec<Vec<Token<'a>>>), Refusal>
+    requires known { AreKnown sources.now known }
     requires few { length sources.now ≤ max_sources }
     requires small { All (λ file. length file.bytes ≤ max_file_bytes) sources.now }
     ensures trees { IfOk result (λ read. ReadAll 0 sources.now (map view_file read.0.items)) }
     ensures tokens { IfOk result (λ read. AreCut sources.now (map (λ list. view_tokens list.items) read.1.items)) }
     ensures refused { IfErr result (AreSourcesRefused sources.now) }
 {
+    let mut left = known;
     let mut trees = Vec::new(alloc);
     let mut cut = Vec::new(alloc);
     for (number, source) in sources.iter().enumerate() {
@@ -101,7 +127,7 @@ pub(crate) fn read_sources<'a>(
             Ok(tokens) => tokens,
             Err(why) => return Err(why),
         };
-        let tree = match tree_of(alloc, number as u32, source, &tokens) {
+        let tree = match find_tree(alloc, number as u32, source, &tokens, &mut left) {
             Ok(tree) => tree,
             Err(why) => return Err(why),
         };

@@ -11,7 +11,7 @@ use Rattle.project_reading.specs.Units.{units_of}
 use Rattle.project_reading.proofs.Linked.{sorted_units, few_units, units_listed}
 use Rattle.project_reading.proofs.Made.{positions_once, reads, sound}
 use Rattle.project_reading.proofs.Reading.{as_many_trees}
-use Rattle.project_reading.proofs.project.read_project.Goals as goal
+use Rattle.project_reading.proofs.project.read_rest.Goals as goal
 
 pub gather_units-requires : goal.gather_units-requires
 gather_units-requires c =
