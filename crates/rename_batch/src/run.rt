@@ -1,10 +1,12 @@
 //! The renamings of a batch, one after the other.
 ghost use Rattle.std.specs.Prelude.{◌≡◌, ◌^◌, ◌<◌, ◌≤◌, Err, IfErr, IfOk, Ok, length, unwrap_or};
 ghost use Rattle.rotor_base.specs.Limits.{max_sources};
+ghost use Rattle.project_reading.specs.Known.{AreKnown};
 ghost use Rattle.rename_batch.specs.Batch.{Answers, Batches, IsErrorOf, IsFailedFor, IsRefusedStep, NamesRefusal, Runs, changed_from, undos_of};
 
 use crate::{BatchError, Batched, Change, Step, Undo};
-use rename_files::rename;
+use project_reading::KnownTrees;
+use rename_files::rename_again;
 use rotor_base::{Files, Memory, Name, Refusal, Renamed, Row, SourceFile, Text};
 use std::alloc::Global;
 
@@ -43,9 +45,17 @@ fn run_steps(
     ensures named { IfErr result NamesRefusal }
 {
     let mut last = None;
+    let mut known = KnownTrees::new(alloc);
     let mut changes = Row::new(alloc);
     for at in 0..steps.len() {
-        let done = run_step(alloc, find_latest(files, &last), &steps[at], at as u32 + 1)?;
+        let (done, next) = run_step(
+            alloc,
+            find_latest(files, &last),
+            known,
+            &steps[at],
+            at as u32 + 1,
+        )?;
+        known = next;
         changes.push(Change {
             old: done.old,
             new: done.new,
@@ -56,13 +66,22 @@ fn run_steps(
     Ok((take_latest(alloc, files, last)?, changes))
 }
 
-/// Does the step of this number in some files.
-fn run_step(alloc: Global, files: &Files, step: &Step, number: u32) -> Result<Renamed, BatchError>
-    ensures done { IfOk result (λ done. Answers files.now step.now (Ok done)) }
+/// Does the step of this number in some files, of which some trees are known. It returns also the trees that are known of
+/// the files that it leaves.
+fn run_step(
+    alloc: Global,
+    files: &Files,
+    known: KnownTrees,
+    step: &Step,
+    number: u32,
+) -> Result<(Renamed, KnownTrees), BatchError>
+    requires { AreKnown files.now.entries known }
+    ensures done { IfOk result (λ again. Answers files.now step.now (Ok again.0)) }
+    ensures known { IfOk result (λ again. AreKnown again.0.files.entries again.1) }
     ensures refused { IfErr result (IsFailedFor (IsRefusedStep files.now step.now number)) }
     ensures named { IfErr result NamesRefusal }
 {
-    match rename(alloc, files, &step.target, step.name.as_bytes()) {
+    match rename_again(alloc, files, known, &step.target, step.name.as_bytes()) {
         Ok(done) => Ok(done),
         Err(refusal) => Err(make_step_error(number, refusal)),
     }

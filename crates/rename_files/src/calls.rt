@@ -10,6 +10,7 @@ ghost use Rattle.binding_model.specs.Facts.{facts as facts_of};
 ghost use Rattle.binding_model.specs.Renaming.{places};
 ghost use Rattle.binding_model.specs.Scopes.{after_units};
 ghost use Rattle.binding_model.specs.Sums.{heavy};
+ghost use Rattle.project_reading.specs.Known.{AreKnown};
 ghost use Rattle.project_reading.specs.Reads.{Reads};
 ghost use Rattle.project_reading.specs.Sources.{AreCut};
 ghost use Rattle.rename_model.specs.Project.{refusals_of_project};
@@ -19,9 +20,9 @@ ghost use Rattle.rename_files.specs.Answer.{Checks, Renames, Shows};
 use crate::judge::judge;
 use dependency_kernel::footprint;
 use mod_shape::Resolved;
-use project_reading::{Read, read_project};
-use rename_project::{find_aim, resolve_placed};
+use project_reading::{KnownTrees, Read, read_project, read_rest};
 use rename_parts::{changed_files, count_refs, remake};
+use rename_project::{find_aim, resolve_placed};
 use rotor_base::{Counts, Files, FootReport, Name, Refusal, Renamed, Row, Target, Watch};
 use std::alloc::Global;
 use value_places::PlacedProject;
@@ -143,9 +144,47 @@ pub fn rename(
     ensures refused { IfErr result (IsRefusedFor (λ why. Renames files.now target.now name.now (Err why))) }
 {
     let read = read_project(alloc, files)?;
+    rename_read(alloc, files, &read, target, name)
+}
+
+/// The answer of [`rename`], if some trees of the files are known, and the trees that are known of the new files: those of
+/// the sources that stay. The caller ensures that the known trees are those of the files. The errors are those of
+/// [`rename`].
+pub fn rename_again(
+    alloc: Global,
+    files: &Files,
+    known: KnownTrees,
+    target: &Target,
+    name: &[u8],
+) -> Result<(Renamed, KnownTrees), Refusal>
+    requires { AreKnown files.now.entries known }
+    ensures done { IfOk result (λ again. Renames files.now target.now name.now (Ok again.0)) }
+    ensures known { IfOk result (λ again. AreKnown again.0.files.entries again.1) }
+    ensures refused { IfErr result (IsRefusedFor (λ why. Renames files.now target.now name.now (Err why))) }
+{
+    let read = read_rest(alloc, files, known)?;
+    let done = rename_read(alloc, files, &read, target, name)?;
+    let known = KnownTrees::from_read(alloc, read, files, &done.files)?;
+    Ok((done, known))
+}
+
+/// The answer of [`rename`] over files that were read.
+fn rename_read(
+    alloc: Global,
+    files: &Files,
+    read: &Read,
+    target: &Target,
+    name: &[u8],
+) -> Result<Renamed, Refusal>
+    requires reads { Reads files.now (view_project read.now.project) }
+    requires sound { IsSound (view_project read.now.project) }
+    requires cut { AreCut files.now.entries (map (λ list. view_tokens list.items) read.now.tokens.items) }
+    ensures done { IfOk result (λ done. Renames files.now target.now name.now (Ok done)) }
+    ensures refused { IfErr result (IsRefusedFor (λ why. Renames files.now target.now name.now (Err why))) }
+{
     let placed = PlacedProject::new(alloc, &read.project)?;
     let resolved = resolve_placed(alloc, &read.project, &placed)?;
-    rename_placed(alloc, files, &read, &placed, &resolved, target, name)
+    rename_placed(alloc, files, read, &placed, &resolved, target, name)
 }
 
 /// The answer of [`rename`] over files that were read and resolved. The caller ensures what [`foot_in`] requires, and that

@@ -2,7 +2,7 @@ use Rattle.rename_batch.proofs.Runs.{done_named, names_refusal, refused_step}
 use Rattle.rename_batch.proofs.run.run_step.Goals as goal
 
 pub returns-in-Ok-clause-done : goal.returns-in-Ok-clause-done
-returns-in-Ok-clause-done c = done_named c.args.files.now c.args.step.now c.as_bytes.result.now c.in-Ok.done c.as_bytes.ensures c.in-Ok.ensures.done
+returns-in-Ok-clause-done c = done_named c.args.files.now c.args.step.now c.as_bytes.result.now c.in-Ok.done.0 c.as_bytes.ensures c.in-Ok.ensures.done
 
 pub returns-in-Err-clause-refused : goal.returns-in-Err-clause-refused
 returns-in-Err-clause-refused c =

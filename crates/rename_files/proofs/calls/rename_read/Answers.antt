@@ -6,7 +6,7 @@ use Rattle.rename_project.specs.Steps.{IsRefusedFor}
 use Rattle.rename_project.proofs.Refusals.{stopped}
 use Rattle.rename_files.proofs.Refusals.{rejects}
 use Rattle.rename_files.proofs.Renaming.{not_renamed}
-use Rattle.rename_files.proofs.calls.rename.Goals as goal
+use Rattle.rename_files.proofs.calls.rename_read.Goals as goal
 
 pub returns-in_err-resolved-clause-refused : goal.returns-in_err-resolved-clause-refused
 returns-in_err-resolved-clause-refused c =
@@ -15,9 +15,9 @@ returns-in_err-resolved-clause-refused c =
     stopped c.from_residual-in_err-resolved.result e (IsRefusedFor (λ why. Renames files c.args.target.now c.args.name.now (Err why)))
     c.from_residual-in_err-resolved.ensures
     (not_renamed files c.args.target.now c.args.name.now e
-    (rejects files (view_project c.in_ok-read.read.project) e c.in_ok-read.ensures.project c.in_err-resolved.ensures.refused))
+    (rejects files (view_project c.args.read.now.project) e c.requires.reads c.in_err-resolved.ensures.refused))
 
 pub returns-in_err-placed-clause-refused : goal.returns-in_err-placed-clause-refused
 returns-in_err-placed-clause-refused c =
-    stopped c.from_residual-in_err-placed.result refusal.Memory
-    (IsRefusedFor (λ why. Renames c.args.files.now c.args.target.now c.args.name.now (Err why))) c.from_residual-in_err-placed.ensures (inr refl)
+    stopped c.from_residual.result refusal.Memory
+    (IsRefusedFor (λ why. Renames c.args.files.now c.args.target.now c.args.name.now (Err why))) c.from_residual.ensures (inr refl)
