@@ -56,11 +56,13 @@ fn mislink(old: Option<Link>, new: Option<Link>) -> Option<Change>
         return None;
     };
     match old.item {
-        Goal::Decl(at) if new.item.equals(old.item) && !old.source.equals(new.source) => Some(Change {
-            at,
-            was: old.source,
-            would: new.source,
-        }),
+        Goal::Decl(at) if new.item.equals(old.item) && !old.source.equals(new.source) => Some(
+            Change {
+                at,
+                was: old.source,
+                would: new.source,
+            },
+        ),
         _ => None,
     }
 }

@@ -9,7 +9,11 @@ use std::alloc::Global;
 use std::collections::BTreeSet;
 
 /// The first of these declarations, which are in order, that has a link with the outside. `Memory` is the only error.
-pub fn find_least_fixed(alloc: Global, links: &[Link], decls: &[Place]) -> Result<Option<Place>, Memory>
+pub fn find_least_fixed(
+    alloc: Global,
+    links: &[Link],
+    decls: &[Place],
+) -> Result<Option<Place>, Memory>
     requires { AllPairs IsBefore decls.now }
     ensures { IfOk result (IsLeastFixed links.now decls.now) }
 {

@@ -15,7 +15,7 @@ ghost use Rattle.binding_model.specs.Walk.{expr_steps};
 
 use crate::expressions::expression;
 use binding_model::Sums;
-use found_facts::{facts_in, start_from_nothing, start_from_sums, looks_in, recorder_of};
+use found_facts::{facts_in, looks_in, recorder_of, start_from_nothing, start_from_sums};
 use ml_trees::Expr;
 use rotor_base::{Facts, Looks, MAX_WORK, Memory, Place, Watch};
 use shape_core::{FactError, Scope};

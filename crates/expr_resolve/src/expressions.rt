@@ -22,8 +22,8 @@ use ml_trees::{
     Argument, Binding, Branch, Case, Expr, Field, LocalModule, Param, Part, Pat, Variable, Word,
 };
 use name_resolve::{
-    go_on_with, group, resolve_opening, start_of, use_label, use_minus, use_name_in, use_operator,
-    use_word, end_weighed_site,
+    end_weighed_site, go_on_with, group, resolve_opening, start_of, use_label, use_minus,
+    use_name_in, use_operator, use_word,
 };
 use pattern_resolve::{
     let_values, local_module, module_entry, pattern, pattern_group, value_group, variable_group,

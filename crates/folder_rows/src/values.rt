@@ -22,9 +22,20 @@ pub fn answer_row(alloc: Global, row: &[&str]) -> Result<String, Memory> {
 
 fn value_answer(alloc: Global, row: &[&str]) -> Result<String, Memory> {
     match row {
-        ["at", name, offset, folder @ ..] => at::answer_row(alloc, name, read_number(offset), folder),
+        ["at", name, offset, folder @ ..] => at::answer_row(
+            alloc,
+            name,
+            read_number(offset),
+            folder,
+        ),
         ["references", counting, name, offset, folder @ ..] => {
-            places::answer_row(alloc, counting_of(counting), name, read_number(offset), folder)
+            places::answer_row(
+                alloc,
+                counting_of(counting),
+                name,
+                read_number(offset),
+                folder,
+            )
         }
         ["rename", counting, name, offset, new, folder @ ..] => {
             let new = new.as_bytes();

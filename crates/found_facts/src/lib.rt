@@ -6,4 +6,4 @@ mod results;
 mod sorting;
 
 pub use recorders::recorder_of;
-pub use results::{facts_in, start_from_nothing, start_from_sums, looks_in};
+pub use results::{facts_in, looks_in, start_from_nothing, start_from_sums};

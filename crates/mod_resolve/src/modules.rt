@@ -16,10 +16,11 @@ use binding_model::Found;
 use expr_resolve::{expression, let_part, let_parts};
 use ml_trees::{FunctorParam, Item, ModArgument, ModExpr, ModType, SigItem};
 use module_entries::{
-    Added, add_nothing, add_opened, add_shown, append, declare_value, functor_from, functor_of,
-    module_site, named_module, end_empty_param, param_entries, token_of, type_at, type_entry, type_start,
+    Added, add_nothing, add_opened, add_shown, append, declare_value, end_empty_param,
+    functor_from, functor_of, module_site, named_module, param_entries, token_of, type_at,
+    type_entry, type_start,
 };
-use name_resolve::{go_on_with, group, match_target, resolve_opening, end_weighed_site};
+use name_resolve::{end_weighed_site, go_on_with, group, match_target, resolve_opening};
 use pattern_resolve::{apply, apply_to_nothing, let_values, module_entry, shape_at, share_result};
 use rotor_base::Place;
 use shape_core::{FactError, Scope, Shared, SharedEntry, bring, make_functor, make_struct};

@@ -12,7 +12,7 @@ ghost use Rattle.mod_shape.specs.Joined.{maybe_shape, joined_steps, joined_shape
 use binding_model::Found;
 use ml_trees::{FileTree, UnitTree};
 use mod_resolve::{signature, structure};
-use name_resolve::{match_target, pin_outside, begin_unit, end_weighed_site};
+use name_resolve::{begin_unit, end_weighed_site, match_target, pin_outside};
 use rotor_base::{Memory, Name, Place};
 use shape_core::{FactError, Scope, Shared, SharedEntry, make_opaque, make_struct};
 use std::alloc::Global;

@@ -13,7 +13,7 @@ ghost use Rattle.binding_model.specs.Scopes.{after_units};
 ghost use Rattle.binding_model.specs.Sums.{heavy};
 
 use crate::project::units;
-use found_facts::{facts_in, start_from_nothing, looks_in, recorder_of};
+use found_facts::{facts_in, looks_in, recorder_of, start_from_nothing};
 use ml_trees::Project;
 use rotor_base::{Facts, Looks, Memory, Place, Row, Watch};
 use shape_core::{FactError, Scope};

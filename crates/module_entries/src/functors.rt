@@ -13,7 +13,7 @@ ghost use Rattle.module_entries.specs.Given.{functor_to, functors_to, given_in, 
 use crate::entries::named_module;
 use binding_model::Found;
 use ml_trees::{FunctorParam, ModType, Word};
-use name_resolve::{match_target, path_in, start_of, end_weighed_site};
+use name_resolve::{end_weighed_site, match_target, path_in, start_of};
 use rotor_base::{Memory, Place};
 use shape_core::{
     FactError, Scope, Shared, SharedEntry, make_functor, make_opaque, make_unitary, mty_in, mty_of,
@@ -67,7 +67,12 @@ pub fn param_entries(
 
 /// Ends the site of a parameter `()`, whose `(` is `paren`: its shape is Opaque. The errors are `Heavy`, at this site,
 /// and `Memory`.
-pub fn end_empty_param(alloc: Global, found: &mut Found, file: u32, paren: u32) -> Result<(), FactError>
+pub fn end_empty_param(
+    alloc: Global,
+    found: &mut Found,
+    file: u32,
+    paren: u32,
+) -> Result<(), FactError>
     ensures taken { HasTaken result found.old found.new (WeighedSite (here file (suc paren)) Opaque) }
     ensures heavy { HasStopped result found.old (WeighedSite (here file (suc paren)) Opaque) }
 {

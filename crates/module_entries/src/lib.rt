@@ -9,5 +9,5 @@ pub use entries::{
     type_entry,
 };
 pub use functors::{
-    functor_from, functor_of, module_site, end_empty_param, param_entries, type_at, type_start,
+    end_empty_param, functor_from, functor_of, module_site, param_entries, type_at, type_start,
 };

@@ -11,9 +11,10 @@ mod uses;
 
 pub use binders::{bind, bind_name, bind_variable, variables};
 pub use found::{
-    group, end_opening_of_nothing, end_opening_site, begin_unit, use_alone, use_under, end_weighed_site,
+    begin_unit, end_opening_of_nothing, end_opening_site, end_weighed_site, group, use_alone,
+    use_under,
 };
 pub use linked::{match_target, pin_outside, tie_parts};
-pub use paths::{resolve_opening, path_in, start_of};
+pub use paths::{path_in, resolve_opening, start_of};
 pub use scopes::go_on_with;
 pub use uses::{use_label, use_minus, use_name, use_name_in, use_operator, use_word};

@@ -15,7 +15,7 @@ ghost use Rattle.shape_core.specs.Places.{HasPlaces};
 ghost use Rattle.rename_parts.specs.Findings.{IsFree, IsRefused, refusal_of};
 
 use crate::blurred::find_least_blurred;
-use crate::checks::{Hit, has_operator, hit_marks, find_least_pun};
+use crate::checks::{Hit, find_least_pun, has_operator, hit_marks};
 use crate::members::hit_places;
 use rotor_base::{Facts, Place, Refusal, Watch, is_name};
 use std::alloc::Global;

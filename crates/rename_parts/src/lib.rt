@@ -17,7 +17,7 @@ mod targets;
 pub use binders::{binder_at, placed_binder};
 pub use blurred::find_least_blurred;
 pub use bytes::{find_first_over, new_bytes};
-pub use checks::{Hit, has_operator, hit_marks, find_least_pun};
+pub use checks::{Hit, find_least_pun, has_operator, hit_marks};
 pub use faults::refusal_of_fault;
 pub use findings::{Findings, Hits, judge_foot};
 pub use links::find_least_unmatched;

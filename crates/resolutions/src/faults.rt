@@ -20,8 +20,8 @@ use ml_lexer::lex;
 use ml_trees::Project;
 use mod_shape::looks;
 use project_reading::read_project;
-use rename_project::resolve_facts;
 use rename_parts::{judge_foot, new_source};
+use rename_project::resolve_facts;
 use rotor_base::{
     Facts, Files, Goal, Link, MAX_FILE_BYTES, MAX_NAME_BYTES, Memory, Place, Ref, Refusal,
     SourceFile, Target, Watch,

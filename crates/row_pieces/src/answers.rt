@@ -10,10 +10,7 @@ use std::io::Input;
 pub fn print_answers<
     R: Input + Print + AllocGlobal,
     F: Fn(Global, &[&str]) -> Result<String, Memory>,
->(
-    rt: &R,
-    answer_row: F,
-) -> io::Result<()>
+>(rt: &R, answer_row: F) -> io::Result<()>
     requires { F.IsAlwaysCallable answer_row }
 {
     let alloc = rt.alloc();

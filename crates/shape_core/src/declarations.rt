@@ -51,7 +51,8 @@ impl Declarations {
     {
         match declaration_in(entry) {
             Some(place) => {
-                self.last_values.insert(place, LastValue { position, darks })?;
+                self.last_values
+                    .insert(place, LastValue { position, darks })?;
                 Ok(())
             }
             None => Ok(()),

@@ -48,7 +48,12 @@ fn find_last(test: Test, watch: &Watched, list: &[SharedEntry]) -> Option<LookSp
 }
 
 // The same if its position is not below another one, at which the walk ends.
-fn find_last_from(test: Test, watch: &Watched, list: &[SharedEntry], from: usize) -> Option<LookSpot>
+fn find_last_from(
+    test: Test,
+    watch: &Watched,
+    list: &[SharedEntry],
+    from: usize,
+) -> Option<LookSpot>
     requires { from ≤ length list.now }
     ensures { result ≡ kept_from from (pure.last_where (test_of test watch.now) (entries_of list.now)) }
 {

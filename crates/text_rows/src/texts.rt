@@ -33,7 +33,11 @@ pub fn answer_row(alloc: Global, row: &[&str]) -> Result<String, Memory> {
                 position,
             )
         }
-        ["diff", old, new] => diff_answer(alloc, &decode_bytes(alloc, old)?, &decode_bytes(alloc, new)?),
+        ["diff", old, new] => diff_answer(
+            alloc,
+            &decode_bytes(alloc, old)?,
+            &decode_bytes(alloc, new)?,
+        ),
         ["message", sentence, text, start, end, help] => {
             let stretch = (read_number(start), read_number(end));
             placed_answer(alloc, sentence, &decode_bytes(alloc, text)?, stretch, help)

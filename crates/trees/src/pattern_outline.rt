@@ -105,7 +105,10 @@ fn add_leaf(out: &mut Outline, pat: &Pat) {
             out.close();
         }
         Pat::Literal(word) => out.add_production("literal", &[word.token]),
-        Pat::Negative { sign, number } => out.add_production("negative", &[sign.token, number.token]),
+        Pat::Negative { sign, number } => out.add_production(
+            "negative",
+            &[sign.token, number.token],
+        ),
         Pat::Range { low, high } => out.add_production("range", &[low.token, high.token]),
         Pat::Constr(path) => out.add_path_production("constructor", &path.words),
         Pat::Tag(tag) => out.add_production("tag", &[tag.token]),

@@ -10,7 +10,12 @@ use std::alloc::Global;
 use value_at::{ValueAt, places_of, value_at};
 
 /// The token of a cursor, what is there, and all places of its footprint.
-pub fn answer_row(alloc: Global, name: &str, offset: u32, folder: &[&str]) -> Result<String, Memory> {
+pub fn answer_row(
+    alloc: Global,
+    name: &str,
+    offset: u32,
+    folder: &[&str],
+) -> Result<String, Memory> {
     match files_of(alloc, folder) {
         Ok(files) => match find_value(alloc, &files, name, offset) {
             Ok(text) => Ok(text),

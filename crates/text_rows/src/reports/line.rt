@@ -48,13 +48,21 @@ pub fn verify_text(
         ["changes", count] => end_line(alloc, verified_line(alloc, read_long(count))?)?,
         ["change", at, old, new] => {
             let (old, new) = (read_name(alloc, old)?, read_name(alloc, new)?);
-            end_line(alloc, changed_line(alloc, names, read_place(at), &old, &new)?)?
+            end_line(
+                alloc,
+                changed_line(alloc, names, read_place(at), &old, &new)?,
+            )?
         }
         ["sources", other] => {
             let other = read_name(alloc, other)?;
             other_sources_text(alloc, &other)?
         }
-        ["byte", file, offset] => other_byte_text(alloc, names, read_number(file), read_number(offset))?,
+        ["byte", file, offset] => other_byte_text(
+            alloc,
+            names,
+            read_number(file),
+            read_number(offset),
+        )?,
         ["fixed", at] => fixed_text(alloc, names, read_place(at))?,
         ["bad", list, line] => bad_list_text(alloc, list, read_number(line))?,
         _ => return Ok(None),

@@ -103,7 +103,9 @@ pub fn read_load_error(alloc: Global, pieces: &[&str]) -> Result<Option<LoadErro
         ["doubleunit", unit] => LoadError::DoubleUnit {
             unit: Name::new(alloc, unit.as_bytes())?,
         },
-        ["badmanifest", line] => LoadError::BadManifest { line: read_number(line) },
+        ["badmanifest", line] => LoadError::BadManifest {
+            line: read_number(line),
+        },
         _ => return Ok(None),
     };
     Ok(Some(error))
