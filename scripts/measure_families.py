@@ -176,6 +176,12 @@ def _(count):
     return one(plain_source(262_144)) | {"steps": steps}
 
 
+@family("a batch of k steps over 100 sources", [2, 4, 8], ("batch", "steps"))
+def _(count):
+    steps = "".join(f"U{number}.f0 g{number}\n" for number in range(count))
+    return {f"u{number}.ml": plain_source(10_000) for number in range(100)} | {"steps": steps}
+
+
 @family("2,000 units with long names", [50, 100, 200])
 def _(length):
     return {f"M{'a' * length}{number:04}.ml": "let x = 1" for number in range(2_000)}
