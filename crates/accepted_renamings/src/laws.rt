@@ -3,8 +3,8 @@
 ghost use Rattle.accepted_renamings.specs.Laws.{AcceptedAreValid, AcceptedExactly, EitherOrder, MembersRenameTheSame};
 ghost use Rattle.accepted_renamings.specs.Laws.{OnceIsTwice, TwiceIsOnce, ValidRenamingsGoOn};
 
-/// A renaming is accepted exactly if three things hold: the map that gives the footprint the new name is valid; the name
-/// is another one; the new sources are within the limits.
+/// A renaming is accepted exactly if three things hold: the map that gives the footprint the new name is valid; the
+/// name is another one; the new sources are within the limits.
 pub fn accepted_exactly()
     ensures { AcceptedExactly }
 {}

@@ -57,8 +57,8 @@ impl Plan {
     }
 }
 
-/// The plan of the files of a project that have these numbers, counted from 0. The caller makes sure that each number is
-/// below that of the files, and that each is greater than the one before it.
+/// The plan of the files of a project that have these numbers, counted from 0. The caller makes sure that each number
+/// is below that of the files, and that each is greater than the one before it.
 ///
 /// # Errors
 ///

@@ -13,8 +13,8 @@ use std::fmt::Write;
 /// The most links of a match.
 const ROOM: u32 = 1_000;
 
-/// Adds the links and the looks of the match of row turned-parameter: the argument is `functor (Y : T) -> struct b end`,
-/// the parameter of `H` is `functor (X : S) -> sig val b end`.
+/// Adds the links and the looks of the match of row turned-parameter: the argument is `functor (Y : T) -> struct b
+/// end`, the parameter of `H` is `functor (X : S) -> sig val b end`.
 pub fn add_turned_parameter(alloc: Global, text: &mut String) -> Result<(), Memory> {
     let target = functor(alloc, &[("a", 7), ("k", 11)], &[("b", 37)])?;
     let source = functor(alloc, &[("a", 21)], &[("b", 57)])?;

@@ -40,8 +40,8 @@ pub fn local_fault(
     local_fault_of(alloc, &placed, facts, looks, watch)
 }
 
-/// The fault that [`local_fault`] returns, of a project whose places are listed. It is that of each sound project with these
-/// places, facts and looks.
+/// The fault that [`local_fault`] returns, of a project whose places are listed. It is that of each sound project with
+/// these places, facts and looks.
 pub fn local_fault_of(
     alloc: Global,
     placed: &PlacedProject<'_>,

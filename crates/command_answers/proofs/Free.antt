@@ -106,7 +106,8 @@ module _ (us : List UnitTree) (d : Place) where
   held_link (l, c, inr h) f = f.links_seen l c h
 
   pub free_known : Known (IsFree us d)
-  free_known = by (fixed_known (at_place (places us) d)) (one_or_none Holds holds_known (facts us).refs) (one_or_none Joins joins_known (facts us).links)
+  free_known =
+      by (fixed_known (at_place (places us) d)) (one_or_none Holds holds_known (facts us).refs) (one_or_none Joins joins_known (facts us).links)
     where
       by : Known (IsFixedSite (at_place (places us) d)) → SomeRef ⊎ ((r : Ref) → Contains (facts us).refs r → Holds r → ⊥)
           → SomeLink ⊎ ((l : Link) → Contains (facts us).links l → Joins l → ⊥) → Known (IsFree us d)

@@ -20,7 +20,8 @@ abbrev HasAnswer : FileMap → List ℕ → Type 0
 HasAnswer held list = (answer : Result FileSet ListError) × Lists held list answer
 
 module _ (held : FileMap) (list bytes : List ℕ) (there : get held list ≡ Some bytes) (few : length bytes ≤ max_file_bytes) where
-  loading : (given : FileMap) → Gives held (feed_lines bytes) empty given → (load : Result FileSet LoadError) → loaded given ≡ load → HasAnswer held list
+  loading : (given : FileMap) → Gives held (feed_lines bytes) empty given → (load : Result FileSet LoadError) → loaded given ≡ load
+      → HasAnswer held list
   loading given gives (Ok files) e = (Ok files, listed.taken bytes given files there few gives e refl)
   loading given gives (Err error) e = (Err (Load error), listed.refused bytes given error there few gives e refl)
 

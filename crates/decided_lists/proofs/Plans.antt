@@ -165,7 +165,8 @@ end_known (b ∷ text) P decide = by (has_known (length (b ∷ text)) (b ∷ tex
   by (inr n) (inl s) = inl (b ∷ s.0, s.1, ap (λ l. b ∷ l) s.2, s.3)
   by (inr n) (inr m) = inr (none n m)
 
-plan_ends : (files : List SourceFile) → plan_text files ≡ (line (codes "rotor-plan 1") ++ (codes "files " ++ line (decimal (length files)))) ++ entries files
+plan_ends : (files : List SourceFile)
+    → plan_text files ≡ (line (codes "rotor-plan 1") ++ (codes "files " ++ line (decimal (length files)))) ++ entries files
 plan_ends files = sym (append_assoc (line (codes "rotor-plan 1")) (codes "files " ++ line (decimal (length files))) (entries files))
 
 pub plans_are_decided : PlansAreDecided
@@ -174,4 +175,10 @@ plans_are_decided bytes = by (end_known bytes (IsPlan bytes) (plan_known bytes))
   by (inl s) = inl (s.3.0, s.3.2)
   by (inr n) =
       inr (λ files p.
-      n (line (codes "rotor-plan 1") ++ (codes "files " ++ line (decimal (length files))), entries files, p.written ∙ plan_ends files, (files, refl, p)))
+      n (
+        line (codes "rotor-plan 1") ++ (codes "files " ++ line (decimal (length files))),
+        entries files,
+        p.written
+            ∙ plan_ends files,
+        (files, refl, p),
+      ))

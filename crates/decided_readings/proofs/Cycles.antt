@@ -91,7 +91,8 @@ module _ (us : List UnitTree) (start : ℕ) (inside : start < length us) where
   search : (left done : ℕ) → done + left ≡ length us + 1 → IsDone done → IsKnown us start
   search zero done size d = known_by done d (omega (arith, size, d.spread.room))
   search (suc left) done size d = by (less_or_all done (length d.queue)) (search left (done + 1)) where
-    by : ((done < length d.queue) ⊎ (length d.queue ≤ done)) → (done + 1 + left ≡ length us + 1 → IsDone (done + 1) → IsKnown us start) → IsKnown us start
+    by : ((done < length d.queue) ⊎ (length d.queue ≤ done)) → (done + 1 + left ≡ length us + 1 → IsDone (done + 1) → IsKnown us start)
+        → IsKnown us start
     by (inl less) more = more (omega (arith, size)) (one_done done d less)
     by (inr all) more = known_by done d all
 

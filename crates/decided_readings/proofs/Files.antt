@@ -25,7 +25,11 @@ module _ (files : FileSet) (trees : List FileTree) (read : ReadAll 0 files.entri
   derived none true e order = project (λ is. e)
   derived none false e (inl all) = absurd (true≢false (sym all ∙ e))
   derived none false e (inr stuck) =
-      inr (refusal.Cycle stuck.0, inr (stuck.0, refl, record { trees = trees; read = read; stuck = record { derived = none; left = e; stuck = stuck.1 } }))
+      inr (
+        refusal.Cycle stuck.0,
+        inr
+            (stuck.0, refl, record { trees = trees; read = read; stuck = record { derived = none; left = e; stuck = stuck.1 } }),
+      )
 
   linked : (manifest : Option (List ℕ)) → files.manifest ≡ manifest → HasReading files
   linked None e = derived e (takes_all units) refl (orders_are_decided units (units_apart files.entries trees))

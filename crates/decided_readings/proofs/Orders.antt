@@ -75,7 +75,8 @@ turns us apart (suc n) taken many size = by (first_ready us taken us) refl (turn
       → ((t : List (List ℕ)) → n + length t ≡ length us → count_left us t + length t ≡ length us → (length (taking n us t) ≡ length us) ⊎ HasStop us)
       → (length (go_on taken o (taking n us)) ≡ length us) ⊎ HasStop us
   by None e more = inr (record { names = taken; none = e; left = omega (arith, many, size) })
-  by (Some name) e more = more (taken ++ name ∷ []) (omega (arith, many, one_more taken name)) (less_left us taken name apart size (next_is us taken us name e))
+  by (Some name) e more =
+      more (taken ++ name ∷ []) (omega (arith, many, one_more taken name)) (less_left us taken name apart size (next_is us taken us name e))
 
 -- ---- the first unit that lies on a cycle
 

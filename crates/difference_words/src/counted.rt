@@ -12,8 +12,8 @@ use project_reading::Read;
 use rotor_base::{Files, Memory, Row};
 use std::alloc::Global;
 
-/// A line that says in how many places OCaml may read a folder otherwise; if there is none, nothing. The one error is want
-/// of memory.
+/// A line that says in how many places OCaml may read a folder otherwise; if there is none, nothing. The one error is
+/// want of memory.
 #[tactic(auto, using(crate::proofs::Warned::line_known))]
 pub fn counted_differences(alloc: Global, files: &Files, read: &Read<'_>) -> Result<Row<u8>, Memory>
     requires reads { Reads files.now (view_project read.now.project) }

@@ -1,5 +1,6 @@
 -- The tokens of sources that are cut.
-use Rattle.std.proofs.Common.{◌≡◌, ℕ, zero, suc, ◌<◌, ◌≤◌, List, [], ◌∷◌, All, Option, Some, arith, get_or, length, map, slice_get, ap, subst, sym, ◌∙◌}
+use Rattle.std.proofs.Common.{◌≡◌, ℕ, zero, suc, ◌<◌, ◌≤◌, List, [], ◌∷◌, All, Option, Some, arith, get_or, length, map, slice_get, ap, subst, sym}
+use Rattle.std.proofs.Common.{◌∙◌}
 use Rattle.rotor_base.specs.declared.token.Token.{Token}
 use Rattle.ml_lexer.specs.Lexed.{view_tokens}
 use Rattle.refusal_words.specs.Cut.{view_cut}

@@ -11,4 +11,5 @@ use Rattle.document_answers.specs.declared.over.Asked.{Asked}
 -- the reply to what is asked, over these files
 abbrev pub RepliesTo : Asked → FileSet → Result Answer Failure → Type 0
 RepliesTo a files reply =
-    RepliesOver a.client (string_bytes a.file.now.folder) (documents a.held.now) (string_bytes a.file.now.name) files a.position (query_words a.query) reply
+    RepliesOver a.client (string_bytes a.file.now.folder) (documents a.held.now) (string_bytes a.file.now.name) files a.position (query_words a.query)
+    reply

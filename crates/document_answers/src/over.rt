@@ -41,7 +41,8 @@ use std::alloc::Global;
 use text_places::{Counting, Position, offset_of};
 use value_at::{ValueAt, token_at};
 
-/// A query at a place of a source: the client that asks it, and the documents that it holds in the folder of the source.
+/// A query at a place of a source: the client that asks it, and the documents that it holds in the folder of the
+/// source.
 #[derive(Clone, Copy)]
 pub(crate) struct Asked<'a> {
     pub client: Client,
@@ -51,8 +52,8 @@ pub(crate) struct Asked<'a> {
     pub query: Query<&'a str>,
 }
 
-/// Files with what they are read as and what that is resolved to, the folder as an answer shows it, and whether the editor
-/// takes versions.
+/// Files with what they are read as and what that is resolved to, the folder as an answer shows it, and whether the
+/// editor takes versions.
 #[derive(Clone, Copy)]
 pub(crate) struct Around<'a> {
     pub files: &'a Files,

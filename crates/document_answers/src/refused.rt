@@ -7,7 +7,8 @@ ghost use Rattle.document_answers.specs.Refused.{IsRefused};
 use lsp_answers::{Answer, Failure, Reply};
 use requests::Query;
 
-/// The reply to a query that is refused: the failure. An editor asks for highlights by itself, so of them there is none.
+/// The reply to a query that is refused: the failure. An editor asks for highlights by itself, so of them there is
+/// none.
 pub(crate) fn refused_reply(query: Query<&str>, failure: Failure) -> Reply
     requires { IsPlainNote failure.«data» }
     ensures refused { IsRefused (query_words query.entry) (λ given. given ≡ failure) result }

@@ -30,7 +30,8 @@ same_source t file (p ∷ ps) h =
     (map (λ (q : ValuePlace). span_among (slice_get t.cuts q.at.file) q.at.token) ps)) (sym first)
     ∙ ap (λ rs. range_at t p.at ∷ rs) (same_source t file ps (λ k d lt. h (suc k) d (omega (arith, lt))))
 
-first_then : (file : ℕ) (p : ValuePlace) (ps : List ValuePlace) → p.at.file ≡ file → All (λ q. q.at.file ≡ file) ps → All (λ q. q.at.file ≡ file) (p ∷ ps)
+first_then : (file : ℕ) (p : ValuePlace) (ps : List ValuePlace) → p.at.file ≡ file → All (λ q. q.at.file ≡ file) ps
+    → All (λ q. q.at.file ≡ file) (p ∷ ps)
 first_then file p ps h hs zero d lt = h
 first_then file p ps h hs (suc k) d lt = hs k d (omega (arith, lt))
 
@@ -43,7 +44,8 @@ all_front (p ∷ ps) d file n le h hs =
     subst (λ m. All (λ (q : ValuePlace). q.at.file ≡ file) (take m (p ∷ ps))) (sym next) (first_then file p (take n ps) h hs)
 
 -- the ranges of the spans at places of one source
-pub ranged : {E : Type 0} (t : Telling) (file : ℕ) (ps : List ValuePlace) (bytes : List ℕ) (spans those : List Span) (result : Result (Vec TextRange) E)
+pub ranged : {E : Type 0} (t : Telling) (file : ℕ) (ps : List ValuePlace) (bytes : List ℕ) (spans those : List Span)
+    (result : Result (Vec TextRange) E)
     → All (λ p. p.at.file ≡ file) ps → bytes ≡ bytes_among (slice_get t.cuts file) → those ≡ spans
     → spans ≡ map (λ (p : ValuePlace). span_among (slice_get t.cuts p.at.file) p.at.token) ps
     → IfOk result (λ list. list.items ≡ map (range_of t.counting bytes) those)

@@ -11,8 +11,8 @@ use renaming_edits::FileEdits;
 use rotor_base::Memory;
 use std::alloc::Global;
 
-/// The edits of documents, of those of sources in order: first the document of the request, then the other ones that the
-/// editor holds, then the rest. A document that the editor holds has its version. The one error is want of memory.
+/// The edits of documents, of those of sources in order: first the document of the request, then the other ones that
+/// the editor holds, then the rest. A document that the editor holds has its version. The one error is want of memory.
 pub fn document_edits(
     alloc: Global,
     scene: Scene<'_>,

@@ -1,5 +1,6 @@
 -- The URI that is written for a file names it.
-use Rattle.std.proofs.Common.{◌≡◌, ◌⊎◌, inl, inr, ◌<◌, ◌+◌, ◌==◌, ℕ, Bool, false, cond, nat_lt, List, [], ◌∷◌, ◌++◌, None, Some, codes, drop, length, take, refl, sym, ap, subst, ◌∙◌, arith}
+use Rattle.std.proofs.Common.{◌≡◌, ◌⊎◌, inl, inr, ◌<◌, ◌+◌, ◌==◌, ℕ, Bool, false, cond, nat_lt, List, [], ◌∷◌, ◌++◌, None, Some, codes, drop, length}
+use Rattle.std.proofs.Common.{take, refl, sym, ap, subst, ◌∙◌, arith}
 use Rattle.std.specs.Prelude.{All, IsUtf8}
 use Rattle.std.specs.Option.{option_and_then}
 use Rattle.std.specs.List.{list_any}
@@ -17,7 +18,8 @@ use Rattle.document_uris.proofs.Escapes.{escaped_back, escaped_whole}
 reads : (rest : List ℕ) → list_any ends_path rest ≡ false → written_path (codes "file://" ++ 47 ∷ rest) ≡ Some rest
 unfolding behind_scheme behind_host
 reads rest whole =
-    ap (λ (ends : Bool). cond ends None (option_and_then (λ slash. cond (is_local (take slash (47 ∷ rest))) (Some (drop (slash + 1) (47 ∷ rest))) None)
+    ap (λ (ends : Bool). cond ends None
+    (option_and_then (λ slash. cond (is_local (take slash (47 ∷ rest))) (Some (drop (slash + 1) (47 ∷ rest))) None)
     (cond (nat_lt 0 (length (47 ∷ rest))) (Some 0) None))) whole
     ∙ ap (λ (some : Bool). option_and_then (λ slash. cond (is_local (take slash (47 ∷ rest))) (Some (drop (slash + 1) (47 ∷ rest))) None)
     (cond some (Some 0) None)) (lt-ltb 0 (length (47 ∷ rest)) (omega arith))
@@ -65,7 +67,8 @@ tail_of path (x ∷ parent) name text split named none folder_bytes name_bytes =
         no_nul = subst (λ (p : List ℕ). list_any (λ b. b == 0) p ≡ false) cut none;
       };
       bytes =
-          All-append IsByte (x ∷ parent) (47 ∷ name) (All-tail IsByte 47 (x ∷ parent) folder_bytes) (All-cons IsByte 47 name (omega arith) name_bytes);
+          All-append IsByte (x ∷ parent) (47 ∷ name) (All-tail IsByte 47 (x ∷ parent) folder_bytes)
+          (All-cons IsByte 47 name (omega arith) name_bytes);
       whole = refl;
     },
   )

@@ -12,9 +12,9 @@ use rotor_base::{Facts, Files, Renamed, Target};
 use std::alloc::Global;
 use text_places::Counting;
 
-/// The edits of an accepted renaming, for each source that changed, in order. The caller ensures that the facts are those of
-/// the project that the files are read as. If an editor applies the edits of a source as the Language Server Protocol says,
-/// it has the new source. The other sources keep their bytes.
+/// The edits of an accepted renaming, for each source that changed, in order. The caller ensures that the facts are
+/// those of the project that the files are read as. If an editor applies the edits of a source as the Language Server
+/// Protocol says, it has the new source. The other sources keep their bytes.
 ///
 /// # Errors
 ///

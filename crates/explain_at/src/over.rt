@@ -23,9 +23,9 @@ use rotor_base::{Facts, Files, Memory, Refusal, SourceFile, Target};
 use std::alloc::Global;
 use text_places::Position;
 
-/// What is said of the value at a place of the files of a project. The word is `FILE:LINE:COLUMN`, with lines and columns
-/// from 1, and columns in bytes. If the token there declares or uses a value of the folder, it is the target of its
-/// declaration, `FILE#N`. The one error is want of memory.
+/// What is said of the value at a place of the files of a project. The word is `FILE:LINE:COLUMN`, with lines and
+/// columns from 1, and columns in bytes. If the token there declares or uses a value of the folder, it is the target of
+/// its declaration, `FILE#N`. The one error is want of memory.
 pub fn explain_at(alloc: Global, files: &Files, word: &str) -> Result<Told, Memory>
     ensures { IfOk result (SaysAt files.now word.now) }
 {

@@ -41,7 +41,8 @@ SaysStep None files step number told = (said : Told) × SaysRename files step.ta
 -- the same by the message of the refusal over the lexemes of the files
 abbrev pub SaysStepAfter : FileSet → Step → ℕ → Refusal → Told → Type 0
 SaysStepAfter files step number why told =
-    (cuts : List Cut) × (message : Option Message) × AreCuts files.entries cuts × SaysPlaced cuts why message × SaysStep message files step number told
+    (cuts : List Cut) × (message : Option Message) × AreCuts files.entries cuts × SaysPlaced cuts why message
+    × SaysStep message files step number told
 
 -- a batch whose step of this number, from 1, is the first that is refused, over the files that the steps before it leave
 pub record IsStopped (files : FileSet) (steps : List Step) (number : ℕ) (why : Refusal) (told : Told) : Type 0 where

@@ -22,8 +22,8 @@ use tree_io::{Tree, TreeError};
 /// The most bytes of a batch that are read: one more than it may have.
 const READ_LIMIT: u32 = MAX_FILE_BYTES + 1;
 
-/// What is said of the batch in the file of this name, over the files of a project: how many steps and sources it has, and
-/// the diffs of the sources; or the first step that is refused; or why the file is no batch. It writes nothing.
+/// What is said of the batch in the file of this name, over the files of a project: how many steps and sources it has,
+/// and the diffs of the sources; or the first step that is refused; or why the file is no batch. It writes nothing.
 ///
 /// # Errors
 ///
@@ -51,8 +51,8 @@ fn missing_told(alloc: Global, file: &str) -> Result<Told, Memory>
     unloaded_told(alloc, Some(no_batch(alloc, file.as_bytes())?))
 }
 
-/// The first bytes of the file of a batch, as many as it may have and one more; none if the folder lacks the file, or it
-/// is a source or the manifest.
+/// The first bytes of the file of a batch, as many as it may have and one more; none if the folder lacks the file, or
+/// it is a source or the manifest.
 fn read_batch_file<T: Tree>(
     alloc: Global,
     file: &str,

@@ -1,5 +1,6 @@
 -- The words of the program (own).
-use Rattle.std.specs.Prelude.{◌-◌, ◌&&◌, ◌||◌, List, [], ◌∷◌, Bool, true, false, Option, Some, None, codes, length, map, option_map, slice_get, string_bytes, take, String}
+use Rattle.std.specs.Prelude.{◌-◌, ◌&&◌, ◌||◌, List, [], ◌∷◌, Bool, true, false, Option, Some, None, codes, length, map, option_map, slice_get}
+use Rattle.std.specs.Prelude.{string_bytes, take, String}
 use Rattle.std.specs.Prelude.{if◌then◌else◌}
 use Rattle.std.specs.Str.{bytes_eq}
 use Rattle.std.specs.declared.alloc.Global.{Global}

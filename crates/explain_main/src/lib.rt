@@ -1,4 +1,5 @@
-//! The program `rotor-explain` over any folder and any output: it explains what `rotor` would answer, and writes nothing.
+//! The program `rotor-explain` over any folder and any output: it explains what `rotor` would answer, and writes
+//! nothing.
 #![tactic(auto)]
 
 mod code;

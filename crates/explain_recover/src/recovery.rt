@@ -15,8 +15,8 @@ use rotor_base::{Memory, Row, SourceFile};
 use std::alloc::Global;
 use tree_io::{Tree, TreeError};
 
-/// What is said of a recovery of a folder: the files that it would write, or that there is none to write; or, if the gate
-/// is open and there is no plan, the message of that. It writes nothing.
+/// What is said of a recovery of a folder: the files that it would write, or that there is none to write; or, if the
+/// gate is open and there is no plan, the message of that. It writes nothing.
 ///
 /// # Errors
 ///

@@ -53,7 +53,8 @@ pub bad_listed : (content now : Option FileMap) (list : List ℕ) (number : ℕ)
 bad_listed content now list number result told same e h said =
     by content h (subst (λ (o : Option FileMap). IfSome o (λ held. MayBeBad held list number → IsBadList held list number told)) same said) where
       by : (content : Option FileMap) → IfSome content (λ held. IsListAnswer held list result)
-          → IfSome content (λ held. MayBeBad held list number → IsBadList held list number told) → IfSome content (λ held. IsListed held list (listed.Told told))
+          → IfSome content (λ held. MayBeBad held list number → IsBadList held list number told)
+          → IfSome content (λ held. IsListed held list (listed.Told told))
       by None h said = tt
       by (Some held) h said =
           let lists = is_bad held list number result e h in
@@ -72,7 +73,8 @@ load_listed (Some held) list why result told e other is h = by (subst (IsListAns
   by (inr lists) = record { error = list_error.Load why; refused = lists; says = is }
 
 -- what is read of a list is all of it
-pub bad_read : (content : Option FileMap) (list read : List ℕ) (number : ℕ) (told : Told) → IfSome content (λ held. IsFront 1048577 (get held list) read)
+pub bad_read : (content : Option FileMap) (list read : List ℕ) (number : ℕ) (told : Told)
+    → IfSome content (λ held. IsFront 1048577 (get held list) read)
     → number ≢ 0 → (0 < number → number ≤ length (feed_lines read) → IsAtLine list read number told)
     → IfSome content (λ held. MayBeBad held list number → IsBadList held list number told)
 bad_read None list read number told front some h = tt

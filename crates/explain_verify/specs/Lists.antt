@@ -30,7 +30,8 @@ large_message file =
 
 -- of a unit that two files make
 abbrev pub double_message : Word → Message
-double_message unit = bare kind.DoubleUnit (join (codes "two files make the unit `" ∷ unit ∷ codes "`" ∷ [])) (Some (codes "rename or move one of them"))
+double_message unit =
+    bare kind.DoubleUnit (join (codes "two files make the unit `" ∷ unit ∷ codes "`" ∷ [])) (Some (codes "rename or move one of them"))
 
 -- of a manifest whose line of this number is bad
 abbrev pub manifest_message : ℕ → Message

@@ -17,7 +17,8 @@ use Rattle.ml_trees.specs.Tree.{Cases, no_case, more_case, Argument, Positional,
 use Rattle.ml_trees.specs.Tree.{PatternParam, LabelParam, LabelPattern, DefaultParam, WrappedParam, WrappedDefault, TypesParam, Params, no_param}
 use Rattle.ml_trees.specs.Tree.{more_param, Part, LabelPart, IndexPart, CharPart, Parts, no_part, more_part, Field, FieldPun, AssignedField, Fields}
 use Rattle.ml_trees.specs.Tree.{no_field, more_field}
-use Rattle.pattern_reading.proofs.LongerPat.{dotted_longer, path_longer, qualified_longer, name_longer, run_longer, type_longer, optional_longer, pat_more}
+use Rattle.pattern_reading.proofs.LongerPat.{dotted_longer, path_longer, qualified_longer, name_longer, run_longer, type_longer, optional_longer}
+use Rattle.pattern_reading.proofs.LongerPat.{pat_more}
 
 pub variable_more : (a : Variable) (k : List Tok) → length k ≤ length (variable_then a k)
 variable_more (PlainVariable x) k = omega arith

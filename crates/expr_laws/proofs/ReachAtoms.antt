@@ -21,7 +21,8 @@ use Rattle.ml_trees.specs.Tree.{Arguments, no_argument, more_argument, Part, Lab
 use Rattle.token_reading.specs.Steps.{Read, ◌>>=◌, expect, many, many_if, always}
 use Rattle.token_reading.specs.Pieces.{dot_upper, more_uppers}
 use Rattle.token_reading.proofs.Stepping.{some_is, from_some, bind_ok}
-use Rattle.token_reading.proofs.Reach.{Beyond, exact, farther, Reach, stop, weaken, and_then, as_read, many_shorter, many_if_shorter, no_turn, last_turn}
+use Rattle.token_reading.proofs.Reach.{Beyond, exact, farther, Reach, stop, weaken, and_then, as_read, many_shorter, many_if_shorter, no_turn}
+use Rattle.token_reading.proofs.Reach.{last_turn}
 use Rattle.token_reading.proofs.Reach.{more_turns, map_some, map_read, expect_same}
 use Rattle.pattern_reading.proofs.LongerPat.{dotted_longer, path_longer, qualified_longer}
 use Rattle.token_reading.proofs.ReachPieces.{uppers_reach, qualifiers_reach, type_run_read}

@@ -19,7 +19,8 @@ use Rattle.ml_trees.specs.Tree.{Param, PatternParam, LabelParam, LabelPattern, D
 use Rattle.ml_trees.specs.Tree.{no_param, more_param, Part, LabelPart, IndexPart, CharPart, Parts, no_part, more_part, Field, FieldPun}
 use Rattle.ml_trees.specs.Tree.{AssignedField, Fields, no_field, more_field}
 use Rattle.token_reading.specs.Steps.{Read, ◌>>=◌, many, many_if}
-use Rattle.token_reading.proofs.Reach.{Beyond, exact, farther, Reach, stop, weaken, and_then, as_read, many_if_shorter, no_turn, last_turn, more_turns}
+use Rattle.token_reading.proofs.Reach.{Beyond, exact, farther, Reach, stop, weaken, and_then, as_read, many_if_shorter, no_turn, last_turn}
+use Rattle.token_reading.proofs.Reach.{more_turns}
 use Rattle.token_reading.proofs.Reach.{map_some, map_read}
 use Rattle.expr_reading.specs.ExprReading.{is_calm, may_follow, goes_on, grown_chain, grown_seq, cons_operand, last_of, apply, let_expr, fun_expr}
 use Rattle.expr_reading.specs.ExprReading.{all_cases, match_expr, if_expr, unary, operator_part, tier, expr, seq, read_expr}

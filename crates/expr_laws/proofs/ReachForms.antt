@@ -21,7 +21,8 @@ use Rattle.ml_trees.specs.Tree.{For, MaybeExpr, no_expr, some_expr, Tail, no_els
 use Rattle.ml_trees.specs.Tree.{no_binding, more_binding, Case, CaseOf, Cases, no_case, more_case, Params, no_param, more_param}
 use Rattle.token_reading.specs.Steps.{Read, ◌>>=◌, many, always}
 use Rattle.token_reading.specs.Pieces.{value_name}
-use Rattle.token_reading.proofs.Reach.{Reach, stop, and_then, as_read, many_shorter, many_if_shorter, no_turn, last_turn, more_turns, map_some, map_read}
+use Rattle.token_reading.proofs.Reach.{Reach, stop, and_then, as_read, many_shorter, many_if_shorter, no_turn, last_turn, more_turns, map_some}
+use Rattle.token_reading.proofs.Reach.{map_read}
 use Rattle.token_reading.proofs.Reach.{expect_same}
 use Rattle.pattern_reading.proofs.LongerPat.{begins_pat, Opens, pat_opens, pat_longer, path_longer, type_longer, name_longer, optional_longer}
 use Rattle.token_reading.proofs.ReachPieces.{name_read, type_read}

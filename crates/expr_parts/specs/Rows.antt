@@ -7,7 +7,8 @@ use Rattle.ml_trees.specs.declared.expression.LocalArgument.{LocalArgument}
 use Rattle.ml_trees.specs.declared.expression.LocalArgument.TheBlock as l
 use Rattle.ml_trees.specs.declared.fixed.Fixed.TheVariants as key
 use Rattle.ml_trees.specs.Tok.{Name, Tok, fixed, word}
-use Rattle.ml_trees.specs.Tree.{Parts, no_part, more_part, Expr, Constr, Tag, ConstrApply, TagApply, LocalPath, Links, no_link, Field, Fields, no_field}
+use Rattle.ml_trees.specs.Tree.{Parts, no_part, more_part, Expr, Constr, Tag, ConstrApply, TagApply, LocalPath, Links, no_link, Field, Fields}
+use Rattle.ml_trees.specs.Tree.{no_field}
 use Rattle.ml_trees.specs.Tree.{more_field}
 use Rattle.ml_trees.specs.WellFormed.{op_level, is_constr}
 use Rattle.ml_trees.specs.View.{view, view_path, view_locals}

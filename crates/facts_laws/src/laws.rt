@@ -18,8 +18,8 @@ pub fn good_repeats_none()
     ensures { GoodRepeatsNone }
 {}
 
-/// Footprints are a partition: each declaration has one and is in it. It is the footprint of each of its members and has
-/// no member in common with another one.
+/// Footprints are a partition: each declaration has one and is in it. It is the footprint of each of its members and
+/// has no member in common with another one.
 pub fn footprints_part()
     ensures exist { FootprintsExist }
     ensures cover { FootprintsCover }

@@ -1,6 +1,7 @@
 -- The lines of a text: none is longer than the text, and where one begins.
 use Rattle.std.proofs.Common.{◌≡◌, ℕ, zero, suc, ◌+◌, ◌-◌, ◌<◌, ◌≤◌, ◌==◌, if◌then◌else◌, Bool, true, false, cond, get_or, nat_lt, ne_eqb, not}
-use Rattle.std.proofs.Common.{◌⊎◌, inl, inr, Option, Some, None, Result, Ok, Err, IfOk, Bor, List, [], ◌∷◌, map, option_map, refl, sym, ap, ◌∙◌, arith}
+use Rattle.std.proofs.Common.{◌⊎◌, inl, inr, Option, Some, None, Result, Ok, Err, IfOk, Bor, List, [], ◌∷◌, map, option_map, refl, sym, ap, ◌∙◌}
+use Rattle.std.proofs.Common.{arith}
 use Rattle.std.proofs.Common.{length, take, drop, slice_get, slice_index, eqb}
 use Rattle.std.specs.List.{position_or_len}
 use Rattle.std.specs.Str.Lines.{lines, strip_carriage_return}
@@ -46,7 +47,8 @@ not_less : (a b : ℕ) → nat_lt a b ≡ false → a ≤ b → a ≡ b
 not_less a b t le = grind arith
 
 by_end : (b : ℕ) (bs : List ℕ) (t : Bool) → nat_lt (position_or_len (λ b. eqb b 10) (b ∷ bs)) (length (b ∷ bs)) ≡ t
-    → (position_or_len (λ b. eqb b 10) (b ∷ bs) < length (b ∷ bs) → Short (drop (position_or_len (λ b. eqb b 10) (b ∷ bs) + 1) (b ∷ bs))) → Short (b ∷ bs)
+    → (position_or_len (λ b. eqb b 10) (b ∷ bs) < length (b ∷ bs) → Short (drop (position_or_len (λ b. eqb b 10) (b ∷ bs) + 1) (b ∷ bs)))
+    → Short (b ∷ bs)
 by_end b bs true t rest = λ k w e.
     let lt : position_or_len (λ b. eqb b 10) (b ∷ bs) < length (b ∷ bs) = less _ _ t in
     ended (b ∷ bs) (position_or_len (λ b. eqb b 10) (b ∷ bs)) refl lt (rest lt) k w (rw (lines_ended (b ∷ bs) lt) at e)
@@ -91,7 +93,8 @@ pub plain_step : (before left next at : ℕ) (bytes : List ℕ) → at < length 
     → at + start_of left (drop at bytes) ≡ start_of before bytes → (at + 1) + start_of next (drop (at + 1) bytes) ≡ start_of before bytes
 plain_step before zero next at bytes lt some not same inv = absurd (some refl)
 plain_step before (suc n) next at bytes lt some not same inv =
-    let more : start_of (suc n) (drop at bytes) ≡ suc (start_of (suc n) (drop (at + 1) bytes)) = rw (ne_eqb (get_or bytes at 0) 10 not) at (start_more n at 0 bytes lt) in
+    let more : start_of (suc n) (drop at bytes) ≡ suc (start_of (suc n) (drop (at + 1) bytes)) =
+    rw (ne_eqb (get_or bytes at 0) 10 not) at (start_more n at 0 bytes lt) in
     rw same (omega (arith, more, inv))
 
 -- ---- the line of a number

@@ -10,8 +10,8 @@ use mod_shape::Resolved;
 use rotor_base::Files;
 use std::marker::Model;
 
-/// Files that are accepted as a project, with the project that they are read as and what it is resolved to. Clauses see the
-/// files.
+/// Files that are accepted as a project, with the project that they are read as and what it is resolved to. Clauses see
+/// the files.
 #[derive(Drop)]
 pub struct KeptProject {
     files: Files,

@@ -71,7 +71,8 @@ fn known_trees(alloc: Global, last: KeptProject, files: &Files) -> Result<KnownT
     KnownTrees::from_project(alloc, project, &olds, files)
 }
 
-/// Files that are accepted as a project, read and resolved. The caller ensures that the known trees are those of the files.
+/// Files that are accepted as a project, read and resolved. The caller ensures that the known trees are those of the
+/// files.
 fn open_anew(alloc: Global, files: Files, known: KnownTrees) -> Result<KeptProject, RefusedProject>
     requires { AreKnown files.entries known }
     ensures kept { IfOk result (λ kept. kept ≡ files) }

@@ -13,8 +13,8 @@ use rename_project::resolve;
 use rotor_base::{Files, Refusal};
 use std::alloc::Global;
 
-/// The project that files are accepted as, and what it is resolved to. The caller ensures that the known trees are those
-/// of the files. The error is the first refusal of the files, or `Memory`.
+/// The project that files are accepted as, and what it is resolved to. The caller ensures that the known trees are
+/// those of the files. The error is the first refusal of the files, or `Memory`.
 pub(crate) fn resolved_project(
     alloc: Global,
     files: &Files,

@@ -13,8 +13,8 @@ use refusal_words::CutSource;
 use rotor_base::{Memory, Token};
 use std::alloc::Global;
 
-/// A project with the tokens of its sources, which are cut. If files of these sources are read as a project, each source is
-/// cut into its tokens. The one error is want of memory.
+/// A project with the tokens of its sources, which are cut. If files of these sources are read as a project, each
+/// source is cut into its tokens. The one error is want of memory.
 pub fn read_of<'a>(
     alloc: Global,
     project: Project,

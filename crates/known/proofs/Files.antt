@@ -1,5 +1,6 @@
 -- What a map from names to bytes has, name by name.
-use Rattle.std.proofs.Common.{◌≡◌, ◌≤◌, ℕ, Bool, true, false, cond, List, [], ◌∷◌, Option, Some, None, IsSome, is_some, option_map, String, map, string_bytes}
+use Rattle.std.proofs.Common.{◌≡◌, ◌≤◌, ℕ, Bool, true, false, cond, List, [], ◌∷◌, Option, Some, None, IsSome, is_some, option_map, String, map}
+use Rattle.std.proofs.Common.{string_bytes}
 use Rattle.std.proofs.Common.{vec_capacity, MutBor, refl, sym, ap, subst, ◌∙◌, arith}
 use Rattle.std.specs.Option.{option_or, option_copied_mut}
 use Rattle.std.specs.Map.{lookup, update}
@@ -8,7 +9,8 @@ use Rattle.std.specs.BTreeMap as tree
 use Rattle.std.specs.String.{string_cmp}
 use Rattle.std.specs.Ordering.{nat_cmp}
 use Rattle.std.specs.Cmp.Lexicographic.{slice_cmp, nat_list_eq_equiv, nat_list_cmp_total}
-use Rattle.std.specs.FinMap.{empty, entries, entries_sorted, get, get-empty, insert, keys, same_map, slice_cmp-IsAntisymmetric, nat_cmp-IsAntisymmetric}
+use Rattle.std.specs.FinMap.{empty, entries, entries_sorted, get, get-empty, insert, keys, same_map, slice_cmp-IsAntisymmetric}
+use Rattle.std.specs.FinMap.{nat_cmp-IsAntisymmetric}
 use Rattle.std.specs.Str.{bytes_eq}
 use Rattle.std.specs.declared.alloc.Global.{Global}
 use Rattle.std.proofs.lemmas.Map.Text.{is_eq-slice_cmp}
@@ -94,13 +96,14 @@ module _ (beside : FileMap) (a b : List (String Global × Held)) (name : List �
   -- no name has less room
   pub more_room : (old : Held) → lookup (at_text name) a ≡ Some old → vec_capacity old.bytes ≤ vec_capacity held.bytes → (n : ℕ) (q : List ℕ)
       → room_or n (lookup (at_text q) a) ≤ room_or n (lookup (at_text q) b)
-  more_room old was more n q = subst (λ (o : Option Held). room_or n (lookup (at_text q) a) ≤ room_or n o) (sym (found q)) (by (bytes_eq q name) refl) where
-    by : (t : Bool) → bytes_eq q name ≡ t → room_or n (lookup (at_text q) a) ≤ room_or n (cond t (Some held) (lookup (at_text q) a))
-    by true t =
-        let is : q ≡ name = (bytes_eq-Decides q name).0 t in
-        let there : lookup (at_text q) a ≡ Some old = ap (λ (w : List ℕ). lookup (at_text w) a) is ∙ was in
-        subst (λ (o : Option Held). room_or n o ≤ vec_capacity held.bytes) (sym there) more
-    by false t = omega arith
+  more_room old was more n q =
+      subst (λ (o : Option Held). room_or n (lookup (at_text q) a) ≤ room_or n o) (sym (found q)) (by (bytes_eq q name) refl) where
+        by : (t : Bool) → bytes_eq q name ≡ t → room_or n (lookup (at_text q) a) ≤ room_or n (cond t (Some held) (lookup (at_text q) a))
+        by true t =
+            let is : q ≡ name = (bytes_eq-Decides q name).0 t in
+            let there : lookup (at_text q) a ≡ Some old = ap (λ (w : List ℕ). lookup (at_text w) a) is ∙ was in
+            subst (λ (o : Option Held). room_or n o ≤ vec_capacity held.bytes) (sym there) more
+        by false t = omega arith
 
 -- ---- the names
 
@@ -117,7 +120,8 @@ texts_keyed (e ∷ es) q = by (bytes_eq q (string_bytes e.0)) (is_eq-slice_cmp q
 -- in byte order
 pub seen_keys : (seen : Seen) → tree.IsOrdered string_cmp seen.files → keys (seen_files seen) ≡ map string_bytes (tree.keys seen.files)
 seen_keys seen h =
-    same_words (keys (seen_files seen)) (map string_bytes (tree.keys seen.files)) (keys_rise (entries (seen_files seen)) (entries_sorted (seen_files seen)))
+    same_words (keys (seen_files seen)) (map string_bytes (tree.keys seen.files))
+    (keys_rise (entries (seen_files seen)) (entries_sorted (seen_files seen)))
     (ordered_map string_bytes (slice_cmp nat_cmp) (tree.keys seen.files) h)
     (λ w. held_name (seen_files seen) w ∙ ap is_some (seen_get seen w) ∙ texts_keyed seen.files.entries w)
 

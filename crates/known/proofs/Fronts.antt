@@ -1,6 +1,7 @@
 -- What was seen of a folder agrees with it: the same names, and the first bytes of each file.
 use Rattle.std.proofs.Common.{◌≡◌, ◌⊎◌, inl, inr, ◌≤◌, ◌<◌, ℕ, zero, suc, Bool, true, false, cond, List, [], ◌∷◌, Option, Some, None}
-use Rattle.std.proofs.Common.{IfSome, IsNone, IsSome, OnErr, OnOk, Result, Ok, Err, is_some, option_map, take, length, refl, sym, ap, subst, ◌∙◌, arith}
+use Rattle.std.proofs.Common.{IfSome, IsNone, IsSome, OnErr, OnOk, Result, Ok, Err, is_some, option_map, take, length, refl, sym, ap, subst, ◌∙◌}
+use Rattle.std.proofs.Common.{arith}
 use Rattle.std.specs.FinMap.{empty, get, get-empty, insert}
 use Rattle.std.specs.Ordering.{nat_cmp}
 use Rattle.std.specs.Cmp.Lexicographic.{slice_cmp}
@@ -147,7 +148,8 @@ module _ (limit : ℕ) (name : List ℕ) (content : Option FileMap) (before now 
         ap (λ (files : FileMap). get files q) (set_files name sees.file before now sees.set)
         ∙ get_written (seen_files before) name sees.file.bytes.items q
 
-    by : ((q ≡ name) × Reaches n (Some sees.file)) ⊎ ((bytes_eq q name ≡ false) × IsRead before q n) → SameFront n (get held q) (get (seen_files now) q)
+    by : ((q ≡ name) × Reaches n (Some sees.file)) ⊎ ((bytes_eq q name ≡ false) × IsRead before q n)
+        → SameFront n (get held q) (get (seen_files now) q)
     by (inl it) =
         at_name held e q n it.0 it.1 (get (seen_files now) q)
         (found ∙ ap (λ (t : Bool). cond t (Some sees.file.bytes.items) (get (seen_files before) q)) ((bytes_eq-Decides q name).1 it.0))
@@ -179,7 +181,8 @@ module _ (limit : ℕ) (name : List ℕ) (content : Option FileMap) (before now 
 
     by : (t : Bool) → bytes_eq q name ≡ t → SameFront n (get held q) (get (kept_files b) q)
     by true t = here (read_set name sees.file before now sees.set q n (has_now (ap is_some (at true t)))) where
-      here : ((q ≡ name) × Reaches n (Some sees.file)) ⊎ ((bytes_eq q name ≡ false) × IsRead before q n) → SameFront n (get held q) (get (kept_files b) q)
+      here : ((q ≡ name) × Reaches n (Some sees.file)) ⊎ ((bytes_eq q name ≡ false) × IsRead before q n)
+          → SameFront n (get held q) (get (kept_files b) q)
       here (inl it) =
           at_name held e q n it.0 it.1 (get (kept_files b) q)
           (found ∙ ap (λ (t : Bool). cond t (Some sees.file.bytes.items) (get (kept_files a) q)) t)
@@ -343,7 +346,8 @@ left_as_is (Some files) name placed = by (get files name) refl where
   by (Some bytes) e =
       let is : (q : List ℕ) (t : Bool) → bytes_eq q name ≡ t → get files q ≡ cond t (Some bytes) (get files q) = at in (
         bytes,
-        ap (λ (f : FileMap). Some f) (same_files files (insert files name bytes) (λ q. is q (bytes_eq q name) refl ∙ sym (get_written files name bytes q))),
+        ap (λ (f : FileMap). Some f)
+            (same_files files (insert files name bytes) (λ q. is q (bytes_eq q name) refl ∙ sym (get_written files name bytes q))),
       )
     where
       at : (q : List ℕ) (t : Bool) → bytes_eq q name ≡ t → get files q ≡ cond t (Some bytes) (get files q)
@@ -354,4 +358,5 @@ left_as_is (Some files) name placed = by (get files name) refl where
 
 pub front_held : (content : Option FileMap) (seen : Seen) (q : List ℕ) (n : ℕ) (bytes : List ℕ) → FrontsOf content seen → IsRead seen q n
     → IsFront n (get (seen_files seen) q) bytes → IfSome content (λ held. IsFront n (get held q) bytes)
-front_held content seen q n bytes fronts read front = telling content (λ held. IsFront n (get held q) bytes) (λ held e. fronts held e q n read ∙ front)
+front_held content seen q n bytes fronts read front =
+    telling content (λ held. IsFront n (get held q) bytes) (λ held e. fronts held e q n read ∙ front)

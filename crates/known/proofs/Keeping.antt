@@ -1,5 +1,6 @@
 -- What was seen of a folder, with what was written since then, name by name.
-use Rattle.std.proofs.Common.{◌≡◌, ◌≤◌, ℕ, Bool, true, false, cond, List, [], ◌∷◌, ◌++◌, Option, Some, None, IsErr, OnOk, Result, Ok, Err, IfSome, is_some}
+use Rattle.std.proofs.Common.{◌≡◌, ◌≤◌, ℕ, Bool, true, false, cond, List, [], ◌∷◌, ◌++◌, Option, Some, None, IsErr, OnOk, Result, Ok, Err, IfSome}
+use Rattle.std.proofs.Common.{is_some}
 use Rattle.std.proofs.Common.{String, map, string_bytes, IsPermutation, refl, sym, ap, subst, ◌∙◌, arith}
 use Rattle.std.specs.Option.{option_or}
 use Rattle.std.specs.Cmp.Lexicographic.{nat_list_eq_equiv}
@@ -55,10 +56,12 @@ none_of : (found : Option (List ℕ)) → is_some found ≡ false → found ≡ 
 none_of None e = refl
 none_of (Some bytes) e = cc
 
-pub was_seen : (kept : Kept) (name : List ℕ) → is_some (get (seen_files kept.seen) name) ≡ true → get (kept_files kept) name ≡ get (seen_files kept.seen) name
+pub was_seen : (kept : Kept) (name : List ℕ) → is_some (get (seen_files kept.seen) name) ≡ true
+    → get (kept_files kept) name ≡ get (seen_files kept.seen) name
 was_seen kept name e = kept_get kept name ∙ first (get (seen_files kept.seen) name) (get (sound_files kept.made) name) e
 
-pub was_made : (kept : Kept) (name : List ℕ) → is_some (get (seen_files kept.seen) name) ≡ false → get (kept_files kept) name ≡ get (sound_files kept.made) name
+pub was_made : (kept : Kept) (name : List ℕ) → is_some (get (seen_files kept.seen) name) ≡ false
+    → get (kept_files kept) name ≡ get (sound_files kept.made) name
 was_made kept name e = kept_get kept name ∙ second (get (seen_files kept.seen) name) (get (sound_files kept.made) name) e
 
 -- ---- no file was made
@@ -111,7 +114,8 @@ made_set a b name bytes seen made lacks =
         ≡ cond t (Some bytes) (get (kept_files a) q)
     by q true t =
         let is : q ≡ name = (bytes_eq-Decides q name).0 t in
-        ap (λ (found : Option (List ℕ)). option_or found (Some bytes)) (ap (get (seen_files a.seen)) is ∙ none_of (get (seen_files a.seen) name) lacks)
+        ap (λ (found : Option (List ℕ)). option_or found (Some bytes))
+        (ap (get (seen_files a.seen)) is ∙ none_of (get (seen_files a.seen) name) lacks)
     by q false t = sym (kept_get a q)
 
 -- a file that was seen is still there after it was written
@@ -163,7 +167,8 @@ some_is e = cc
 
 -- a file that was not seen has the room of those that were made
 pub room_made : (kept : Kept) (name : List ℕ) → is_some (get (seen_files kept.seen) name) ≡ false
-    → (IsNone (get (kept_files kept) name) → 1 ≤ kept_room kept name) → IsNone (get (sound_files kept.made) name) → 1 ≤ store_room kept.made.store name
+    → (IsNone (get (kept_files kept) name) → 1 ≤ kept_room kept name) → IsNone (get (sound_files kept.made) name)
+    → 1 ≤ store_room kept.made.store name
 room_made kept name lacks placed none =
     subst (λ (t : Bool). 1 ≤ cond t (seen_room kept.seen name) (store_room kept.made.store name)) lacks
     (placed (subst (λ (found : Option (List ℕ)). IsNone found) (sym (was_made kept name lacks)) none))
@@ -207,7 +212,8 @@ keys_of None files same = refl
 keys_of (Some held) files same = same_keys files held (same held refl)
 
 pub named_of : (result : Result (Vec (String Global)) TreeError) {one other : List (List ℕ)} → one ≡ other
-    → IfOk result (λ names. IsPermutation one (map string_bytes names.items)) → IfOk result (λ names. IsPermutation other (map string_bytes names.items))
+    → IfOk result (λ names. IsPermutation one (map string_bytes names.items))
+    → IfOk result (λ names. IsPermutation other (map string_bytes names.items))
 named_of (Ok names) e h = subst (λ (words : List (List ℕ)). IsPermutation words (map string_bytes names.items)) e h
 named_of (Err error) e h = tt
 

@@ -23,4 +23,5 @@ HasRead kept name limit = IsSome (get (seen_files kept.seen) name) → IsRead ke
 -- if the content is modelled, the bytes that are known are the first ones of its files
 abbrev pub KnowsFronts : Option FileMap → Kept → Type 0
 KnowsFronts content kept =
-    (held : FileMap) → content ≡ Some held → (name : List ℕ) (limit : ℕ) → HasRead kept name limit → SameFront limit (get held name) (get (kept_files kept) name)
+    (held : FileMap) → content ≡ Some held → (name : List ℕ) (limit : ℕ) → HasRead kept name limit
+    → SameFront limit (get held name) (get (kept_files kept) name)

@@ -44,7 +44,8 @@ SameFront limit one other = option_map (take limit) one ≡ option_map (take lim
 -- if the content is modelled, the bytes that were read are the first ones of its files
 abbrev pub FrontsOf : Option FileMap → Seen → Type 0
 FrontsOf content seen =
-    (held : FileMap) → content ≡ Some held → (name : List ℕ) (limit : ℕ) → IsRead seen name limit → SameFront limit (get held name) (get (seen_files seen) name)
+    (held : FileMap) → content ≡ Some held → (name : List ℕ) (limit : ℕ) → IsRead seen name limit
+    → SameFront limit (get held name) (get (seen_files seen) name)
 
 -- the first bytes of the file are now under its name, and the other files are as they were
 pub record SeesFile (limit : ℕ) (name : List ℕ) (content : Option FileMap) (before now : Seen) : Type 0 where

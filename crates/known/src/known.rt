@@ -21,9 +21,9 @@ struct Missed {
     limit: u32,
 }
 
-/// A folder, with what was seen of it. Names and bytes are answered from what was seen; a write goes to the folder first,
-/// and then to what was seen. A read of bytes that were not read before answers `Memory`, and is noted. After a write that
-/// failed, each read and each listing answers `Memory`.
+/// A folder, with what was seen of it. Names and bytes are answered from what was seen; a write goes to the folder
+/// first, and then to what was seen. A read of bytes that were not read before answers `Memory`, and is noted. After a
+/// write that failed, each read and each listing answers `Memory`.
 #[derive(Drop)]
 pub struct Known<T: Outer> {
     tree: T,

@@ -63,8 +63,8 @@ pub fn see_file<T: Outer>(
     Ok(())
 }
 
-/// A folder of which all that is asked is kept. It was listed before. A read goes to the folder, unless the file was read
-/// before. There is no room for a write, and a write is a counted fault.
+/// A folder of which all that is asked is kept. It was listed before. A read goes to the folder, unless the file was
+/// read before. There is no room for a write, and a write is a counted fault.
 #[derive(Drop)]
 pub struct Seeing<T: Outer> {
     tree: T,

@@ -98,7 +98,8 @@ mutual
 
   mod_arguments_adds : (ms : ModArguments) → Adds (mod_arguments_then ms)
   mod_arguments_adds no_mod_argument j k = refl
-  mod_arguments_adds (more_mod_argument a ms) j k = both (mod_argument_then a) (mod_arguments_then ms) (mod_argument_adds a) (mod_arguments_adds ms) j k
+  mod_arguments_adds (more_mod_argument a ms) j k =
+      both (mod_argument_then a) (mod_arguments_then ms) (mod_argument_adds a) (mod_arguments_adds ms) j k
 
   functor_param_adds : (p : FunctorParam) → Adds (functor_param_then p)
   functor_param_adds (NamedParam at x s) j k =

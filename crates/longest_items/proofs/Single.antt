@@ -37,7 +37,8 @@ one_sig i j wi wj q =
     first e = cc
 
 -- two longest items that begin the same tokens
-longest_one : (fresh : Bool) (ts : List Tok) (i j : Item) (r s : List Tok) → IsLongestItem fresh ts i r → IsLongestItem fresh ts j s → (i ≡ j) × (r ≡ s)
+longest_one : (fresh : Bool) (ts : List Tok) (i j : Item) (r s : List Tok) → IsLongestItem fresh ts i r → IsLongestItem fresh ts j s
+    → (i ≡ j) × (r ≡ s)
 longest_one fresh ts i j r s a b =
     let le = a.longest j s b.wf b.reads in
     let ge = b.longest i r a.wf a.reads in

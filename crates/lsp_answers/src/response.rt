@@ -14,8 +14,8 @@ use rotor_base::Memory;
 use serde_json::{Value, json};
 use std::alloc::{AllocError, Global};
 
-/// The JSON of a response, in compact form with its keys in byte order. A message whose id cannot be read has the id `null`.
-/// The numbers of a failure's data are integers. `Memory` is the only error.
+/// The JSON of a response, in compact form with its keys in byte order. A message whose id cannot be read has the id
+/// `null`. The numbers of a failure's data are integers. `Memory` is the only error.
 pub fn response_text(alloc: Global, id: Option<&Id>, reply: &Reply) -> Result<Vec<u8>, Memory>
     requires { IsPlain reply.now }
     ensures { IfOk result (λ text. text.items ≡ response_text (option_copied id.entry) reply.now) }

@@ -1,18 +1,21 @@
 -- What is written is read back.
-use Rattle.std.proofs.Common.{◌≡◌, ℕ, zero, suc, ◌+◌, ◌-◌, ◌<◌, ◌≤◌, ◌^◌, nat_lt, Bool, true, false, not, eqb, cond, ◌&&◌, List, [], ◌∷◌, ◌++◌, length, get_or, take, drop, reverse, Some, None, sym, ap, refl, ◌∙◌, arith}
+use Rattle.std.proofs.Common.{◌≡◌, ℕ, zero, suc, ◌+◌, ◌-◌, ◌<◌, ◌≤◌, ◌^◌, nat_lt, Bool, true, false, not, eqb, cond, ◌&&◌, List, [], ◌∷◌, ◌++◌}
+use Rattle.std.proofs.Common.{length, get_or, take, drop, reverse, Some, None, sym, ap, refl, ◌∙◌, arith}
 use Rattle.std.specs.Prelude.{codes, option_map}
 use Rattle.std.specs.List.{list_all}
 use Rattle.std.specs.Char.{is_ascii_digit, digit_value}
 use Rattle.std.specs.Fmt.{decimal}
 use Rattle.std.specs.Str.Parse.{AllDigits}
 use Rattle.std.proofs.lemmas.Fmt.{decimal_is_IsNumeral, length-decimal-le}
-use Rattle.std.proofs.lemmas.List.{append_assoc, length-append, length-drop, length-take-le, take_at, drop_at, get_or-take, get_or-drop, reverse-append, reverse-reverse}
+use Rattle.std.proofs.lemmas.List.{append_assoc, length-append, length-drop, length-take-le, take_at, drop_at, get_or-take, get_or-drop}
+use Rattle.std.proofs.lemmas.List.{reverse-append, reverse-reverse}
 use Rattle.std.proofs.lemmas.List.Folds.{list_all-append}
 use Rattle.std.proofs.lemmas.Bool.{and_from, and_parts, both_ways, cond-true, cond-false, eqb-true, false_from_ne_true, lt-ltb, not_from_true, eq-eqb}
 use Rattle.std.proofs.lemmas.Bool.Decides.{nat_tests}
 use lib.Pointwise.{pointwise, pointwise_long}
 use Rattle.lsp_frames.specs.Lines.{is_blank, lines_of, onto_first, skip_blanks, trim}
-use Rattle.lsp_frames.specs.Header.{content_length, cut_field, field_of, is_field, is_length_name, is_number, length_in, length_texts, number_of, one_number}
+use Rattle.lsp_frames.specs.Header.{content_length, cut_field, field_of, is_field, is_length_name, is_number, length_in, length_texts, number_of}
+use Rattle.lsp_frames.specs.Header.{one_number}
 use Rattle.lsp_frames.specs.Frames.{max_message, ends_header, frame, Reads, message}
 
 abbrev ending : List ℕ

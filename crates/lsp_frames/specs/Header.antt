@@ -1,5 +1,6 @@
 -- The header of a message (Language Server Protocol 3.17, "Header Part").
-use Rattle.std.specs.Prelude.{ℕ, ◌+◌, ◌-◌, ◌^◌, ◌==◌, ◌&&◌, nat_lt, List, [], ◌∷◌, Bool, true, false, length, take, drop, map, Option, Some, None, option_map, if◌then◌else◌, codes, bytes_eq, flat_map}
+use Rattle.std.specs.Prelude.{ℕ, ◌+◌, ◌-◌, ◌^◌, ◌==◌, ◌&&◌, nat_lt, List, [], ◌∷◌, Bool, true, false, length, take, drop, map, Option, Some, None}
+use Rattle.std.specs.Prelude.{option_map, if◌then◌else◌, codes, bytes_eq, flat_map}
 use Rattle.std.specs.List.{ends_with, list_all, position}
 use Rattle.std.specs.Char.{is_ascii_digit, to_ascii_lowercase}
 use Rattle.std.specs.Str.Parse.{digits_value}

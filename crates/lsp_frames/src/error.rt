@@ -15,8 +15,8 @@ pub enum FrameError {
     /// The reader or the writer failed.
     #[error("{0}")]
     Io(io::Error),
-    /// A line of the header is no field, or the header has no field `Content-Length`, two of them, or one whose value is no
-    /// decimal number below 2 ^ 64.
+    /// A line of the header is no field, or the header has no field `Content-Length`, two of them, or one whose value
+    /// is no decimal number below 2 ^ 64.
     #[error("a header that does not say the length of its message")]
     Broken,
     /// The header has no end within [`MAX_HEADER`](crate::MAX_HEADER) bytes, or it says more than

@@ -2,8 +2,8 @@
 
 ghost use Rattle.lsp_frames.specs.Laws.{ComesBack, HaveOneReading};
 
-/// Law: the bytes of a reader begin with one of these alone: their end, a message with its body and what is behind it, a
-/// broken header, a message that is too long, one that the input ends in.
+/// Law: the bytes of a reader begin with one of these alone: their end, a message with its body and what is behind it,
+/// a broken header, a message that is too long, one that the input ends in.
 pub fn readings_are_one()
     ensures { HaveOneReading }
 {}

@@ -18,7 +18,8 @@ pub const MAX_MESSAGE: u64 = 67_108_864;
 /// The bytes behind a line and an empty line.
 const HEADER_END: &[u8; 4] = b"\r\n\r\n";
 
-/// Reads the body of the next message; `None` at the end of the input. After an error the reader may be inside a message.
+/// Reads the body of the next message; `None` at the end of the input. After an error the reader may be inside a
+/// message.
 pub fn read_message<R: Read>(alloc: Global, reader: &mut R) -> Result<Option<Vec<u8>>, FrameError>
     ensures message { IfOk result (λ message. IfSome (R.remaining reader.old) (λ bytes. Gives bytes (option_map (λ body. body.items) message) (R.remaining reader.new))) }
     ensures fault { IfErr result (λ error. IfSome (R.remaining reader.old) (λ bytes. Fails bytes error)) }

@@ -14,9 +14,9 @@ use std::process::ExitCode;
 use std::rt::{Env, Files};
 use std::{env, io};
 
-/// Serves an editor over the folders of the system, the standard input and the standard output, and returns the status: 0
-/// after `shutdown`, else 1; 2 if a word behind the program's name is not `--stdio`. If the program stops before its input
-/// ends, it says why in one line on the standard error. It says nothing else there but its usage.
+/// Serves an editor over the folders of the system, the standard input and the standard output, and returns the status:
+/// 0 after `shutdown`, else 1; 2 if a word behind the program's name is not `--stdio`. If the program stops before its
+/// input ends, it says why in one line on the standard error. It says nothing else there but its usage.
 pub fn run<R: Env + Files<File = File> + Print + Eprint + Input + AllocGlobal>(rt: &R) -> ExitCode {
     let ended = match words_of(rt) {
         Ok(words) => serve(rt, &words),

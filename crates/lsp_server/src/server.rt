@@ -22,7 +22,8 @@ use std::io;
 use std::io::{ErrorKind, Read, Write};
 
 /// Serves an editor: reads its messages up to `exit`, to the end of the input or to a place where no message can be
-/// found, and writes the one response of each request, in order. It returns the status of the process. No folder changes.
+/// found, and writes the one response of each request, in order. It returns the status of the process. No folder
+/// changes.
 ///
 /// # Errors
 ///

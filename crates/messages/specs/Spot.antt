@@ -22,7 +22,15 @@ line_front bytes = take (position_or_len (λ b. b == 10) bytes) bytes
 
 abbrev pub spot_at : List ℕ → Position → ℕ → List ℕ → List ℕ → Spot
 spot_at file here width before behind =
-    record { file = file; line = here.line; column = here.column; width = width; before = front_of_line before behind; behind = strip_carriage_return behind }
+    record {
+      file = file;
+      line = here.line;
+      column = here.column;
+      width = width;
+      before = front_of_line before behind;
+      behind =
+          strip_carriage_return behind;
+    }
 
 -- the stretch of a source from one offset up to another
 abbrev pub spot_of : List ℕ → List ℕ → ℕ → ℕ → Spot

@@ -11,8 +11,8 @@ use rotor_base::{Memory, Row};
 use serde_json::{Value, json};
 use std::alloc::{AllocError, Global};
 
-/// The JSON of some messages: an array of an object for each, in compact form with keys in byte order, and LF. Lines and
-/// columns count from 1, columns in bytes. Bytes that are no UTF-8 are U+FFFD. The one error is want of memory.
+/// The JSON of some messages: an array of an object for each, in compact form with keys in byte order, and LF. Lines
+/// and columns count from 1, columns in bytes. Bytes that are no UTF-8 are U+FFFD. The one error is want of memory.
 pub fn json_text(alloc: Global, messages: &[Message]) -> Result<Vec<u8>, Memory>
     ensures { IfOk result (λ text. text.items ≡ json_of messages.now) }
 {

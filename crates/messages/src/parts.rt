@@ -3,8 +3,8 @@
 use crate::kinds::Kind;
 use rotor_base::Row;
 
-/// A stretch of a source: the source's name, its line and column, both from 1, its length in bytes, and the bytes of its
-/// line before it and from it on, without the line's end.
+/// A stretch of a source: the source's name, its line and column, both from 1, its length in bytes, and the bytes of
+/// its line before it and from it on, without the line's end.
 #[derive(Drop)]
 pub struct Spot {
     pub file: Row<u8>,

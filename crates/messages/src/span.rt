@@ -9,8 +9,8 @@ use rotor_base::{Memory, Row};
 use std::alloc::Global;
 use text_places::{Counting, position_of};
 
-/// The stretch of a source from one offset up to another, both in bytes from 0. An offset behind the end is the end. The
-/// one error is want of memory.
+/// The stretch of a source from one offset up to another, both in bytes from 0. An offset behind the end is the end.
+/// The one error is want of memory.
 pub fn spot_in(
     alloc: Global,
     file: &[u8],

@@ -41,9 +41,11 @@ use Rattle.value_sites.specs.Places.{Site, plain, punned, operator_sites, name_s
 use Rattle.value_sites.proofs.SitesByForm.{names_sites, pat_sites, pats_sites, pat_field_sites}
 use Rattle.value_sites.specs.Places.{variable_sites}
 use Rattle.value_sites.proofs.SitesByForm.{pat_fields_sites, expr_sites, links_sites, maybe_sites, tail_sites, binding_sites, bindings_sites}
-use Rattle.value_sites.proofs.SitesByForm.{case_sites, cases_sites, argument_sites, arguments_sites, param_sites, params_sites, part_sites, parts_sites}
+use Rattle.value_sites.proofs.SitesByForm.{case_sites, cases_sites, argument_sites, arguments_sites, param_sites, params_sites, part_sites}
+use Rattle.value_sites.proofs.SitesByForm.{parts_sites}
 use Rattle.value_sites.proofs.SitesByForm.{field_sites, fields_sites, mod_sites, mod_argument_sites, mod_arguments_sites, functor_param_sites}
-use Rattle.value_sites.proofs.SitesByForm.{functor_params_sites, mod_type_sites, signature_sites, item_sites, items_sites, sig_item_sites, sig_items_sites}
+use Rattle.value_sites.proofs.SitesByForm.{functor_params_sites, mod_type_sites, signature_sites, item_sites, items_sites, sig_item_sites}
+use Rattle.value_sites.proofs.SitesByForm.{sig_items_sites}
 use Rattle.value_sites.specs.Places.{sites}
 use Rattle.ml_syntax.specs.Standing.{begins_bar, is_safe}
 use Rattle.value_sites.proofs.Placed.{body_placed, face_placed}

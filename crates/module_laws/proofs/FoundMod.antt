@@ -26,7 +26,8 @@ use Rattle.expr_reading.specs.ExprReading.{optional_bang, upper_path, bindings, 
 use Rattle.expr_laws.proofs.FoundExpr.{bang_found, path_found, bindings_found, expr_reads}
 use Rattle.module_reading.specs.ModReading.{grown_mod, module_name, text_word, constraint_sign, optional_private, constraint_rest, constraint}
 use Rattle.module_reading.specs.ModReading.{next_constraint, more_constraints, with_clause, with_clauses, External, external_end, external_rest}
-use Rattle.module_reading.specs.ModReading.{open_rest, some_bindings, value_rest, named_param, functor_param, functor_params, signature_of, module_rest}
+use Rattle.module_reading.specs.ModReading.{open_rest, some_bindings, value_rest, named_param, functor_param, functor_params, signature_of}
+use Rattle.module_reading.specs.ModReading.{module_rest}
 use Rattle.module_reading.specs.ModReading.{plain_item, expression_or, item_of, item_then, items_of, module_sig_rest, val_rest, sig_item, sig_items}
 use Rattle.module_reading.specs.ModReading.{mod_closed, simple_mod, argument_closed, mod_argument, mod_arguments, mod_apply, functor_end, mod_expr}
 use Rattle.module_reading.specs.ModReading.{simple_type, arrow_or, with_or, with_type, functor_type_end, param_or, mod_type, read_mod, read_type}

@@ -43,7 +43,8 @@ use Rattle.expr_laws.proofs.ReachParams.{path_read}
 use Rattle.expr_laws.proofs.ReachForms.{bang_read, bindings_reach, in_exact, binding_opens, last_value, NotForm, operand_not_form}
 use Rattle.expr_laws.proofs.ReachExpr.{expr_reach, binding_good, bindings_good}
 use Rattle.module_reading.specs.ModReading.{grown_mod, module_name, text_word, optional_private, constraint, next_constraint, more_constraints}
-use Rattle.module_reading.specs.ModReading.{with_clause, with_clauses, external_rest, open_rest, some_bindings, value_rest, named_param, functor_param}
+use Rattle.module_reading.specs.ModReading.{with_clause, with_clauses, external_rest, open_rest, some_bindings, value_rest, named_param}
+use Rattle.module_reading.specs.ModReading.{functor_param}
 use Rattle.module_reading.specs.ModReading.{functor_params, signature_of, module_rest, plain_item, item_of, items_of, module_sig_rest, sig_item}
 use Rattle.module_reading.specs.ModReading.{sig_items, simple_mod, argument_closed, mod_argument, mod_arguments, mod_apply, mod_expr, simple_type}
 use Rattle.module_reading.specs.ModReading.{with_type, param_or, mod_type, read_mod, read_type, read_body, read_face}

@@ -121,7 +121,8 @@ begins_among names (x ∷ xs) = is_among names x.bytes
 -- opening
 abbrev pub opens_nearer : Meant → List (List ℕ) → Lexeme → Lexeme → List Lexeme → Bool
 opens_nearer m inner last x xs =
-    ((is "open" x && not (is "let" last)) || is "include" x) && path_is_outside m.named m.locals (behind_bang xs) && not (begins_among inner (behind_bang xs))
+    ((is "open" x && not (is "let" last)) || is "include" x) && path_is_outside m.named m.locals (behind_bang xs) && not
+    (begins_among inner (behind_bang xs))
 
 -- a lexeme outside of brackets ends it
 abbrev pub ends_at : Meant → List (List ℕ) → Opening → Lexeme → Lexeme → List Lexeme → Bool

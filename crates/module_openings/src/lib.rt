@@ -1,5 +1,5 @@
-//! The openings of modules from outside a project, and the modules of the project that are used behind them. They are found
-//! in the tokens alone.
+//! The openings of modules from outside a project, and the modules of the project that are used behind them. They are
+//! found in the tokens alone.
 #![tactic(auto)]
 
 mod lexemes;

@@ -222,8 +222,8 @@ fn add_uses_of<'a, 'b>(
     Ok(())
 }
 
-/// Whether a token behind another is the name of a module or a constructor that is no step of a path and is not declared
-/// here.
+/// Whether a token behind another is the name of a module or a constructor that is no step of a path and is not
+/// declared here.
 fn is_head(last: &Token<'_>, token: &Token<'_>) -> bool
     ensures { result ≡ is_head_of (view_token last.now) (view_token token.now) }
 {

@@ -138,8 +138,8 @@ fn begins_item(last: &Token<'_>, token: &Token<'_>) -> bool
                 || is_word(token, b"external")))
 }
 
-/// Whether an item at a token behind another opens or includes a path from outside, behind an opening and the modules that
-/// are declared behind that.
+/// Whether an item at a token behind another opens or includes a path from outside, behind an opening and the modules
+/// that are declared behind that.
 fn opens_nearer(
     meant: &Meant<'_, '_>,
     inner: &NameList,

@@ -12,7 +12,8 @@ use Rattle.std.specs.BTreeMap as tree
 use Rattle.std.specs.String.{string_cmp, string_cmp_total}
 use Rattle.std.specs.Ordering.{eq_by_cmp, is_lt, nat_cmp}
 use Rattle.std.specs.Cmp.Lexicographic.{slice_cmp, nat_list_cmp_total, nat_list_eq_equiv}
-use Rattle.std.specs.FinMap.{contains_key-keys, entries, entries_sorted, get, get-empty, get-insert, get-remove, insert, is_sorted, keys, remove, same_map}
+use Rattle.std.specs.FinMap.{contains_key-keys, entries, entries_sorted, get, get-empty, get-insert, get-remove, insert, is_sorted, keys, remove}
+use Rattle.std.specs.FinMap.{same_map}
 use Rattle.std.specs.FinMap.{slice_cmp-IsAntisymmetric, nat_cmp-IsAntisymmetric}
 use Rattle.std.specs.FinMap.Entries.{below_all}
 use Rattle.std.specs.Str.{bytes_eq}
@@ -151,6 +152,7 @@ texts_keyed (e ∷ es) q = by (bytes_eq q (string_bytes e.0)) (is_eq-slice_cmp q
 -- in byte order
 pub held_keys : (held : Documents) → tree.IsOrdered string_cmp held.held → keys (documents held) ≡ map string_bytes (tree.keys held.held)
 held_keys held h =
-    same_words (keys (documents held)) (map string_bytes (tree.keys held.held)) (names_rise (entries (documents held)) (entries_sorted (documents held)))
+    same_words (keys (documents held)) (map string_bytes (tree.keys held.held))
+    (names_rise (entries (documents held)) (entries_sorted (documents held)))
     (ordered_map string_bytes (slice_cmp nat_cmp) (tree.keys held.held) h)
     (λ w. held_name (documents held) w ∙ ap is_some (documents_get held w) ∙ texts_keyed held.held.entries w)

@@ -47,8 +47,8 @@ impl Documents {
         Ok(())
     }
 
-    /// The editor changed a document, to the text of its last change; `None` if there was no change. A document that was
-    /// not opened is held from here on, under this URI.
+    /// The editor changed a document, to the text of its last change; `None` if there was no change. A document that
+    /// was not opened is held from here on, under this URI.
     ///
     /// # Errors
     ///

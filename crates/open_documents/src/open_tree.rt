@@ -11,8 +11,8 @@ use rotor_base::{Failed, Memory};
 use std::alloc::Global;
 use tree_io::{Tree, TreeError};
 
-/// A folder with the documents of an editor in place of its files, also of those that it lacks. The folder is listed and
-/// read, and never written: there is no room for a write, and a write is a counted fault.
+/// A folder with the documents of an editor in place of its files, also of those that it lacks. The folder is listed
+/// and read, and never written: there is no room for a write, and a write is a counted fault.
 #[derive(Drop)]
 pub struct OpenTree<'a, T> {
     held: &'a Documents,

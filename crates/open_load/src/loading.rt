@@ -26,8 +26,8 @@ pub enum OpenFolder {
     },
 }
 
-/// Loads a folder with these documents in place of its files. The texts of the documents are known. The folder is read and
-/// never written.
+/// Loads a folder with these documents in place of its files. The texts of the documents are known. The folder is read
+/// and never written.
 ///
 /// # Errors
 ///

@@ -17,7 +17,8 @@ use Rattle.ml_trees.specs.Tree.{no_pat, more_pat, PatField, PatFields, no_pat_fi
 use Rattle.token_reading.specs.Steps.{Read, ◌>>=◌, expect, expect_at, many, always}
 use Rattle.token_reading.specs.Pieces.{more_uppers, qualifiers, lower_word, value_name, type_run, optional_type}
 use Rattle.token_reading.specs.PatReading.{grown_as, grown_or, grown_tuple, grown_cons, applied_to, can_apply, last_semicolon, open_end, negative}
-use Rattle.token_reading.specs.PatReading.{range_or, free_pat, closed_by, opened_or, list_pat, matched_or, next_pat, more_pats, paren_pat, opened_part}
+use Rattle.token_reading.specs.PatReading.{range_or, free_pat, closed_by, opened_or, list_pat, matched_or, next_pat, more_pats, paren_pat}
+use Rattle.token_reading.specs.PatReading.{opened_part}
 use Rattle.token_reading.specs.PatReading.{upper_pat, bracket_pat, equals_part, field_pat, next_field, brace_pat, simple_pat, plain_pat, applied_pat}
 use Rattle.token_reading.specs.PatReading.{pat_chain, cons_pat, tuple_pat, or_pat, as_name, as_pat, read_pat}
 use Rattle.token_reading.proofs.Stepping.{from_some, bind_ok, expect_ok, expect_at_ok, many_ind}

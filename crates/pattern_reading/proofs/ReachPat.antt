@@ -22,7 +22,8 @@ use Rattle.token_reading.proofs.Reach.{map_read, expect_same}
 use Rattle.pattern_reading.proofs.FoundPat.{IsPat, Finds, part_found, simple_found, applied_found, cons_found, tuple_found, as_name_found, pat_found}
 use Rattle.pattern_reading.proofs.LongerPat.{pat_longer, name_longer, dotted_longer, begins_pat, Opens, pat_opens}
 use Rattle.token_reading.proofs.ReachPieces.{name_read}
-use Rattle.pattern_reading.proofs.ReachSimple.{grip, Goes, opens_goes, Hits, AllHit, FieldHits, FieldsHit, simple_at, bool_read, value_read, literal_reach}
+use Rattle.pattern_reading.proofs.ReachSimple.{grip, Goes, opens_goes, Hits, AllHit, FieldHits, FieldsHit, simple_at, bool_read, value_read}
+use Rattle.pattern_reading.proofs.ReachSimple.{literal_reach}
 use Rattle.pattern_reading.proofs.ReachSimple.{negative_read, constr_reach, opened_read, paren_read, typed_read, empty_read, list_read, record_read}
 
 abbrev plain_at : ℕ → Read Pat

@@ -17,12 +17,14 @@ use Rattle.ml_trees.specs.Tree.{TypedPat, EmptyPat, ListPat, RecordPat, OpenedPa
 use Rattle.ml_trees.specs.Tree.{PatFields, no_pat_field, more_pat_field}
 use Rattle.token_reading.specs.Steps.{Read, ◌>>=◌, many, always}
 use Rattle.token_reading.specs.Pieces.{dot_upper, more_uppers, qualifiers, lower_word, optional_type}
-use Rattle.token_reading.specs.PatReading.{range_or, closed_by, opened_or, list_pat, record_pat, next_pat, more_pats, paren_pat, opened_part, upper_pat}
+use Rattle.token_reading.specs.PatReading.{range_or, closed_by, opened_or, list_pat, record_pat, next_pat, more_pats, paren_pat, opened_part}
+use Rattle.token_reading.specs.PatReading.{upper_pat}
 use Rattle.token_reading.specs.PatReading.{bracket_pat, equals_part, field_pat, next_field, brace_pat, simple_pat, read_pat}
 use Rattle.token_reading.proofs.Stepping.{some_is, from_some}
 use Rattle.token_reading.proofs.Reach.{Beyond, Reach, exact, farther, stop, no_turn, more_turns, expect_same}
 use Rattle.pattern_reading.proofs.FoundPat.{Finds, opened_ok, part_found, next_field_found, pat_found}
-use Rattle.pattern_reading.proofs.LongerPat.{pat_longer, pat_more, field_more, dotted_longer, qualified_longer, type_longer, begins_pat, Opens, pat_opens}
+use Rattle.pattern_reading.proofs.LongerPat.{pat_longer, pat_more, field_more, dotted_longer, qualified_longer, type_longer, begins_pat, Opens}
+use Rattle.pattern_reading.proofs.LongerPat.{pat_opens}
 use Rattle.token_reading.proofs.ReachPieces.{uppers_reach, qualifiers_reach, type_run_read, type_read}
 
 -- how far out a token goes on with a pattern

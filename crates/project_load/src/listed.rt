@@ -21,8 +21,8 @@ use std::alloc::Global;
 use std::collections::BTreeSet;
 use tree_io::Tree;
 
-/// The files of the project that a list names. A line of the list is `SOURCE FILE` with one space: SOURCE is the name of
-/// a source or `rotor.units`, and FILE is the name of the file in the folder with its bytes. LF ends a line, and the
+/// The files of the project that a list names. A line of the list is `SOURCE FILE` with one space: SOURCE is the name
+/// of a source or `rotor.units`, and FILE is the name of the file in the folder with its bytes. LF ends a line, and the
 /// last line may lack it. The call lists the folder, reads the list, then reads each file in byte order of its SOURCE
 /// and the manifest, each with a limit, and changes nothing.
 ///

@@ -1,5 +1,6 @@
 -- Trees that are known before the sources are read.
-use Rattle.std.proofs.Common.{◌≡◌, ℕ, zero, suc, ◌<◌, ◌⊎◌, inl, inr, List, [], ◌∷◌, ◌++◌, All, map, length, get_or, set, refl, ap, sym, subst, ◌∙◌, arith}
+use Rattle.std.proofs.Common.{◌≡◌, ℕ, zero, suc, ◌<◌, ◌⊎◌, inl, inr, List, [], ◌∷◌, ◌++◌, All, map, length, get_or, set, refl, ap, sym, subst, ◌∙◌}
+use Rattle.std.proofs.Common.{arith}
 use Rattle.std.proofs.Common.{Option, Some, None}
 use Rattle.std.specs.Prelude.{Contains, IfSome, slice_get}
 use Rattle.std.proofs.lemmas.List.{map-set}
@@ -83,7 +84,8 @@ found_at (x ∷ xs) zero tree lt is = ap (λ o. Some (view_part_of o)) is
 found_at (x ∷ xs) (suc n) tree lt is = found_at xs n tree (omega (arith, lt)) is
 
 -- a tree stays known if its source stays
-pub same_there : (olds news : List SourceFile) (n : ℕ) (tree : FileTree) → slice_get olds n ≡ slice_get news n → IsReadAs olds n tree → IsReadAs news n tree
+pub same_there : (olds news : List SourceFile) (n : ℕ) (tree : FileTree) → slice_get olds n ≡ slice_get news n → IsReadAs olds n tree
+    → IsReadAs news n tree
 same_there olds news n tree same h = record { source = h.source; there = sym same ∙ h.there; reads = h.reads }
 
 -- no tree is known

@@ -42,8 +42,9 @@ pub fn read_project<'a>(alloc: Global, files: &'a Files) -> Result<Read<'a>, Ref
     read_rest(alloc, files, KnownTrees::new(alloc))
 }
 
-/// What [`read_project`] returns, if some trees are known. A source whose tree is known is cut into tokens, and its tokens
-/// are not read. The caller ensures that the known trees are those of the files. The errors are those of [`read_project`].
+/// What [`read_project`] returns, if some trees are known. A source whose tree is known is cut into tokens, and its
+/// tokens are not read. The caller ensures that the known trees are those of the files. The errors are those of
+/// [`read_project`].
 pub fn read_rest<'a>(
     alloc: Global,
     files: &'a Files,

@@ -13,8 +13,8 @@ use rotor_base::Memory;
 use serde_json::Value;
 use std::alloc::Global;
 
-/// The failure of a request that is refused, with a sentence of some words. Bytes that are no UTF-8 are U+FFFD in it. The
-/// one error is want of memory.
+/// The failure of a request that is refused, with a sentence of some words. Bytes that are no UTF-8 are U+FFFD in it.
+/// The one error is want of memory.
 pub fn plain_failure(alloc: Global, words: &[&[u8]]) -> Result<Failure, Memory>
     ensures { IfOk result (IsSaid ErrorCode.Refused (join (map (λ word. word.now) words.now))) }
 {

@@ -13,8 +13,8 @@ use module_openings::{file_number, is_lower, is_upper, is_word};
 use rotor_base::{Memory, Place, Token};
 use std::alloc::Global;
 
-/// Adds the first place of a form at which a module of the project with its name may be in scope, of units in link order, over the tokens of the
-/// sources.
+/// Adds the first place of a form at which a module of the project with its name may be in scope, of units in link
+/// order, over the tokens of the sources.
 pub(crate) fn add_indexing(
     alloc: Global,
     found: &mut Vec<Difference>,
@@ -79,8 +79,8 @@ fn add_index(
     Ok(())
 }
 
-/// The number, from 1, of the first token at which the form begins in the source of a number, and a module of its name may
-/// be in scope.
+/// The number, from 1, of the first token at which the form begins in the source of a number, and a module of its name
+/// may be in scope.
 fn index_of_source(
     form: Indexed,
     nested: bool,

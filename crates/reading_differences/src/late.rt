@@ -15,7 +15,8 @@ use rotor_base::{Memory, Name, Place, Token};
 use std::alloc::Global;
 use unit_order::needs;
 
-/// Adds the units that are linked behind a unit that needs them, of units in link order, over the tokens of the sources.
+/// Adds the units that are linked behind a unit that needs them, of units in link order, over the tokens of the
+/// sources.
 pub(crate) fn add_late_needs(
     alloc: Global,
     found: &mut Vec<Difference>,

@@ -174,8 +174,8 @@ fn quoted_len(bytes: &[u8]) -> Option<usize>
     None
 }
 
-/// How many bytes the lexer skips at once here, inside a comment or an attribute: a Text, a Quoted or a Char that ends, or
-/// one byte.
+/// How many bytes the lexer skips at once here, inside a comment or an attribute: a Text, a Quoted or a Char that ends,
+/// or one byte.
 #[tactic(auto, unfolding(ml_lexer::specs::Trivia::plain_part))]
 pub(crate) fn part_len(bytes: &[u8]) -> usize
     requires few { length bytes.now ≤ 2 ^ 20 }

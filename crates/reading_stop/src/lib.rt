@@ -1,6 +1,6 @@
 //! Where the reading of a file that is not read stops: the furthest token that a reader of the language looks at. The
-//! grammar is a table of rules, read as the readers of `parse_module` read: what is tried first wins, and as much as can
-//! be is read.
+//! grammar is a table of rules, read as the readers of `parse_module` read: what is tried first wins, and as much as
+//! can be is read.
 #![tactic(auto)]
 
 mod edge;

@@ -42,8 +42,8 @@ enum Frame {
 }
 
 /// A reading: its tokens, where it is, the number of tokens up to the furthest one that it looked at, the steps that
-/// come next, what it does behind them, and for each token whether the next expression of a sequence was tried there and
-/// cannot be read.
+/// come next, what it does behind them, and for each token whether the next expression of a sequence was tried there
+/// and cannot be read.
 #[derive(Drop)]
 pub(crate) struct Reading<'a> {
     tokens: &'a TokenTable<'a>,
@@ -175,8 +175,8 @@ impl<'a> Reading<'a> {
         self.call(Frame::Many { rule, spot, steps }, rule)
     }
 
-    /// Keeps in mind that the next expression of a sequence cannot be read at this place. Behind an expression that takes
-    /// all that follows, it was not tried.
+    /// Keeps in mind that the next expression of a sequence cannot be read at this place. Behind an expression that
+    /// takes all that follows, it was not tried.
     fn rule_out(&mut self, rule: Rule, spot: Spot) {
         if rule == Rule::NextExpression && !spot.edge.has(Trait::Low) {
             if let Some(cannot) = self.without_next.get_mut(spot.at) {

@@ -11,9 +11,9 @@ use token_reading::TokenTable;
 /// The most steps of a reading. The rules take far fewer: they read from left to right, and none reads itself first.
 const MOST_STEPS: u64 = 1 << 40;
 
-/// The place of the furthest token that the reading of a file looks at, counted from 0: never before `front`, nor behind
-/// the end of the tokens. Which token it is, is tested alone: it is where the reading gives up, or just behind. The one
-/// error is want of memory.
+/// The place of the furthest token that the reading of a file looks at, counted from 0: never before `front`, nor
+/// behind the end of the tokens. Which token it is, is tested alone: it is where the reading gives up, or just behind.
+/// The one error is want of memory.
 pub fn stop_of(
     alloc: Global,
     tokens: &[Token<'_>],
@@ -50,8 +50,8 @@ fn count_seen(alloc: Global, tokens: &[Token<'_>], kind: FileKind) -> Result<usi
     Ok(reading.seen)
 }
 
-/// Whether a file ends inside an item: its reading stops at the last token, and looks further if one more token is there.
-/// This is tested alone. The one error is want of memory.
+/// Whether a file ends inside an item: its reading stops at the last token, and looks further if one more token is
+/// there. This is tested alone. The one error is want of memory.
 pub fn ends_inside(
     alloc: Global,
     tokens: &[Token<'_>],

@@ -1,5 +1,6 @@
 -- The last `let` of some lexemes that has no `in` among them.
-use Rattle.std.proofs.Common.{◌≡◌, ◌≢◌, ◌==◌, ◌&&◌, ◌<◌, ◌≤◌, ℕ, zero, suc, ◌+◌, ◌-◌, Bool, true, false, List, [], ◌∷◌, bytes_eq, codes, cond, drop, get_or, length, take}
+use Rattle.std.proofs.Common.{◌≡◌, ◌≢◌, ◌==◌, ◌&&◌, ◌<◌, ◌≤◌, ℕ, zero, suc, ◌+◌, ◌-◌, Bool, true, false, List, [], ◌∷◌, bytes_eq, codes, cond, drop}
+use Rattle.std.proofs.Common.{get_or, length, take}
 use Rattle.std.proofs.Common.{length-drop, refl, sym, ap, ◌∙◌, arith}
 use Rattle.std.proofs.lemmas.Bool.Decides.{nat_tests}
 use Rattle.std.proofs.lemmas.List.{length-map, length-take-le, take-map}
@@ -18,7 +19,8 @@ from_before (suc i) (x ∷ xs) h =
     let e = from_before i xs h in
     later (last_let xs) (length xs + 1) (bytes_eq x.bytes (codes "let")) (open_ins xs == 0) (λ z. h (sym e ∙ z)) ∙ e
 
-first : (x : Lexeme) (xs : List Lexeme) → bytes_eq x.bytes (codes "let") ≡ true → last_let xs ≡ 0 → open_ins xs ≡ 0 → last_let (x ∷ xs) ≡ length xs + 1
+first : (x : Lexeme) (xs : List Lexeme) → bytes_eq x.bytes (codes "let") ≡ true → last_let xs ≡ 0 → open_ins xs ≡ 0
+    → last_let (x ∷ xs) ≡ length xs + 1
 first x xs is none closed = go (last_let xs) (bytes_eq x.bytes (codes "let")) (open_ins xs) none is closed
   where
     go : (l : ℕ) (b : Bool) (o : ℕ) → l ≡ 0 → b ≡ true → o ≡ 0 → cond (l == 0 && b && o == 0) (length xs + 1) l ≡ length xs + 1

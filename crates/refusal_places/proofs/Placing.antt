@@ -1,5 +1,6 @@
 -- What is said of a refusal of a project.
-use Rattle.std.proofs.Common.{◌≡◌, ℕ, zero, suc, ◌<◌, ◌≤◌, List, [], ◌∷◌, All, Option, Some, None, Result, Ok, Err, IfOk, get_or, length, map, slice_get}
+use Rattle.std.proofs.Common.{◌≡◌, ℕ, zero, suc, ◌<◌, ◌≤◌, List, [], ◌∷◌, All, Option, Some, None, Result, Ok, Err, IfOk, get_or, length, map}
+use Rattle.std.proofs.Common.{slice_get}
 use Rattle.std.proofs.Common.{refl, ap, sym, subst, ◌∙◌, arith}
 use Rattle.rotor_base.specs.declared.refusal.Refusal.{Refusal}
 use Rattle.messages.specs.declared.parts.Message.{Message}
@@ -49,7 +50,8 @@ pub said_circle : (cuts : List Cut) (why : Refusal) (found : Option (List ℕ)) 
 said_circle cuts why found unit message is some h =
     subst (λ (o : Option (List ℕ)). SaysWhole o cuts why (Some message)) (sym some ∙ is) (message, refl, h)
 
-pub said_whole : {E : Type 0} (cuts : List Cut) (why : Refusal) (found : Option (List ℕ)) (result : Result (Option Message) E) → found ≡ cycle_unit why
+pub said_whole : {E : Type 0} (cuts : List Cut) (why : Refusal) (found : Option (List ℕ)) (result : Result (Option Message) E)
+    → found ≡ cycle_unit why
     → found ≡ None → IfOk result (λ said. said ≡ project_message cuts why) → IfOk result (SaysWhole (cycle_unit why) cuts why)
 said_whole cuts why found (Err e) is none h = tt
 said_whole cuts why found (Ok said) is none h = subst (λ (o : Option (List ℕ)). SaysWhole o cuts why said) (sym none ∙ is) h

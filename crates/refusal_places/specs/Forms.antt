@@ -1,5 +1,6 @@
 -- Forms that are not read, by the lexemes where a reading stops (own).
-use Rattle.std.specs.Prelude.{ℕ, ◌+◌, ◌-◌, ◌==◌, ◌&&◌, List, [], Option, Some, None, bytes_eq, codes, length, nat_le, nat_lt, slice_get, if◌then◌else◌}
+use Rattle.std.specs.Prelude.{ℕ, ◌+◌, ◌-◌, ◌==◌, ◌&&◌, List, [], Option, Some, None, bytes_eq, codes, length, nat_le, nat_lt, slice_get}
+use Rattle.std.specs.Prelude.{if◌then◌else◌}
 use Rattle.report.specs.Pieces.{Word}
 use Rattle.ml_lexer.specs.Lexed.{Lexeme}
 use Rattle.refusal_words.specs.Stretches.{bytes_of}

@@ -9,8 +9,8 @@ use parse_module::{FileKind, body_items, face_items};
 use rotor_base::{Memory, Token};
 use std::alloc::Global;
 
-/// The place, from 0, where the item begins that is not read: the first token that none of the items covers with which a
-/// file begins; if it is an `in`, the `let` of that. The one error is want of memory.
+/// The place, from 0, where the item begins that is not read: the first token that none of the items covers with which
+/// a file begins; if it is an `in`, the `let` of that. The one error is want of memory.
 pub fn front_of(alloc: Global, tokens: &[Token<'_>], kind: FileKind) -> Result<usize, Memory>
     requires few { length tokens.now ≤ max_file_bytes }
     ensures front { IfOk result (λ front. front ≡ front_for kind (view_tokens tokens.now)) }

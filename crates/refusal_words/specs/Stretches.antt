@@ -1,5 +1,6 @@
 -- The stretches of tokens and bytes (own).
-use Rattle.std.specs.Prelude.{ℕ, ◌+◌, ◌-◌, ◌==◌, ◌&&◌, List, [], Bool, true, false, Option, Some, None, drop, length, nat_lt, slice_get, take, if◌then◌else◌}
+use Rattle.std.specs.Prelude.{ℕ, ◌+◌, ◌-◌, ◌==◌, ◌&&◌, List, [], Bool, true, false, Option, Some, None, drop, length, nat_lt, slice_get, take}
+use Rattle.std.specs.Prelude.{if◌then◌else◌}
 use Rattle.rotor_base.specs.declared.place.Place.{Place}
 use Rattle.rotor_base.specs.declared.token.Class.{Class}
 use Rattle.rotor_base.specs.declared.token.Class.TheVariants.{Label}

@@ -93,8 +93,8 @@ pub fn batch_line(
     Ok(make_error_at(Kind::BadBatch, text, at, Row::new(alloc), None))
 }
 
-/// The message of two lists that have not the same sources, with the first name that one lacks. The one error is want of
-/// memory.
+/// The message of two lists that have not the same sources, with the first name that one lacks. The one error is want
+/// of memory.
 pub fn other_sources(alloc: Global, name: &[u8]) -> Result<Message, Memory>
     ensures { IfOk result (λ message. message ≡ other_sources_of name.now) }
 {

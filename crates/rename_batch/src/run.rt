@@ -66,8 +66,8 @@ fn run_steps(
     Ok((take_latest(alloc, files, last)?, changes))
 }
 
-/// Does the step of this number in some files, of which some trees are known. It returns also the trees that are known of
-/// the files that it leaves.
+/// Does the step of this number in some files, of which some trees are known. It returns also the trees that are known
+/// of the files that it leaves.
 fn run_step(
     alloc: Global,
     files: &Files,

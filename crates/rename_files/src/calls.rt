@@ -67,8 +67,8 @@ pub fn foot(alloc: Global, files: &Files, target: &Target) -> Result<FootReport,
     foot_placed(alloc, files, &read, &placed, &resolved, target)
 }
 
-/// The answer of [`foot`] over files that were read and resolved. The caller ensures that the project is that of the files,
-/// that nothing refuses it, and that the tokens, the facts and the scope are its own.
+/// The answer of [`foot`] over files that were read and resolved. The caller ensures that the project is that of the
+/// files, that nothing refuses it, and that the tokens, the facts and the scope are its own.
 ///
 /// # Errors
 ///
@@ -147,8 +147,8 @@ pub fn rename(
     rename_read(alloc, files, &read, target, name)
 }
 
-/// The answer of [`rename`], if some trees of the files are known, and the trees that are known of the new files: those of
-/// the sources that stay. The caller ensures that the known trees are those of the files. The errors are those of
+/// The answer of [`rename`], if some trees of the files are known, and the trees that are known of the new files: those
+/// of the sources that stay. The caller ensures that the known trees are those of the files. The errors are those of
 /// [`rename`].
 pub fn rename_again(
     alloc: Global,
@@ -187,8 +187,8 @@ fn rename_read(
     rename_placed(alloc, files, read, &placed, &resolved, target, name)
 }
 
-/// The answer of [`rename`] over files that were read and resolved. The caller ensures what [`foot_in`] requires, and that
-/// no site is too heavy.
+/// The answer of [`rename`] over files that were read and resolved. The caller ensures what [`foot_in`] requires, and
+/// that no site is too heavy.
 ///
 /// # Errors
 ///

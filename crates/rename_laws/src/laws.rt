@@ -40,8 +40,8 @@ pub fn footprints_are_least()
     ensures { FootprintsAreLeast }
 {}
 
-/// The declarations that `footprint` shows are a least footprint. If it shows a place that is linked with the outside, no
-/// valid renaming changes any of them.
+/// The declarations that `footprint` shows are a least footprint. If it shows a place that is linked with the outside,
+/// no valid renaming changes any of them.
 pub fn shown_footprints_are_least()
     ensures least { ShownAreLeast }
     ensures outside { ShownOutsideIsKept }

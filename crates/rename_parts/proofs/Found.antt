@@ -85,7 +85,8 @@ module _ (us : List UnitTree) (foot : Foot) where
       → (P x → Q (hit_of p x)) → Has Q (all_hits hs (places us))
   kind_up P Q p x e hit px up = hits_up Q (places us) hs p x (has_contained (λ q. q ≡ p) hs p hit refl) e (up px)
 
-  kind_down : (P : Site → Type 0) (Q : Hit → Type 0) (p : Place) → ((q : Place) (x : Site) → Q (hit_of q x) → (q ≡ p) × P x) → Has Q (all_hits hs (places us))
+  kind_down : (P : Site → Type 0) (Q : Hit → Type 0) (p : Place) → ((q : Place) (x : Site) → Q (hit_of q x) → (q ≡ p) × P x)
+      → Has Q (all_hits hs (places us))
       → IsHit us foot p × ((x : Site) × (at_place (places us) p ≡ Some x) × P x)
   kind_down P Q p down h =
       let k = hits_down Q (places us) hs h in
@@ -97,7 +98,8 @@ module _ (us : List UnitTree) (foot : Foot) where
 
   pub operator_met : list_any (λ h. h.operator) (all_hits hs (places us)) ≡ true → IsOperator us foot refusal.Operator
   operator_met e =
-      let h = contained_has (λ (z : Hit). z.operator ≡ true) (all_hits hs (places us)) (has_any (λ (z : Hit). z.operator) (all_hits hs (places us)) e) in
+      let h = contained_has (λ (z : Hit). z.operator ≡ true) (all_hits hs (places us))
+      (has_any (λ (z : Hit). z.operator) (all_hits hs (places us)) e) in
       let k = kind_down (λ x. x.operator ≡ true) (λ z. (z.operator ≡ true) × (z.place ≡ h.0.place)) h.0.place (λ q x j. (j.1, j.0))
       (has_contained (λ (z : Hit). (z.operator ≡ true) × (z.place ≡ h.0.place)) (all_hits hs (places us)) h.0 h.1 (h.2, refl)) in
       (h.0.place, k.0, k.1)

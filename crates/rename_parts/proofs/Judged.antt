@@ -35,7 +35,8 @@ module _ (us : List UnitTree) (fs : Facts) (foot : Foot) (new old : Name) (membe
       → IsLeastOrNone (λ p. BlursRef members fs.refs p ⊎ BlursLink members fs.links p) f.blurred
       → (o : Option Refusal) → o ≡ refusal_of f → (d : Place) → old ≡ name_of us d → Told us d foot new o
   judged f op va sa ou pu bl o e d n =
-      let operator : f.operator ≡ list_any (λ h. h.operator) (all_hits (hits (facts us).refs foot) (places us)) = as_hits (λ hs. f.operator ≡ list_any (λ h. h.operator) hs) op in
+      let operator : f.operator ≡ list_any (λ h. h.operator) (all_hits (hits (facts us).refs foot) (places us)) =
+      as_hits (λ hs. f.operator ≡ list_any (λ h. h.operator) hs) op in
       subst (Told us d foot new) (sym e)
       (told us d foot new f.operator f.valid f.same f.outside f.pun f.blurred (record {
         met = λ t. operator_met us foot (sym operator ∙ t);

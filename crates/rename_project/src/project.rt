@@ -24,8 +24,8 @@ use std::alloc::Global;
 use value_places::PlacedProject;
 
 /// The facts of a project and the scope after its units, if it has no refusal: no name occurs twice in a group, no site
-/// is too heavy, and no link lacks its source. The caller ensures that the project is sound, as what `read_project` reads
-/// is.
+/// is too heavy, and no link lacks its source. The caller ensures that the project is sound, as what `read_project`
+/// reads is.
 ///
 /// # Errors
 ///
@@ -68,8 +68,8 @@ pub fn resolve_placed(
     Ok(resolved)
 }
 
-/// Returns `Ok` if no name occurs twice in a group, and else `Duplicate`. It has the least place that repeats a name of its
-/// group, and the least place of that name there. The only other error is `Memory`.
+/// Returns `Ok` if no name occurs twice in a group, and else `Duplicate`. It has the least place that repeats a name of
+/// its group, and the least place of that name there. The only other error is `Memory`.
 fn check_groups(alloc: Global, project: &Project, placed: &PlacedProject<'_>) -> Result<(), Refusal>
     requires sound { IsSound (view_project project.now) }
     requires placed { placed.now ≡ places (view_project project.now) }
@@ -86,8 +86,8 @@ fn check_groups(alloc: Global, project: &Project, placed: &PlacedProject<'_>) ->
     }
 }
 
-/// The facts of a project and the scope after its units, if no site is too heavy. The caller ensures that the project is
-/// sound. The errors are `Heavy` with the first site to end that is too heavy, and `Memory`.
+/// The facts of a project and the scope after its units, if no site is too heavy. The caller ensures that the project
+/// is sound. The errors are `Heavy` with the first site to end that is too heavy, and `Memory`.
 pub fn resolve_facts(alloc: Global, project: &Project) -> Result<Resolved, Refusal>
     requires { IsSound (view_project project.now) }
     ensures facts { IfOk result (λ done. done.facts ≡ facts (view_project project.now)) }

@@ -22,8 +22,9 @@ use std::alloc::Global;
 use value_places::PlacedProject;
 
 /// The bytes of each source, if the binders of a map take the names that it gives them. A binder that the map gives
-/// another name takes it, and so does each reference to it. In a label the word alone changes. All other bytes stay. The
-/// caller ensures that each place of the map is a binder. If several entries give it another name, the first one counts.
+/// another name takes it, and so does each reference to it. In a label the word alone changes. All other bytes stay.
+/// The caller ensures that each place of the map is a binder. If several entries give it another name, the first one
+/// counts.
 ///
 /// # Errors
 ///
@@ -39,7 +40,8 @@ pub fn respell(alloc: Global, files: &Files, map: &[(Place, Name)]) -> Result<Ve
     Ok(respell_read(alloc, files, &read, &placed, &resolved.facts, map)?)
 }
 
-/// What [`respell`] returns, of files that are read and resolved, and whose places are listed. `Memory` is the only error.
+/// What [`respell`] returns, of files that are read and resolved, and whose places are listed. `Memory` is the only
+/// error.
 pub fn respell_read(
     alloc: Global,
     files: &Files,

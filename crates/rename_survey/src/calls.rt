@@ -58,8 +58,8 @@ fn look_over(
     Ok((binders, bad))
 }
 
-/// The first of `Duplicate` and `Unmatched` that holds of a project with these places and facts, or none. `Memory` is the
-/// only error.
+/// The first of `Duplicate` and `Unmatched` that holds of a project with these places and facts, or none. `Memory` is
+/// the only error.
 fn find_first_bad(
     alloc: Global,
     placed: &PlacedProject<'_>,

@@ -68,7 +68,8 @@ same_manifest (Some x) None h = absurd (h (λ e. cc))
 same_manifest (Some x) (Some y) h = by (bytes_eq x y) refl where
   by : (b : Bool) → bytes_eq x y ≡ b → Some x ≡ Some y
   by true e = ap (λ (z : List ℕ). Some z) ((bytes_eq-Decides x y).0 e)
-  by false e = absurd (h (λ k. let yes : bytes_eq x y ≡ true = (bytes_eq-Decides x y).1 (some_is x y k) in let wrong : true ≡ false = sym yes ∙ e in cc))
+  by false e =
+      absurd (h (λ k. let yes : bytes_eq x y ≡ true = (bytes_eq-Decides x y).1 (some_is x y k) in let wrong : true ≡ false = sym yes ∙ e in cc))
 
 same_names : (old new : FileSet) → IsProject old → IsProject new → (IsMet (IsSources old new) → ⊥) → names_of old.entries ≡ names_of new.entries
 same_names old new p q none = by (first_alone (names_of old.entries) (names_of new.entries))

@@ -83,8 +83,8 @@ fn judge(
     }
 }
 
-/// The first byte at which new sources differ from the old ones with the suggested names, if they differ. `Memory` is the
-/// only error.
+/// The first byte at which new sources differ from the old ones with the suggested names, if they differ. `Memory` is
+/// the only error.
 fn other_byte(
     alloc: Global,
     old: &Files,

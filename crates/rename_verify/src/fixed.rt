@@ -21,8 +21,8 @@ use value_places::PlacedProject;
 use watched::set_of;
 
 /// The least of some changed binders that may not take another name: a use of it is an operator, or its word is a label
-/// or a field too; a link joins it with the outside; or an outside module may hide it. The places and the facts are those
-/// of the project. `Memory` is the only error.
+/// or a field too; a link joins it with the outside; or an outside module may hide it. The places and the facts are
+/// those of the project. `Memory` is the only error.
 pub fn find_least_fixed(
     alloc: Global,
     placed: &PlacedProject<'_>,

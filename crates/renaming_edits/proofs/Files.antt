@@ -72,7 +72,8 @@ hits_have ps n zero number (file ∷ files) sum lt hit =
     subst P (sym same) (subst (λ b. Contains (cond b (n ∷ hit_files ps (suc n) files) (hit_files ps (suc n) files)) n)
     (sym (ap (λ m. list_any (λ p. p.file == m) ps) (sym same) ∙ hit)) (contains_head n (hit_files ps (suc n) files)))
 hits_have ps n (suc i) number (file ∷ files) sum lt hit =
-    has_by (list_any (λ p. p.file == n) ps) n number (hit_files ps (suc n) files) (hits_have ps (suc n) i number files (omega arith) (omega arith) hit)
+    has_by (list_any (λ p. p.file == n) ps) n number (hit_files ps (suc n) files)
+    (hits_have ps (suc n) i number files (omega arith) (omega arith) hit)
 
 -- if the number of a source is not among them, no place is in it
 pub no_hit : (ps : List Place) (files : List SourceFile) (file : ℕ) → file < length files → (Contains (hit_files ps 0 files) file → ⊥)

@@ -30,7 +30,8 @@ use Rattle.renaming_edits.proofs.Files.{got, respelled_at, hits_within, no_hit, 
 
 -- ---- one more source
 
-pub listed_more : (c : Counting) (set : BTreeSet Place) (new : List ℕ) (sources : List SourceFile) (fs : List ℕ) (es : List FileEdits) (f : ℕ) (e : FileEdits)
+pub listed_more : (c : Counting) (set : BTreeSet Place) (new : List ℕ) (sources : List SourceFile) (fs : List ℕ) (es : List FileEdits) (f : ℕ)
+    (e : FileEdits)
     → AreListed c set new sources fs es → GivesWords c set new sources f e → AreListed c set new sources (fs ++ f ∷ []) (es ++ e ∷ [])
 listed_more c set new sources [] [] f e h g = (g, tt)
 listed_more c set new sources [] (x ∷ es) f e h g = absurd h
@@ -45,7 +46,8 @@ gives_words c set new sources f e at bytes word number is same words h = (
   number,
   λ source xs there cut.
       let one : at ≡ source = is ∙ get_or_from_slice_get sources f source at there in
-      let P : List ℕ → List ℕ → Type 0 = λ b w. (ys : List Lexeme) → Lexed b ys → IsEdited c b e.edits.items (respelled b ys (hit_words set f w 1 ys)) in
+      let P : List ℕ → List ℕ → Type 0 = λ b w. (ys : List Lexeme) → Lexed b ys
+      → IsEdited c b e.edits.items (respelled b ys (hit_words set f w 1 ys)) in
       let here : P source.bytes new = subst (λ b. P b new) (same ∙ ap (λ (s : SourceFile). s.bytes) one) (subst (P bytes) words h) in
       here xs cut,
 )
@@ -103,7 +105,8 @@ module _ (c : Counting) (files : FileSet) (facts : Facts) (done : Renamed) (is :
         edited = subst (IsEdited c old.0.bytes e.edits.items) bytes (g.1 old.0 xs old.1 source.respelled.cut);
       }
 
-  each_source : (fs : List ℕ) (es : List FileEdits) → All (λ f. f < length Old) fs → AreListed c set done.new Old fs es → All (EditsSource c Old New) es
+  each_source : (fs : List ℕ) (es : List FileEdits) → All (λ f. f < length Old) fs → AreListed c set done.new Old fs es
+      → All (EditsSource c Old New) es
   each_source [] [] within h = All-nil (EditsSource c Old New)
   each_source [] (e ∷ es) within h = absurd h
   each_source (f ∷ fs) [] within h = absurd h

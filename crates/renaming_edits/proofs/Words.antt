@@ -1,5 +1,6 @@
 -- The edits of the words of a source make it with its lexemes respelled.
-use Rattle.std.proofs.Common.{◌≡◌, ℕ, suc, ◌-◌, ◌&&◌, ◌||◌, ◌==◌, List, [], ◌∷◌, All, Bool, true, false, true≢false, not, cond, map, length, take, drop, refl, ap, sym, ◌∙◌, subst, arith}
+use Rattle.std.proofs.Common.{◌≡◌, ℕ, suc, ◌-◌, ◌&&◌, ◌||◌, ◌==◌, List, [], ◌∷◌, All, Bool, true, false, true≢false, not, cond, map, length, take}
+use Rattle.std.proofs.Common.{drop, refl, ap, sym, ◌∙◌, subst, arith}
 use Rattle.std.specs.Prelude.{IfOk, Result, Ok, Err}
 use Rattle.std.specs.BTreeSet.{BTreeSet, contains}
 use Rattle.std.specs.Int.{is_in_range}
@@ -143,5 +144,6 @@ none_changed src xs set file new cut none =
     no_spans : (n : ℕ) (ys : List Lexeme) → word_spans set file n ys ≡ []
     no_spans n [] = refl
     no_spans n (y ∷ ys) =
-        skip (is_lower y.class) (contains place_cmp set (here file n)) (record { start = y.start; end = y.end }) (word_spans set file (suc n) ys) (none n)
+        skip (is_lower y.class) (contains place_cmp set (here file n)) (record { start = y.start; end = y.end }) (word_spans set file (suc n) ys)
+        (none n)
         ∙ no_spans (suc n) ys

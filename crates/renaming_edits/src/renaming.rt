@@ -23,9 +23,9 @@ pub struct FileEdits {
     pub edits: Vec<TextEdit>,
 }
 
-/// The edits of a renaming that was done over these files, for each source that changed, in order. The caller ensures that
-/// the facts are those of the project of the files. If an editor applies the edits of a source as the Language Server
-/// Protocol says, it has the new source. The other sources keep their bytes.
+/// The edits of a renaming that was done over these files, for each source that changed, in order. The caller ensures
+/// that the facts are those of the project of the files. If an editor applies the edits of a source as the Language
+/// Server Protocol says, it has the new source. The other sources keep their bytes.
 ///
 /// # Errors
 ///

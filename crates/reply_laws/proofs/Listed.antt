@@ -47,7 +47,8 @@ refused held name list_error.Read h = absurd (none h) where
 -- the files that a list gives are those of a project
 project_of : (held : FileMap) (name : List ℕ) (answer : Result FileSet ListError) (files : FileSet) → answer ≡ Ok files → Lists held name answer
     → IsProject files
-project_of held name answer files same (load.lacks e r) = let wrong : ◌≡◌ {A = Result FileSet ListError} (Ok files) (Err (list_error.BadList 0)) = sym same ∙ r in cc
+project_of held name answer files same (load.lacks e r) = let wrong : ◌≡◌ {A = Result FileSet ListError} (Ok files) (Err (list_error.BadList 0)) =
+    sym same ∙ r in cc
 project_of held name answer files same (load.large bytes e over r) =
     let wrong : ◌≡◌ {A = Result FileSet ListError} (Ok files) (Err _) = sym same ∙ r in cc
 project_of held name answer files same (load.unread bytes number e few bad r) =

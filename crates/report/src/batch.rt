@@ -32,8 +32,8 @@ pub fn step_line(
     join_words(alloc, &[rename.as_slice(), b" ", at.as_slice()])
 }
 
-/// The text of a batch with a step that is refused: `step K ` and the line of the refusal. Steps count from 1. `names` are
-/// as in [`crate::text`]. The one error is want of memory.
+/// The text of a batch with a step that is refused: `step K ` and the line of the refusal. Steps count from 1. `names`
+/// are as in [`crate::text`]. The one error is want of memory.
 pub fn stopped_text(
     alloc: Global,
     names: &[String],
@@ -52,8 +52,8 @@ pub fn stopped_text(
     Ok(text.into_vec())
 }
 
-/// The text of a batch with a line that is no step, `project: badbatch N`. Lines count from 1; 0 is for a file that is no
-/// batch. The one error is want of memory.
+/// The text of a batch with a line that is no step, `project: badbatch N`. Lines count from 1; 0 is for a file that is
+/// no batch. The one error is want of memory.
 pub fn bad_batch_text(alloc: Global, number: u32) -> Result<Vec<u8>, Memory>
     ensures { IfOk result (λ text. text.items ≡ bad_batch_text_of number) }
 {

@@ -51,8 +51,8 @@ fn outcome_value(alloc: Global, names: &[String], outcome: &Outcome) -> Result<V
     }
 }
 
-/// The object that the report of a refusal has in JSON. `names` are as in [`crate::text`]. It has no number. The one error
-/// is want of memory.
+/// The object that the report of a refusal has in JSON. `names` are as in [`crate::text`]. It has no number. The one
+/// error is want of memory.
 pub fn refusal_data(alloc: Global, names: &[String], refusal: &Refusal) -> Result<Value, Memory>
     ensures data { IfOk result (λ value. view value ≡ data_of (map string_bytes names.now) (outcome.Refused refusal.now)) }
     ensures plain { IfOk result (λ value. has_float (view value) ≡ false) }

@@ -61,8 +61,8 @@ pub(crate) fn rename_line(alloc: Global, old: &Name, new: &Name) -> Result<Row<u
     )
 }
 
-/// The line of an undo, `undo P OLD`: the place, and the name that it had. `names` are as in [`crate::text`]. The one error
-/// is want of memory.
+/// The line of an undo, `undo P OLD`: the place, and the name that it had. `names` are as in [`crate::text`]. The one
+/// error is want of memory.
 pub fn undo_line(alloc: Global, names: &[String], at: Place, old: &Name) -> Result<Row<u8>, Memory>
     ensures { IfOk result (λ line. line ≡ undo_line_of (map string_bytes names.now) at old.now) }
 {

@@ -29,7 +29,8 @@ position_of position =
 -- the place that some parameters name
 abbrev pub spot_of : Data → Option (Spot (List ℕ))
 spot_of params =
-    option_and_then (λ uri. option_map (λ position. record { uri = uri; position = position }) (option_and_then position_of (get (codes "position") params)))
+    option_and_then
+    (λ uri. option_map (λ position. record { uri = uri; position = position }) (option_and_then position_of (get (codes "position") params)))
     (uri_of params)
 
 -- a place whose URI is borrowed, with the URI's bytes

@@ -47,7 +47,8 @@ use Rattle.rotor_app.specs.declared.writing.Writing.{Writing}
 use Rattle.rotor_app.specs.Writing.{is_writing, writing_of}
 use Rattle.rotor_app.specs.Said.{reply_of, silent_reply, unloaded_reply, renaming_reply, bad_batch, stopped_batch, batched_reply, judged_reply}
 use Rattle.rotor_app.specs.Said.{as_outcome, SaysLoaded, not_loaded, over, SaysPermitted, pends, permitted, SaysChecked, SaysCheck, SaysShown}
-use Rattle.rotor_app.specs.Said.{SaysShape, SaysRenaming, SaysRename, batch_in, SaysSteps, stopped, batched, SaysFound, lacks, large, unread, runs, SaysBatch}
+use Rattle.rotor_app.specs.Said.{SaysShape, SaysRenaming, SaysRename, batch_in, SaysSteps, stopped, batched, SaysFound, lacks, large, unread, runs}
+use Rattle.rotor_app.specs.Said.{SaysBatch}
 use Rattle.rotor_app.specs.Said.{SaysRecovery, idle, finished, lost, RefusesList, IsJudged, SaysAgainst, unlisted, judged}
 use Rattle.rotor_app.specs.Said.{SaysVerify, no_list, listed, SaysSample, Says}
 

@@ -63,8 +63,8 @@ fn batch_reply<T: Tree>(
     Ok(reply)
 }
 
-/// The first bytes of the file of a batch, as many as it may have and one more; none if the folder lacks the file, or it
-/// is a source or the manifest.
+/// The first bytes of the file of a batch, as many as it may have and one more; none if the folder lacks the file, or
+/// it is a source or the manifest.
 fn read_batch_file<T: Tree>(
     alloc: Global,
     file: &str,

@@ -30,13 +30,14 @@ use tree_io::{Sink, Tree, TreeError, write_all};
 
 /// Runs the command of the words over a folder and an output, and returns how it ended.
 ///
-/// The words are `check`, `footprint TARGET`, `sample N`, `recover`, `verify OLDLIST NEWLIST`, `batch FILE` with `--write`
-/// or none, or `rename TARGET NAME` with `--write` or `--safe`, with `--json`, both or none. `rename --write` writes the
-/// changed sources and puts the report; or it leaves the folder as it is, and puts the refusal. `rename --safe` first
-/// writes a plan, from which `recover` finishes the writes after a stop. The call takes all memory, the folder's room too,
-/// before the first write and the put.
+/// The words are `check`, `footprint TARGET`, `sample N`, `recover`, `verify OLDLIST NEWLIST`, `batch FILE` with
+/// `--write` or none, or `rename TARGET NAME` with `--write` or `--safe`, with `--json`, both or none. `rename --write`
+/// writes the changed sources and puts the report; or it leaves the folder as it is, and puts the refusal. `rename
+/// --safe` first writes a plan, from which `recover` finishes the writes after a stop. The call takes all memory, the
+/// folder's room too, before the first write and the put.
 pub fn rotor<T: Tree, S: Sink>(alloc: Global, words: &[String], tree: &mut T, out: &mut S) -> Status
-    // If no count of faults rose and there was memory, there is a reply that is said, and status, files and text are its.
+    // If no count of faults rose and there was memory, there is a reply that is said, and status, files and text are
+    // its.
     ensures answer { ForSome (T.content tree.old) (λ files.
         IsQuiet (seen (T.faults tree.old) (S.faults out.old) (T.content tree.old) (S.taken out.old))
         (seen (T.faults tree.new) (S.faults out.new) (T.content tree.new) (S.taken out.new))
@@ -67,8 +68,8 @@ pub fn rotor<T: Tree, S: Sink>(alloc: Global, words: &[String], tree: &mut T, ou
         (seen (T.faults tree.old) (S.faults out.old) (T.content tree.old) (S.taken out.old))
         (seen (T.faults tree.new) (S.faults out.new) (T.content tree.new) (S.taken out.new)))) }
 
-    // If a write of `--safe` fails, the old project or the new one is recovered, whole. If a write of `recover` fails, a
-    // later one recovers the same.
+    // If a write of `--safe` fails, the old project or the new one is recovered, whole. If a write of `recover` fails,
+    // a later one recovers the same.
     ensures recoverable { (result ≡ Status.TreeFault) → ForSome (T.content tree.old) (λ held. ForSome (T.content tree.new) (IsRecoverable (command_of (map string_bytes words.now)) held)) }
 
     // Refusals and want of memory leave the folder; a folder that failed and want of memory put nothing.
@@ -76,17 +77,17 @@ pub fn rotor<T: Tree, S: Sink>(alloc: Global, words: &[String], tree: &mut T, ou
     ensures quiet { (result ≡ Status.TreeFault) ⊎ (result ≡ Status.Memory) → out.new ≡ out.old }
 
     // A renaming that is done is valid, keeps facts and runs, and changes a least footprint. The files and the text are
-    // those of its reply, and the words of its undo give the old files back. A footprint that is shown is a least one. The
-    // steps back of a batch that is done give the old files. A recovery that is done leaves what is recovered. A `verify`
-    // that is done says yes: the second project is a valid respelling of the first, which keeps the runs.
+    // those of its reply, and the words of its undo give the old files back. A footprint that is shown is a least one.
+    // The steps back of a batch that is done give the old files. A recovery that is done leaves what is recovered. A
+    // `verify` that is done says yes: the second project is a valid respelling of the first, which keeps the runs.
     ensures renamed { (result ≡ Status.Done) → ForSome (T.content tree.old) (λ files. SomeReply (command_of (map string_bytes words.now)) files (λ reply.
         IsAsSaid reply files
         (seen (T.faults tree.old) (S.faults out.old) (T.content tree.old) (S.taken out.old))
         (seen (T.faults tree.new) (S.faults out.new) (T.content tree.new) (S.taken out.new)) result
         × IsDoneSo (command_of (map string_bytes words.now)) files reply)) }
 
-    // If the answer of another command than `verify` is an Ok and the gate does not forbid its writes, the status is Done.
-    // If `check` accepts the first version and the second is a valid respelling of it, `verify` is done.
+    // If the answer of another command than `verify` is an Ok and the gate does not forbid its writes, the status is
+    // Done. If `check` accepts the first version and the second is a valid respelling of it, `verify` is done.
     ensures accepted { ForSome (T.content tree.old) (λ files.
         IsQuiet (seen (T.faults tree.old) (S.faults out.old) (T.content tree.old) (S.taken out.old))
         (seen (T.faults tree.new) (S.faults out.new) (T.content tree.new) (S.taken out.new))

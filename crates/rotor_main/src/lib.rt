@@ -17,9 +17,9 @@ use tree_io::{HostSink, HostTree};
 /// The exit code if the system refused the words for another reason than want of memory.
 const NO_WORDS: u8 = 7;
 
-/// Runs the command of the words behind the program's name, over the current folder and the standard output, and returns
-/// the code of its status. If there is no memory for the words, the code is that of `Memory`; if the system refuses them for
-/// another reason, it is 7. Then the folder and the output are not called.
+/// Runs the command of the words behind the program's name, over the current folder and the standard output, and
+/// returns the code of its status. If there is no memory for the words, the code is that of `Memory`; if the system
+/// refuses them for another reason, it is 7. Then the folder and the output are not called.
 pub fn run<R: Env + Files<File = File> + Print + AllocGlobal>(rt: &R) -> ExitCode
     ensures { (exit_status result ≡ 7) ⊎ ((status : Status) × (exit_status result ≡ code_of status)) }
 {

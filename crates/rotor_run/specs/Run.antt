@@ -28,7 +28,8 @@ pub record IsAnswered (request : Option Command) (held : FileMap) (before now : 
   pub done : ended ≡ Done → IsDoneSo request held reply
 
 -- and the files are those that the writes of the reply leave
-pub record IsCarriedOut (request : Option Command) (held left : FileMap) (before now : Option (List ℕ)) (ended : Status) (reply : Reply) : Type 0 where
+pub record IsCarriedOut (request : Option Command) (held left : FileMap) (before now : Option (List ℕ)) (ended : Status) (reply : Reply) : Type
+    0 where
   pub answered : IsAnswered request held before now ended reply
   pub files : left ≡ after reply.writes held
 
@@ -39,7 +40,8 @@ IsRunOver request folder left before now status =
     IsStopped status ⊎ ((held : FileMap) × AreFilesOf folder held × SomeReply request held (IsCarriedOut request held left before now status))
 
 -- the words alone decide the reply, and the folder is as it was
-pub record IsAlone (request : Option Command) (folder left : Option FileMap) (before now : Option (List ℕ)) (ended : Status) (reply : Reply) : Type 0 where
+pub record IsAlone (request : Option Command) (folder left : Option FileMap) (before now : Option (List ℕ)) (ended : Status) (reply : Reply) : Type
+    0 where
   pub asks : AsksNothing request
   pub said : SaysAlone request reply
   pub status : ended ≡ reply.status
@@ -47,7 +49,8 @@ pub record IsAlone (request : Option Command) (folder left : Option FileMap) (be
   pub files : left ≡ folder
 
 -- the same as `IsCarriedOut`, for files that are modelled
-pub record IsLeft (request : Option Command) (held : FileMap) (left : Option FileMap) (before now : Option (List ℕ)) (ended : Status) (reply : Reply) : Type 0 where
+pub record IsLeft (request : Option Command) (held : FileMap) (left : Option FileMap) (before now : Option (List ℕ)) (ended : Status)
+    (reply : Reply) : Type 0 where
   pub answered : IsAnswered request held before now ended reply
   pub files : AreFilesOf left (after reply.writes held)
 

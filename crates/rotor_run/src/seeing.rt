@@ -17,9 +17,9 @@ use tree_io::{Tree, TreeError};
 /// The most bytes of a batch that are read: one more than it may have.
 const BATCH_LIMIT: u32 = MAX_FILE_BYTES + 1;
 
-/// The folder with what a command may ask of it. The files that its calls loaded are added to `loaded`: a large file that
-/// is freed before the command runs makes the memory that follows slower. If the folder failed or there was no memory, the
-/// run ends so, with the folder as it was.
+/// The folder with what a command may ask of it. The files that its calls loaded are added to `loaded`: a large file
+/// that is freed before the command runs makes the memory that follows slower. If the folder failed or there was no
+/// memory, the run ends so, with the folder as it was.
 pub(crate) fn see<T: Outer + Drop>(
     alloc: Global,
     command: &Command,
@@ -79,8 +79,8 @@ fn see_asked<T: Outer + Drop>(
     }
 }
 
-/// Reads the files that the folder loads as, and the gate if it is asked. Returns whether the command goes on: the folder
-/// loads, and an open gate does not stop it.
+/// Reads the files that the folder loads as, and the gate if it is asked. Returns whether the command goes on: the
+/// folder loads, and an open gate does not stop it.
 fn see_project<T: Outer + Drop>(
     alloc: Global,
     asks_gate: bool,

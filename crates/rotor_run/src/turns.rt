@@ -21,8 +21,8 @@ const MAX_TURNS: u32 = 4096;
 
 /// Runs the command of the words over a folder and an output, and returns how it ended, with the folder.
 ///
-/// The folder is listed once, and each file that the command may ask is read once. Then `rotor` runs over what was read.
-/// Words that ask nothing of the folder do not call it.
+/// The folder is listed once, and each file that the command may ask is read once. Then `rotor` runs over what was
+/// read. Words that ask nothing of the folder do not call it.
 pub fn run_command<T: Outer + Drop, S: Sink>(
     alloc: Global,
     words: &[String],
@@ -106,8 +106,8 @@ fn run_alone<T: Outer + Drop, S: Sink>(
     }
 }
 
-/// Runs the command of the words over a folder of which is known what the command may ask. If it asks more, that is read,
-/// and the command runs again.
+/// Runs the command of the words over a folder of which is known what the command may ask. If it asks more, that is
+/// read, and the command runs again.
 pub fn run_over<T: Outer + Drop, S: Sink>(
     alloc: Global,
     words: &[String],
@@ -117,8 +117,8 @@ pub fn run_over<T: Outer + Drop, S: Sink>(
     requires known { known_faults known.old ≡ 0 }
     requires out { S.faults out.old ≡ 0 }
 
-    // For some map of what was read, the status, the files and the text are those of the one reply to it. If the content
-    // of the folder is modelled, the map is the folder's.
+    // For some map of what was read, the status, the files and the text are those of the one reply to it. If the
+    // content of the folder is modelled, the map is the folder's.
     ensures run { IsRunOver (command_of (map string_bytes words.now)) (T.content (known_tree known.old))
         (files_of (T.content (known_tree known.new)) (known_files known.new)) (S.taken out.old) (S.taken out.new) result }
     ensures unchanged { IsRefusal result → T.content (known_tree known.new) ≡ T.content (known_tree known.old) }

@@ -2,8 +2,8 @@
 
 ghost use Rattle.sample_counts.specs.Laws.{SamplesAreCounted};
 
-/// Of two units or more, `sample` reports two declarations, three references for each unit after the first, and that its
-/// renaming is undone.
+/// Of two units or more, `sample` reports two declarations, three references for each unit after the first, and that
+/// its renaming is undone.
 pub fn samples_are_counted()
     ensures { SamplesAreCounted }
 {}

@@ -88,7 +88,8 @@ kept_without t list d h has p =
     ∙ ap (λ ss. spots_of (p ∷ []) list ++ ss) (no_spot p (length list) (length (darks (entries_of list))) d h)
     ∙ append-nil (spots_of (p ∷ []) list)))
 
-put_last : (b : Bool) (s : Spot) (ss : List Spot) → cond b (last_value_of (Some s)) (last_value_of (final ss)) ≡ last_value_of (final (ss ++ cond b (s ∷ []) []))
+put_last : (b : Bool) (s : Spot) (ss : List Spot)
+    → cond b (last_value_of (Some s)) (last_value_of (final ss)) ≡ last_value_of (final (ss ++ cond b (s ∷ []) []))
 put_last true s ss = ap last_value_of (sym (final_more ss s))
 put_last false s ss = ap (λ l. last_value_of (final l)) (sym (append-nil ss))
 

@@ -264,8 +264,11 @@ ends_so ds list n k x g ss e h found is = by (is_among ds g) refl found is
 
     by : (b : Bool) → is_among ds g ≡ b → (found : Bool) → found ≡ position_is n (position_of (final ss))
         → cond found ((s : Spot) × (ss ≡ spots_of ds list ++ s ∷ [])) (ss ≡ spots_of ds list)
-    by true q true is =
-        (record { goal = g; position = n; darks = k }, h ∙ ap (λ b. spots_of ds list ++ cond b (record { goal = g; position = n; darks = k } ∷ []) []) q)
+    by true q true is = (
+      record { goal = g; position = n; darks = k },
+      h
+          ∙ ap (λ b. spots_of ds list ++ cond b (record { goal = g; position = n; darks = k } ∷ []) []) q,
+    )
     by true q false is =
         let s : Spot = record { goal = g; position = n; darks = k } in
         let there : position_is n (position_of (final ss)) ≡ true = ap (λ xs. position_is n (position_of (final xs)))
@@ -306,7 +309,8 @@ value_gone m list x g left found h len lt is =
     ends_so m.decls.items list (length list) (length (darks (entries_of list))) x g m.spots.items refl two.0 found
     (is ∙ ap (λ i. position_is i (position_of (final m.spots.items))) (sym len))
 
-pub value_darks : (m : Members) (list : List SharedEntry) (x : List ℕ) (g : Goal) (left : ℕ) → HasMembers m (list ++ e.Val x g ∷ []) → length list ≡ left
+pub value_darks : (m : Members) (list : List SharedEntry) (x : List ℕ) (g : Goal) (left : ℕ) → HasMembers m (list ++ e.Val x g ∷ [])
+    → length list ≡ left
     → left < m.noted → m.darks ≡ length (darks (entries_of list))
 value_darks m list x g left h len lt = let two = was_noted m list (e.Val x g) h (omega (arith, len, lt)) in omega (arith, two.1)
 

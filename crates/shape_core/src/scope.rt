@@ -108,8 +108,8 @@ impl Scope {
         }
     }
 
-    /// The last value whose goal is among some declarations, of which the caller has the set. It looks at each entry once
-    /// after it was pushed, if the declarations are those of the call before.
+    /// The last value whose goal is among some declarations, of which the caller has the set. It looks at each entry
+    /// once after it was pushed, if the declarations are those of the call before.
     ///
     /// # Errors
     ///

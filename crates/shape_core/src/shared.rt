@@ -315,7 +315,8 @@ pub fn darks_of(shape: &Shared) -> (u64, Option<Place>)
     }
 }
 
-/// The last value of a name in a structure, as [`crate::last_val_in`] says; `None` for another shape. It takes no memory.
+/// The last value of a name in a structure, as [`crate::last_val_in`] says; `None` for another shape. It takes no
+/// memory.
 pub fn last_val_of(shape: &Shared, name: &[u8]) -> Option<LookSpot>
     ensures { result ≡ looks.last_where (looks.of_name name.now) (pure.entries_in shape.now) }
 {

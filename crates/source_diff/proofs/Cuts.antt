@@ -44,7 +44,8 @@ concat_onto : (b : ℕ) (lines : List Line) → concat (onto_first b lines) ≡ 
 concat_onto b [] = refl
 concat_onto b (x ∷ xs) = refl
 
-whole_by : (b : ℕ) (bs : List ℕ) (t : Bool) → concat (text_lines bs) ≡ bs → concat (cond t ((b ∷ []) ∷ text_lines bs) (onto_first b (text_lines bs))) ≡ b ∷ bs
+whole_by : (b : ℕ) (bs : List ℕ) (t : Bool) → concat (text_lines bs) ≡ bs
+    → concat (cond t ((b ∷ []) ∷ text_lines bs) (onto_first b (text_lines bs))) ≡ b ∷ bs
 whole_by b bs true h = ap (λ x. b ∷ x) h
 whole_by b bs false h = concat_onto b (text_lines bs) ∙ ap (λ x. b ∷ x) h
 

@@ -1,5 +1,6 @@
 -- The hunks of a diff give the new text.
-use Rattle.std.proofs.Common.{◌≡◌, ◌⊎◌, inl, inr, ℕ, zero, suc, ◌+◌, ◌-◌, ◌<◌, ◌≤◌, List, [], ◌∷◌, ◌++◌, Bool, true, false, refl, ap, sym, ◌∙◌, subst, length, get_or, take, drop, map, arith, add-zero}
+use Rattle.std.proofs.Common.{◌≡◌, ◌⊎◌, inl, inr, ℕ, zero, suc, ◌+◌, ◌-◌, ◌<◌, ◌≤◌, List, [], ◌∷◌, ◌++◌, Bool, true, false, refl, ap, sym, ◌∙◌, subst}
+use Rattle.std.proofs.Common.{length, get_or, take, drop, map, arith, add-zero}
 use Rattle.std.specs.Prelude.{slice_range, ◌||◌}
 use Rattle.std.specs.List.{list_any}
 use Rattle.std.proofs.lemmas.List.{length-take, length-drop, get_or-take, get_or-drop}
@@ -12,7 +13,8 @@ use Rattle.source_diff.specs.Hunks.{Hunk, hunk_of, old_lines, new_lines}
 use Rattle.source_diff.specs.Patched.{Patched, kept, hunk}
 use Rattle.source_diff.specs.Laws.{GivesTheNewText}
 use Rattle.source_diff.proofs.Cuts.{lines_are_whole, lines_are_some}
-use Rattle.source_diff.proofs.Sides.{if_some, olds, news, old_lines-marked, new_lines-marked, same_lines, olds-pairs_of, news-pairs_of, HasLine, OldFirst, old_first}
+use Rattle.source_diff.proofs.Sides.{if_some, olds, news, old_lines-marked, new_lines-marked, same_lines, olds-pairs_of, news-pairs_of, HasLine}
+use Rattle.source_diff.proofs.Sides.{OldFirst, old_first}
 
 -- ---- a line that is not shown did not change
 
@@ -84,7 +86,8 @@ stays (p ∷ ps) h u =
 -- if a later pair has an old line, each has one
 full : (ps qs : List Pair) → OldFirst (ps ++ qs) → (olds qs ≡ [] → ⊥) → length (olds ps) ≡ length ps
 full [] qs o some = refl
-full (p ∷ ps) qs o some = full_by p.old (full ps qs o.2 some) (λ e. some (none (olds ps) (olds qs) (sym (flat_map-append (λ p. if_some p.old) ps qs) ∙ o.1 e)))
+full (p ∷ ps) qs o some =
+    full_by p.old (full ps qs o.2 some) (λ e. some (none (olds ps) (olds qs) (sym (flat_map-append (λ p. if_some p.old) ps qs) ∙ o.1 e)))
   where
     none : (xs ys : List Line) → xs ++ ys ≡ [] → ys ≡ []
     none [] ys e = e
@@ -185,7 +188,8 @@ given_run ps at run runs o next later rest =
     let N : ℕ → Type 0 = λ n. Patched n (map (hunk_of ps) runs) (olds tail) (news tail) in
     let counted : suc run.from + length (olds mid) ≡ one.start + length (old_lines one.lines)
     = ap (λ xs. suc run.from + length xs) (sym (old_lines-marked mid)) in
-    let made : Patched (suc at) (one ∷ map (hunk_of ps) runs) (olds front ++ (old_lines one.lines ++ olds tail)) (olds front ++ (new_lines one.lines ++ news tail))
+    let made : Patched (suc at) (one ∷ map (hunk_of ps) runs) (olds front ++ (old_lines one.lines ++ olds tail))
+    (olds front ++ (new_lines one.lines ++ news tail))
     = hunk (olds front) one start (subst N counted (behind_run ps run runs o some within next.ends later rest)) in
     let P : List Line → Type 0 = λ xs. Patched (suc at) (one ∷ map (hunk_of ps) runs) xs (olds front ++ (new_lines one.lines ++ news tail)) in
     let Q : List Line → Type 0 = λ xs. Patched (suc at) (one ∷ map (hunk_of ps) runs) (olds (drop at ps)) xs in

@@ -104,13 +104,15 @@ news_by w p ps true is h =
     flat_map-append new_of (line_as Removed p.old) (marked (w ++ line_as Added p.new) ps)
     ∙ ap (λ xs. xs ++ new_lines (marked (w ++ line_as Added p.new) ps)) (new_of_as Removed p.old ∙ new_gone p.old)
     ∙ h (w ++ line_as Added p.new)
-    ∙ ap (λ xs. xs ++ news ps) (flat_map-append new_of w (line_as Added p.new) ∙ ap (λ xs. new_lines w ++ xs) (new_of_as Added p.new ∙ new_added p.new))
+    ∙ ap (λ xs. xs ++ news ps)
+    (flat_map-append new_of w (line_as Added p.new) ∙ ap (λ xs. new_lines w ++ xs) (new_of_as Added p.new ∙ new_added p.new))
     ∙ append_assoc (new_lines w) (if_some p.new) (news ps)
 news_by w p ps false is h =
     flat_map-append new_of w (line_as Kept p.old ++ marked [] ps)
     ∙ ap (λ xs. new_lines w ++ xs)
     (flat_map-append new_of (line_as Kept p.old) (marked [] ps)
-    ∙ ap (λ xs. xs ++ new_lines (marked [] ps)) (new_of_as Kept p.old ∙ new_kept p.old ∙ ap if_some (same_lines p is)) ∙ ap (λ xs. if_some p.new ++ xs) (h []))
+    ∙ ap (λ xs. xs ++ new_lines (marked [] ps)) (new_of_as Kept p.old ∙ new_kept p.old ∙ ap if_some (same_lines p is))
+    ∙ ap (λ xs. if_some p.new ++ xs) (h []))
 
 marked_news : (waiting : List HunkLine) (ps : List Pair) → new_lines (marked waiting ps) ≡ new_lines waiting ++ news ps
 marked_news w [] = sym (append-nil (new_lines w))

@@ -1,8 +1,10 @@
 -- The texts of lines.
-use Rattle.std.proofs.Common.{◌≡◌, ℕ, suc, ◌+◌, ◌-◌, ◌<◌, ◌≤◌, List, [], ◌∷◌, ◌++◌, true, false, cond, min, refl, ap, sym, ◌∙◌, subst, length, take, drop, map, get_or, arith, append_assoc, ne_eqb}
+use Rattle.std.proofs.Common.{◌≡◌, ℕ, suc, ◌+◌, ◌-◌, ◌<◌, ◌≤◌, List, [], ◌∷◌, ◌++◌, true, false, cond, min, refl, ap, sym, ◌∙◌, subst, length, take}
+use Rattle.std.proofs.Common.{drop, map, get_or, arith, append_assoc, ne_eqb}
 use Rattle.std.specs.Prelude.{codes, slice_range, count_by, not, ◌==◌, ◌||◌}
 use Rattle.std.specs.List.{flat_map, list_any}
-use Rattle.std.proofs.lemmas.List.{append-nil, take_min, length-drop, length-map, drop-map, take-map, drop_more, get_or-map, map_more, take_more, drop_all, take_rest, get_or-drop, get_or_default}
+use Rattle.std.proofs.lemmas.List.{append-nil, take_min, length-drop, length-map, drop-map, take-map, drop_more, get_or-map, map_more, take_more}
+use Rattle.std.proofs.lemmas.List.{drop_all, take_rest, get_or-drop, get_or_default}
 use Rattle.std.proofs.lemmas.List.Recursion.{is_count_by}
 use Rattle.std.proofs.lemmas.List.Concat.{flat_map-append}
 use Rattle.source_diff.specs.declared.pairs.LinePair.{LinePair}
@@ -11,7 +13,8 @@ use Rattle.source_diff.specs.declared.hunks.Mark.TheVariants.{Kept, Removed, Add
 use Rattle.source_diff.specs.Pairs.{Line, Pair, view_pair, is_changed}
 use Rattle.source_diff.specs.declared.runs.Run.{Run}
 use Rattle.source_diff.specs.Runs.{is_shown, NoneFrom, IsNextRun, AreRuns}
-use Rattle.source_diff.specs.Hunks.{HunkLine, Hunk, AreHunks, added, line_as, marked, mark_byte, ends_with_feed, ended_line, lines_text, old_lines, new_lines}
+use Rattle.source_diff.specs.Hunks.{HunkLine, Hunk, AreHunks, added, line_as, marked, mark_byte, ends_with_feed, ended_line, lines_text, old_lines}
+use Rattle.source_diff.specs.Hunks.{new_lines}
 use Rattle.source_diff.specs.Hunks.{head_text, hunk_text, hunk_of, diff_names, diff_text}
 use Rattle.source_diff.proofs.Sides.{if_some, olds, news, old_lines-marked, new_lines-marked}
 
@@ -59,7 +62,8 @@ line_noted old mark x some fed =
     ∙ ap (λ y. old ++ y) (sym (line_text mark x some))
 
 -- the steps of a line that has no LF
-pub noted_steps : (old first second last : List ℕ) (mark : Mark) (x : Line) → 0 < length x → ends_with_feed x ≡ false → first ≡ old ++ mark_byte mark ∷ []
+pub noted_steps : (old first second last : List ℕ) (mark : Mark) (x : Line) → 0 < length x → ends_with_feed x ≡ false
+    → first ≡ old ++ mark_byte mark ∷ []
     → second ≡ first ++ x → last ≡ second ++ codes "\n\\ No newline at end of file\n" → last ≡ old ++ lines_text (line_as mark x)
 noted_steps old first second last mark x some fed f s l =
     l ∙ ap (λ xs. xs ++ codes "\n\\ No newline at end of file\n") (s ∙ ap (λ xs. xs ++ x) f) ∙ line_noted old mark x some fed
@@ -87,7 +91,8 @@ added_next text new old pairs i pair lt is so more =
     ∙ ap (λ xs. xs ++ lines_text (line_as Added pair.new.now)) so
     ∙ append_assoc old (lines_text (added front)) (lines_text (line_as Added pair.new.now))
     ∙ ap (λ xs. old ++ xs)
-    (sym (lines_text-append (added front) (line_as Added pair.new.now)) ∙ ap lines_text (sym (added_more front (view_pair pair)) ∙ ap added (sym next)))
+    (sym (lines_text-append (added front) (line_as Added pair.new.now))
+    ∙ ap lines_text (sym (added_more front (view_pair pair)) ∙ ap added (sym next)))
 
 -- ---- the lines of a hunk
 
@@ -117,7 +122,8 @@ waits_more pairs from i pair le lt is =
 
 marked_changed : (w : List HunkLine) (p : Pair) (ps : List Pair) → is_changed p ≡ true
     → marked w (p ∷ ps) ≡ line_as Removed p.old ++ marked (w ++ line_as Added p.new) ps
-marked_changed w p ps e = ap (λ t. cond t (line_as Removed p.old ++ marked (w ++ line_as Added p.new) ps) (w ++ (line_as Kept p.old ++ marked [] ps))) e
+marked_changed w p ps e =
+    ap (λ t. cond t (line_as Removed p.old ++ marked (w ++ line_as Added p.new) ps) (w ++ (line_as Kept p.old ++ marked [] ps))) e
 
 marked_kept : (w : List HunkLine) (p : Pair) (ps : List Pair) → is_changed p ≡ false → marked w (p ∷ ps) ≡ w ++ (line_as Kept p.old ++ marked [] ps)
 marked_kept w p ps e = ap (λ t. cond t (line_as Removed p.old ++ marked (w ++ line_as Added p.new) ps) (w ++ (line_as Kept p.old ++ marked [] ps))) e
@@ -126,7 +132,8 @@ marked_kept w p ps e = ap (λ t. cond t (line_as Removed p.old ++ marked (w ++ l
 abbrev pub left_text : List LinePair → ℕ → ℕ → List ℕ
 left_text pairs from i = lines_text (marked (added (slice_range (map view_pair pairs) from i)) (drop i (map view_pair pairs)))
 
-pub left_changed : (pairs : List LinePair) (from i : ℕ) (d : LinePair) → from ≤ i → i < length pairs → is_changed (view_pair (get_or pairs i d)) ≡ true
+pub left_changed : (pairs : List LinePair) (from i : ℕ) (d : LinePair) → from ≤ i → i < length pairs
+    → is_changed (view_pair (get_or pairs i d)) ≡ true
     → left_text pairs from i ≡ lines_text (line_as Removed (get_or pairs i d).old.now) ++ left_text pairs from (i + 1)
 left_changed pairs from i d le lt e =
     let pair : LinePair = get_or pairs i d in
@@ -225,7 +232,8 @@ pub completes_start : (ps : List Pair) (name text : List ℕ) → text ≡ diff_
 completes_start ps name text is later h =
     (map (hunk_of ps) later, (later, h, refl), ap (λ xs. xs ++ flat_map hunk_text (map (hunk_of ps) later)) is)
 
-pub completes_on : (ps : List Pair) (name text new : List ℕ) (at : ℕ) (run : Run) → IsNextRun (is_shown ps) (length ps) at run → Completes ps name at text
+pub completes_on : (ps : List Pair) (name text new : List ℕ) (at : ℕ) (run : Run) → IsNextRun (is_shown ps) (length ps) at run
+    → Completes ps name at text
     → new ≡ text ++ hunk_text (hunk_of ps run) → Completes ps name run.to new
 completes_on ps name text new at run next whole is later h =
     let k = whole (run ∷ later) (next, h) in (
@@ -255,7 +263,8 @@ none_view pairs items at same h =
     subst Q (sym (length-map items view_pair)) (subst P same h)
 
 pub hunk_view : (pairs items : List LinePair) (run : Run) → pairs ≡ items
-    → hunk_text (record { start = suc run.from; lines = marked [] (map view_pair (slice_range pairs run.from run.to)) }) ≡ hunk_text (hunk_of (map view_pair items) run)
+    → hunk_text (record { start = suc run.from; lines = marked [] (map view_pair (slice_range pairs run.from run.to)) }) ≡ hunk_text
+    (hunk_of (map view_pair items) run)
 hunk_view pairs items run same =
     ap (λ (qs : List Pair). hunk_text (record { start = suc run.from; lines = marked [] qs }))
     (ap (λ (xs : List LinePair). map view_pair (slice_range xs run.from run.to)) same ∙ slice_view items run.from run.to)

@@ -23,9 +23,9 @@ pub enum Mark {
 /// What follows a line that has no LF.
 const NO_NEWLINE: &[u8] = b"\n\\ No newline at end of file\n";
 
-/// The unified diff of two versions of a text, with three lines of context, as `git apply` and `patch -p1` take it. `name`
-/// is the name of the file. The lines are paired by their numbers, so the diff is short if a change keeps them. `Memory` is
-/// the only error.
+/// The unified diff of two versions of a text, with three lines of context, as `git apply` and `patch -p1` take it.
+/// `name` is the name of the file. The lines are paired by their numbers, so the diff is short if a change keeps them.
+/// `Memory` is the only error.
 pub fn diff(alloc: Global, name: &[u8], old: &[u8], new: &[u8]) -> Result<Vec<u8>, Memory>
     ensures { IfOk result (λ text. IsDiff name.now old.now new.now text.items) }
 {

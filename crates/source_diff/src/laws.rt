@@ -2,8 +2,8 @@
 
 ghost use Rattle.source_diff.specs.Laws.{GivesTheNewText, IsTheOnlyDiff};
 
-/// Law: the hunks of a diff apply to the lines of the old text, and make those of the new text. The lines of a text, one
-/// behind the other, are the text.
+/// Law: the hunks of a diff apply to the lines of the old text, and make those of the new text. The lines of a text,
+/// one behind the other, are the text.
 pub fn hunks_give_the_new_text()
     ensures { GivesTheNewText }
 {}

@@ -76,7 +76,8 @@ kept_bytes at next (b ∷ bs) more ss sum h =
     ∙ ap (λ t. cond t [] (b ∷ []) ++ rest) (covered_none at next ss h (omega arith))
     ∙ ap (λ l. b ∷ l) (kept_bytes (suc at) next bs more ss (omega arith) h)
 
-gone_bytes : (at next : ℕ) (gone more : List ℕ) (s : Edit) (ss : List Edit) → at + length gone ≡ next → s.start < at → next ≤ s.end → StartFrom next ss
+gone_bytes : (at next : ℕ) (gone more : List ℕ) (s : Edit) (ss : List Edit) → at + length gone ≡ next → s.start < at → next ≤ s.end
+    → StartFrom next ss
     → edited_from at (gone ++ more) (s ∷ ss) ≡ edited_from next more (s ∷ ss)
 gone_bytes at next [] more s ss sum begun within h = ap (λ n. edited_from n more (s ∷ ss)) (omega arith)
 gone_bytes at next (b ∷ bs) more s ss sum begun within h =
@@ -122,7 +123,8 @@ unchanged at [] = refl
 unchanged at (b ∷ bs) = ap (λ l. b ∷ l) (unchanged (suc at) bs)
 
 -- edited from a byte on is the pieces from it
-edited_is_pieces : (from : ℕ) (src : List ℕ) (ss : List Edit) → AreInOrder from (length src) ss → edited_from from (drop from src) ss ≡ pieces from src ss
+edited_is_pieces : (from : ℕ) (src : List ℕ) (ss : List Edit) → AreInOrder from (length src) ss
+    → edited_from from (drop from src) ss ≡ pieces from src ss
 edited_is_pieces from src [] h = unchanged from (drop from src)
 edited_is_pieces from src (s ∷ ss) h =
     let start : from ≤ s.start = h.0 in

@@ -5,7 +5,8 @@ use Rattle.std.specs.Prelude.{slice_range}
 use Rattle.std.specs.List.{list_all}
 use Rattle.std.specs.Str.{IsUtf8, IsCharBoundary}
 use Rattle.std.proofs.lemmas.Bool.Decides.{nat_tests}
-use Rattle.std.proofs.lemmas.List.{length-append, length-take, length-take-le, length-drop, take-append-drop, get_or-drop, get_or-take, get_or-append-add}
+use Rattle.std.proofs.lemmas.List.{length-append, length-take, length-take-le, length-drop, take-append-drop, get_or-drop, get_or-take}
+use Rattle.std.proofs.lemmas.List.{get_or-append-add}
 use Rattle.std.proofs.lemmas.List.Folds.{list_all_at}
 use Rattle.std.proofs.lemmas.Str.{IsUtf8-take, IsCharBoundary-after_ascii}
 use Rattle.rotor_base.specs.Name.{is_identifier_byte}
@@ -49,13 +50,15 @@ plain_byte source span i within word low high =
     let long : length bytes ≡ span.end - span.start
     = omega (arith, length-take (span.end - span.start) (drop span.start source), length-drop span.start source) in
     let same : get_or bytes k 0 ≡ get_or source i 0
-    = get_or-take (span.end - span.start) (drop span.start source) k 0 (omega arith) ∙ get_or-drop span.start source k 0 ∙ ap (λ n. get_or source n 0) (omega arith) in
+    = get_or-take (span.end - span.start) (drop span.start source) k 0 (omega arith) ∙ get_or-drop span.start source k 0
+    ∙ ap (λ n. get_or source n 0) (omega arith) in
     subst IsPlain same (plain (get_or bytes k 0) (passes_at is_identifier_byte bytes k (omega arith) word))
 
 -- a text is not cut between CR and LF before a plain byte, or behind one
 whole_before : (source : List ℕ) (n : ℕ) → IsPlain (get_or source n 0) → IsCut (take n source) (drop n source) → ⊥
 whole_before source n plain cut =
-    let feed : get_or source n 0 ≡ 10 = ap (λ k. get_or source k 0) (sym (add-zero n)) ∙ sym (get_or-drop n source 0 0) ∙ ap (λ l. get_or l 0 0) cut.begins in
+    let feed : get_or source n 0 ≡ 10 = ap (λ k. get_or source k 0) (sym (add-zero n)) ∙ sym (get_or-drop n source 0 0)
+    ∙ ap (λ l. get_or l 0 0) cut.begins in
     plain.no_feed feed
 
 whole_behind : (source : List ℕ) (n : ℕ) → n ≤ length source → IsPlain (get_or source (n - 1) 0) → IsCut (take n source) (drop n source) → ⊥
@@ -77,7 +80,8 @@ begins_at c source n within text boundary whole =
     let R : ℕ → Type 0 = λ k. Begins c source k in
     subst R (length-take-le n source within) (subst Q (take-append-drop n source) there)
 
-pub word_begins : (c : Counting) (source : List ℕ) (span : Span) → IsUtf8 source → span.start < span.end → span.end ≤ length source → IsWord source span
+pub word_begins : (c : Counting) (source : List ℕ) (span : Span) → IsUtf8 source → span.start < span.end → span.end ≤ length source
+    → IsWord source span
     → Begins c source span.start
 word_begins c source span text some within word =
     let here = plain_byte source span span.start within word (omega arith) some in

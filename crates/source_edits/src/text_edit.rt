@@ -19,9 +19,9 @@ pub struct TextEdit {
     pub text: Name,
 }
 
-/// The edits that put a new word in the place of some words of a source in UTF-8. The spans of the words are in order, and
-/// do not overlap. If an editor applies the edits as the Language Server Protocol says, it has the source with each span
-/// replaced. `Memory` is the only error.
+/// The edits that put a new word in the place of some words of a source in UTF-8. The spans of the words are in order,
+/// and do not overlap. If an editor applies the edits as the Language Server Protocol says, it has the source with each
+/// span replaced. `Memory` is the only error.
 pub fn text_edits(
     alloc: Global,
     counting: Counting,

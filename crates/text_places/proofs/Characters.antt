@@ -1,5 +1,6 @@
 -- The characters of a text are what begins in it.
-use Rattle.std.proofs.Common.{◌≡◌, ◌≢◌, ℕ, zero, suc, ◌+◌, ◌<◌, ◌≤◌, List, [], ◌∷◌, ◌++◌, length, map, take, drop, refl, ap, sym, ◌∙◌, subst, arith, append_assoc}
+use Rattle.std.proofs.Common.{◌≡◌, ◌≢◌, ℕ, zero, suc, ◌+◌, ◌<◌, ◌≤◌, List, [], ◌∷◌, ◌++◌, length, map, take, drop, refl, ap, sym, ◌∙◌, subst, arith}
+use Rattle.std.proofs.Common.{append_assoc}
 use Rattle.std.proofs.Common.{Bool, true, false, cond, ◌==◌, ◌&&◌, add-zero, zero-add}
 use Rattle.std.specs.Prelude.{Contains}
 use Rattle.std.proofs.lemmas.Bool.Decides.{nat_tests}
@@ -7,7 +8,8 @@ use Rattle.std.specs.Str.{IsUtf8, is_utf8}
 use Rattle.std.specs.Char.{len_utf8}
 use Rattle.std.proofs.Math.Utf8.{scalar, scalars, encode, encodes}
 use Rattle.std.proofs.lemmas.List.{append-nil, length-append, length-take-le, take-append-drop, take_at, drop_at}
-use Rattle.std.proofs.lemmas.Str.{encode_same, length-encode, len_utf8_bounds, encode_ascii, len_utf8_ascii, char_from_byte, is_utf8-from_IsUtf8, IsUtf8-from_is_utf8}
+use Rattle.std.proofs.lemmas.Str.{encode_same, length-encode, len_utf8_bounds, encode_ascii, len_utf8_ascii, char_from_byte, is_utf8-from_IsUtf8}
+use Rattle.std.proofs.lemmas.Str.{IsUtf8-from_is_utf8}
 use Rattle.text_places.specs.declared.counting.Counting.{Counting}
 use Rattle.text_places.specs.declared.counting.Counting.TheVariants.{People, Utf16, Utf8}
 use Rattle.text_places.specs.declared.counting.Position.{Position}
@@ -49,19 +51,23 @@ whole_true x rest good =
     let text : IsUtf8 (encode x) = (x ∷ [], (one, append-nil (encode x))) in
     ap is_utf8 (take_at (encode x) rest (len_utf8 x) (length-encode x)) ∙ is_utf8-from_IsUtf8 (encode x) text
 
-least_of : (bs : List ℕ) (n : ℕ) → 0 < n → n ≤ 4 → ((k : ℕ) → 0 < k → k < n → is_utf8 (take k bs) ≡ false) → is_utf8 (take n bs) ≡ true → char_len bs ≡ n
+least_of : (bs : List ℕ) (n : ℕ) → 0 < n → n ≤ 4 → ((k : ℕ) → 0 < k → k < n → is_utf8 (take k bs) ≡ false) → is_utf8 (take n bs) ≡ true
+    → char_len bs ≡ n
 least_of bs zero some few none text = absurd (omega arith)
 least_of bs (suc zero) some few none text =
     ap (λ t. cond t 1 (cond (is_utf8 (take 2 bs)) 2 (cond (is_utf8 (take 3 bs)) 3 (cond (is_utf8 (take 4 bs)) 4 1)))) text
 least_of bs (suc (suc zero)) some few none text =
-    ap (λ t. cond t 1 (cond (is_utf8 (take 2 bs)) 2 (cond (is_utf8 (take 3 bs)) 3 (cond (is_utf8 (take 4 bs)) 4 1)))) (none 1 (omega arith) (omega arith))
+    ap (λ t. cond t 1 (cond (is_utf8 (take 2 bs)) 2 (cond (is_utf8 (take 3 bs)) 3 (cond (is_utf8 (take 4 bs)) 4 1))))
+    (none 1 (omega arith) (omega arith))
     ∙ ap (λ t. cond t 2 (cond (is_utf8 (take 3 bs)) 3 (cond (is_utf8 (take 4 bs)) 4 1))) text
 least_of bs (suc (suc (suc zero))) some few none text =
-    ap (λ t. cond t 1 (cond (is_utf8 (take 2 bs)) 2 (cond (is_utf8 (take 3 bs)) 3 (cond (is_utf8 (take 4 bs)) 4 1)))) (none 1 (omega arith) (omega arith))
+    ap (λ t. cond t 1 (cond (is_utf8 (take 2 bs)) 2 (cond (is_utf8 (take 3 bs)) 3 (cond (is_utf8 (take 4 bs)) 4 1))))
+    (none 1 (omega arith) (omega arith))
     ∙ ap (λ t. cond t 2 (cond (is_utf8 (take 3 bs)) 3 (cond (is_utf8 (take 4 bs)) 4 1))) (none 2 (omega arith) (omega arith))
     ∙ ap (λ t. cond t 3 (cond (is_utf8 (take 4 bs)) 4 1)) text
 least_of bs (suc (suc (suc (suc zero)))) some few none text =
-    ap (λ t. cond t 1 (cond (is_utf8 (take 2 bs)) 2 (cond (is_utf8 (take 3 bs)) 3 (cond (is_utf8 (take 4 bs)) 4 1)))) (none 1 (omega arith) (omega arith))
+    ap (λ t. cond t 1 (cond (is_utf8 (take 2 bs)) 2 (cond (is_utf8 (take 3 bs)) 3 (cond (is_utf8 (take 4 bs)) 4 1))))
+    (none 1 (omega arith) (omega arith))
     ∙ ap (λ t. cond t 2 (cond (is_utf8 (take 3 bs)) 3 (cond (is_utf8 (take 4 bs)) 4 1))) (none 2 (omega arith) (omega arith))
     ∙ ap (λ t. cond t 3 (cond (is_utf8 (take 4 bs)) 4 1)) (none 3 (omega arith) (omega arith)) ∙ ap (λ t. cond t 4 1) text
 least_of bs (suc (suc (suc (suc (suc n))))) some few none text = absurd (omega arith)
@@ -216,7 +222,8 @@ return_feed c rest n at here x (d ∷ ds) p ih is few good whole fed =
     let same : a ++ encodes ds ≡ encodes (x ∷ (d ∷ ds)) = append_assoc (encode x) (encode d) (encodes ds) in
     let N : List ℕ → Type 0 = λ l. IsCut l rest → ⊥ in
     subst Q same
-    (finish c rest n at here a ds (at + 2) ih (subst P (sym bytes) (lead_return_feed c at here r p)) (let two : 2 ≡ length a = sym (ap length bytes) in omega (arith, two))
+    (finish c rest n at here a ds (at + 2) ih (subst P (sym bytes) (lead_return_feed c at here r p))
+    (let two : 2 ≡ length a = sym (ap length bytes) in omega (arith, two))
     (omega arith) (both (scalar d) (scalars ds) goods.right).right (subst N (sym same) whole))
 
 step : (c : Counting) (rest : List ℕ) (n at : ℕ) (here : Position) (x : ℕ) (xs : List ℕ) → IsProtocol c → Finds c rest n
@@ -240,7 +247,8 @@ step c rest n at here x xs p ih few good whole = by_feed (x == 10) refl
     by_return : (t : Bool) → (x == 13) ≡ t → x ≢ 10 → Contains (Offs c at here (encodes (x ∷ xs) ++ rest)) (at + length (encodes (x ∷ xs)))
     by_return true e nf = by_next (begins_with_feed (encodes xs ++ rest)) refl (grind (arith, nat_tests, e))
     by_return false e nf =
-        ends (lead_char c at here x (encodes xs ++ rest) p (both (scalar x) (scalars xs) good).left nf (λ same. let k : x ≡ 13 = same in grind (arith, nat_tests, e, k)))
+        ends (lead_char c at here x (encodes xs ++ rest) p (both (scalar x) (scalars xs) good).left nf
+        (λ same. let k : x ≡ 13 = same in grind (arith, nat_tests, e, k)))
 
     by_feed : (t : Bool) → (x == 10) ≡ t → Contains (Offs c at here (encodes (x ∷ xs) ++ rest)) (at + length (encodes (x ∷ xs)))
     by_feed true e =
@@ -258,7 +266,8 @@ finds c rest p n at here [] few good whole = begin_empty c at here rest
 finds c rest p zero at here (x ∷ xs) few good whole = absurd (omega arith)
 finds c rest p (suc n) at here (x ∷ xs) few good whole = step c rest n at here x xs p (finds c rest p n) few good whole
 
-protocol_begins : (c : Counting) (front rest : List ℕ) → IsProtocol c → IsUtf8 front → (IsCut front rest → ⊥) → Begins c (front ++ rest) (length front)
+protocol_begins : (c : Counting) (front rest : List ℕ) → IsProtocol c → IsUtf8 front → (IsCut front rest → ⊥)
+    → Begins c (front ++ rest) (length front)
 protocol_begins c front rest p (cs, (good, is)) whole =
     let N : List ℕ → Type 0 = λ l. IsCut l rest → ⊥ in
     let P : List ℕ → Type 0 = λ l. Begins c (l ++ rest) (length l) in

@@ -1,5 +1,6 @@
 -- Positions as people count, by the LFs before a byte.
-use Rattle.std.proofs.Common.{◌≡◌, ℕ, zero, suc, ◌+◌, ◌-◌, ◌<◌, ◌≤◌, ◌==◌, Bool, true, false, List, [], ◌∷◌, ◌++◌, cond, get_or, length, take, take_all, add-zero, zero-add, refl, ap, sym, ◌∙◌, arith}
+use Rattle.std.proofs.Common.{◌≡◌, ℕ, zero, suc, ◌+◌, ◌-◌, ◌<◌, ◌≤◌, ◌==◌, Bool, true, false, List, [], ◌∷◌, ◌++◌, cond, get_or, length, take}
+use Rattle.std.proofs.Common.{take_all, add-zero, zero-add, refl, ap, sym, ◌∙◌, arith}
 use Rattle.std.proofs.lemmas.List.{take_more}
 use Rattle.text_places.specs.declared.counting.Counting.TheVariants.{People}
 use Rattle.text_places.specs.declared.counting.Position.{Position}
@@ -23,7 +24,11 @@ counted_more : (here : Position) (b : ℕ) (rest bs : List ℕ) → Counted (Nex
 counted_more here b rest bs = go (b == 10)
   where
     go : (t : Bool) → Counted (behind People here (cond t (line_end 1) (character People 1))) bs
-        ≡ record { line = here.line + cond t (1 + feeds_in bs) (feeds_in bs); column = cond t (column_behind 1 bs) (column_behind (here.column + 1) bs) }
+        ≡ record {
+          line = here.line + cond t (1 + feeds_in bs) (feeds_in bs);
+          column =
+              cond t (column_behind 1 bs) (column_behind (here.column + 1) bs);
+        }
     go true = ap (λ n. record { line = n; column = column_behind 1 bs }) (omega arith)
     go false = refl
 

@@ -112,10 +112,11 @@ protocol_has c b bs =
     elim (b == 10) as (λ t. HasColumns (cond t (line_end 1) (cond (b == 13) (cond (begins_with_feed bs) (line_end 2) (line_end 1))
     (character c (char_len (b ∷ bs)))))) [
       | true ↦ end_has 1
-      | false ↦ elim (b == 13) as (λ t. HasColumns (cond t (cond (begins_with_feed bs) (line_end 2) (line_end 1)) (character c (char_len (b ∷ bs))))) [
-        | true ↦ elim (begins_with_feed bs) as (λ t. HasColumns (cond t (line_end 2) (line_end 1))) [ true ↦ end_has 2 | false ↦ end_has 1 ]
-        | false ↦ char_has c (char_len (b ∷ bs)) (char_some (b ∷ bs))
-      ]
+      | false ↦
+          elim (b == 13) as (λ t. HasColumns (cond t (cond (begins_with_feed bs) (line_end 2) (line_end 1)) (character c (char_len (b ∷ bs))))) [
+            | true ↦ elim (begins_with_feed bs) as (λ t. HasColumns (cond t (line_end 2) (line_end 1))) [ true ↦ end_has 2 | false ↦ end_has 1 ]
+            | false ↦ char_has c (char_len (b ∷ bs)) (char_some (b ∷ bs))
+          ]
     ]
 
 front_has : (c : Counting) (b : ℕ) (bs : List ℕ) → HasColumns (front_of c (b ∷ bs))
@@ -135,7 +136,8 @@ goes_behind c at here front has = goes c at here front front.ends_line refl has
     goes c at here front true e has = rw e (inl (omega arith))
     goes c at here front false e has = let some : 0 < front.columns = has e in rw e (inr (refl, omega arith, refl))
 
-rises_from : (c : Counting) (k at : ℕ) (here : Position) (bs : List ℕ) (m : Mark) → m.offset < at → IsBehind m here → Rises m (marks_from c k at here bs)
+rises_from : (c : Counting) (k at : ℕ) (here : Position) (bs : List ℕ) (m : Mark) → m.offset < at → IsBehind m here
+    → Rises m (marks_from c k at here bs)
 rises_from c k at here [] m lt h = (lt, h, tt)
 rises_from c (suc k) at here (b ∷ bs) m lt h = rises_from c k (suc at) here bs m (omega arith) h
 rises_from c zero at here (b ∷ bs) m lt h = (

@@ -27,7 +27,8 @@ marks_skip c (suc k) at here (b ∷ bs) le =
 abbrev pub mark_of : ℕ → Position → Front → Mark
 mark_of at here front = record { offset = at; position = here; ends_line = front.ends_line }
 
-pub marks_next : (c : Counting) (at : ℕ) (here : Position) (bs : List ℕ) (front : Front) → front ≡ front_of c bs → 0 < front.len → front.len ≤ length bs
+pub marks_next : (c : Counting) (at : ℕ) (here : Position) (bs : List ℕ) (front : Front) → front ≡ front_of c bs → 0 < front.len
+    → front.len ≤ length bs
     → marks_from c 0 at here bs ≡ mark_of at here front ∷ marks_from c 0 (at + front.len) (behind c here front) (drop front.len bs)
 marks_next c at here [] front is some within = absurd (omega arith)
 marks_next c at here (b ∷ bs) front is some within =
@@ -126,7 +127,8 @@ origin_low People = omega arith
 origin_low Utf16 = omega arith
 origin_low Utf8 = omega arith
 
-low_behind : (c : Counting) (stop : Stop) (front : Front) (t : Bool) → front.ends_line ≡ t → stop.here.line ≤ stop.at + 1 → stop.here.column ≤ stop.at + 1
+low_behind : (c : Counting) (stop : Stop) (front : Front) (t : Bool) → front.ends_line ≡ t → stop.here.line ≤ stop.at + 1
+    → stop.here.column ≤ stop.at + 1
     → 0 < front.len → front.columns ≤ front.len
     → ((behind c stop.here front).line ≤ stop.at + front.len + 1) × ((behind c stop.here front).column ≤ stop.at + front.len + 1)
 low_behind c stop front true e line column some narrow = rw e (omega arith, omega (arith, origin_low c))

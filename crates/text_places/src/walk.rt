@@ -98,8 +98,8 @@ pub fn offset_of(counting: Counting, bytes: &[u8], position: Position) -> Option
     None
 }
 
-/// The line and the column of a byte. Inside a character or CR LF they are those of its first byte, and an offset behind
-/// the end has those of the end. It takes no memory. As people count, it only counts the LFs before the byte.
+/// The line and the column of a byte. Inside a character or CR LF they are those of its first byte, and an offset
+/// behind the end has those of the end. It takes no memory. As people count, it only counts the LFs before the byte.
 pub fn position_of(counting: Counting, bytes: &[u8], offset: u32) -> Position
     requires { length bytes.now + 1 < 2 ^ 32 }
     ensures { result ≡ position_of counting offset bytes.now }

@@ -10,8 +10,8 @@ pub fn blanks_change_no_answer()
     ensures footprint { FootprintsAreTheSame }
 {}
 
-/// The answers of `rename` to targets that name the same token are the same, unless one is Grown. The new files differ in
-/// blanks alone again.
+/// The answers of `rename` to targets that name the same token are the same, unless one is Grown. The new files differ
+/// in blanks alone again.
 pub fn blanks_change_no_renaming()
     ensures { RenamingsAreTheSame }
 {}

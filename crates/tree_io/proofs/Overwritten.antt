@@ -1,8 +1,10 @@
 -- Bytes that are put over others, one piece after another.
-use Rattle.std.proofs.Common.{◌≡◌, ℕ, ◌+◌, ◌-◌, ◌≤◌, List, ◌++◌, take, drop, length, Option, Some, refl, sym, ap, ◌∙◌, append_assoc, append-nil, arith}
+use Rattle.std.proofs.Common.{◌≡◌, ℕ, ◌+◌, ◌-◌, ◌≤◌, List, ◌++◌, take, drop, length, Option, Some, refl, sym, ap, ◌∙◌, append_assoc, append-nil}
+use Rattle.std.proofs.Common.{arith}
 use Rattle.std.specs.List.{between}
 use Rattle.std.proofs.Math.Seq.{take-append_seam, drop-append-add, take-add, take-length}
-use Rattle.std.proofs.lemmas.List.{length-append, length-take-le, drop-append-le, drop-drop, drop_all, take-append-drop, drop_at, take_at, take_all, length-drop, take-take}
+use Rattle.std.proofs.lemmas.List.{length-append, length-take-le, drop-append-le, drop-drop, drop_all, take-append-drop, drop_at, take_at, take_all}
+use Rattle.std.proofs.lemmas.List.{length-drop, take-take}
 use Rattle.std.proofs.lemmas.Slice.{between_is}
 use Rattle.tree_io.specs.Disk.{put_at, over, PutsAt, PutsPart, Cuts, Replaces, KeepsFront}
 
@@ -38,7 +40,8 @@ put_more bytes piece from at n h0 h1 h2 is count ordered within before here old 
     let front = take from old ++ drop from (take at bytes) in
     let len = front_length bytes old from at ordered within reach in
     let split : over from at bytes old ≡ front ++ drop at old = sym (append_assoc (take from old) (drop from (take at bytes)) (drop at old)) in
-    let long : at ≤ length (over from at bytes old) = (let l = ap (λ xs. length xs) split in let m = length-append front (drop at old) in omega (arith, l, m, len)) in
+    let long : at ≤ length (over from at bytes old) =
+    (let l = ap (λ xs. length xs) split in let m = length-append front (drop at old) in omega (arith, l, m, len)) in
     here (over from at bytes old) (before old known reach) long
     ∙ ap (λ xs. Some xs)
     (ap (λ xs. put_at at piece xs) split
@@ -54,7 +57,8 @@ pub put_none : (bytes : List ℕ) (from : ℕ) (h : Option (List ℕ)) → from 
 put_none bytes from h within old known reach =
     known ∙ ap (λ xs. Some xs)
     (sym (take-append-drop from old)
-    ∙ ap (λ xs. take from old ++ (xs ++ drop from old)) (sym (drop_all from (take from bytes) (let l = length-take-le from bytes within in omega (arith, l)))))
+    ∙ ap (λ xs. take from old ++ (xs ++ drop from old))
+    (sym (drop_all from (take from bytes) (let l = length-take-le from bytes within in omega (arith, l)))))
 
 -- the bytes behind the old end, and then those before it
 pub replaced_by_more : (bytes : List ℕ) (end : ℕ) (h0 h1 h2 h3 : Option (List ℕ)) → end ≤ length bytes → PutsPart end (length bytes) bytes h0 h1
@@ -99,7 +103,8 @@ front_stays bytes from at h0 h1 h2 ordered within before here old known reach =
     let front = take from old ++ drop from (take at bytes) in
     let len = front_length bytes old from at ordered within reach in
     let split : over from at bytes old ≡ front ++ drop at old = sym (append_assoc (take from old) (drop from (take at bytes)) (drop at old)) in
-    let long : at ≤ length (over from at bytes old) = (let l = ap (λ xs. length xs) split in let m = length-append front (drop at old) in omega (arith, l, m, len)) in
+    let long : at ≤ length (over from at bytes old) =
+    (let l = ap (λ xs. length xs) split in let m = length-append front (drop at old) in omega (arith, l, m, len)) in
     let kept = here (over from at bytes old) (before old known reach) long in
     let reaches = kept.2 in (
       kept.0,
@@ -121,7 +126,8 @@ front_trans len h0 h1 h2 first second old known reach =
     (b.0, b.1, b.2, b.3 ∙ a.3)
 
 -- what is put keeps what stands before it
-pub front_put : (bytes : List ℕ) (from at : ℕ) (h0 h1 : Option (List ℕ)) → from ≤ at → at ≤ length bytes → PutsPart from at bytes h0 h1 → KeepsFront from h0 h1
+pub front_put : (bytes : List ℕ) (from at : ℕ) (h0 h1 : Option (List ℕ)) → from ≤ at → at ≤ length bytes → PutsPart from at bytes h0 h1
+    → KeepsFront from h0 h1
 front_put bytes from at h0 h1 ordered within before = front_stays bytes from at h0 h1 h1 ordered within before (front_same at h1)
 
 -- the same bytes after a call

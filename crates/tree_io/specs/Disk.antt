@@ -43,4 +43,5 @@ PutsPart from upto bytes before now = (old : List ℕ) → before ≡ Some old �
 
 -- if the bytes are known, and are no fewer, then the first so many are as they were
 abbrev pub KeepsFront : ℕ → Option (List ℕ) → Option (List ℕ) → Type 0
-KeepsFront len before now = (old : List ℕ) → before ≡ Some old → len ≤ length old → (new : List ℕ) × (now ≡ Some new) × (len ≤ length new) × (take len new ≡ take len old)
+KeepsFront len before now = (old : List ℕ) → before ≡ Some old → len ≤ length old
+    → (new : List ℕ) × (now ≡ Some new) × (len ≤ length new) × (take len new ≡ take len old)

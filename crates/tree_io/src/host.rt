@@ -13,11 +13,11 @@ use std::alloc::Global;
 use std::fs::File;
 use std::rt::Files;
 
-/// The current folder of the system. Its content is not modelled, and its `room` takes no memory. Each Err of the system
-/// is a counted fault, and so is each read or write of a name that is no regular file, and each write that could change
-/// a file under another name. A fault ends the call with `Failed`. Want of memory is not counted. A write that was
-/// answered is on the disk. Once `room` or `read` finds that a write would not be sound, each later write is a fault
-/// and asks nothing of the system. `room` finds so if a file that was read has been changed since then.
+/// The current folder of the system. Its content is not modelled, and its `room` takes no memory. Each Err of the
+/// system is a counted fault, and so is each read or write of a name that is no regular file, and each write that could
+/// change a file under another name. A fault ends the call with `Failed`. Want of memory is not counted. A write that
+/// was answered is on the disk. Once `room` or `read` finds that a write would not be sound, each later write is a
+/// fault and asks nothing of the system. `room` finds so if a file that was read has been changed since then.
 #[derive(Drop)]
 pub struct HostTree<D> {
     disk: D,

@@ -10,8 +10,8 @@ use rotor_base::{Memory, Name};
 use std::alloc::Global;
 
 /// The heads of the module paths in the trees of a unit that are not bound there, as often as they occur there, in the
-/// order of words: the body's and then the interface's (the manual's chapters on names and module expressions). `Memory`
-/// is the only error.
+/// order of words: the body's and then the interface's (the manual's chapters on names and module expressions).
+/// `Memory` is the only error.
 pub fn needs(alloc: Global, unit: &UnitTree) -> Result<Vec<Name>, Memory>
     ensures { IfOk result (λ names. names.items ≡ unit_heads (view_unit unit.now)) }
 {

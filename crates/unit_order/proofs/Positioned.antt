@@ -50,7 +50,8 @@ one_positioned t t' names i name lt is apart put h = record {
         ap (at t') (get_or-take (i + 1) names p [] within)
         ∙ elim (cases_order p i) [ inl e ↦ new p e | inr (inl below) ↦ old p below | inr (inr above) ↦ absurd (omega (arith, within, above)) ]
 
-    named : (x : List ℕ) (p : ℕ) (b : Bool) → bytes_eq name x ≡ b → at t' x ≡ Some p → (p < length (take (i + 1) names)) × (get_or (take (i + 1) names) p [] ≡ x)
+    named : (x : List ℕ) (p : ℕ) (b : Bool) → bytes_eq name x ≡ b → at t' x ≡ Some p
+        → (p < length (take (i + 1) names)) × (get_or (take (i + 1) names) p [] ≡ x)
     named x p true e there =
         let same : p ≡ i = let both : Some i ≡ Some p = sym (put x ∙ ap (λ b. if b then Some i else at t x) e) ∙ there in sym cc in (
           omega (arith, more, same),
@@ -141,5 +142,6 @@ marked_all own name (head ∷ heads) =
 
     by : (b : Bool) → bytes_eq head name ≡ b → (m : Bool) → ((b && not (bytes_eq head own)) || (m && not (bytes_eq name own)))
         ≡ ((b || m) && not (bytes_eq name own))
-    by true e m = ap (λ z. not (bytes_eq z own) || (m && not (bytes_eq name own))) ((bytes_eq-Decides head name).0 e) ∙ both m (not (bytes_eq name own))
+    by true e m = ap (λ z. not (bytes_eq z own) || (m && not (bytes_eq name own))) ((bytes_eq-Decides head name).0 e)
+        ∙ both m (not (bytes_eq name own))
     by false e m = refl

@@ -8,8 +8,8 @@ pub fn no_change_is_valid()
     ensures { NothingIsValid }
 {}
 
-/// A valid renaming, and a valid one of the renamed project, are together a valid one. Together they give a project that
-/// is resolved by the same steps.
+/// A valid renaming, and a valid one of the renamed project, are together a valid one. Together they give a project
+/// that is resolved by the same steps.
 pub fn valid_renamings_compose()
     ensures valid { ValidsCompose }
     ensures same { ValidsAreOne }

@@ -13,7 +13,8 @@ use Rattle.rotor_base.specs.declared.place.Foot.{Foot}
 use Rattle.value_sites.specs.Each.{Each}
 use Rattle.binding_model.specs.Facts.{is_before, put, in_order}
 use Rattle.rename_model.specs.Foot.{leads_in, refs_to}
-use Rattle.rename_parts.proofs.Having.{Has, has_left, has_right, has_split, has_mapped, has_unmapped, has_filtered, has_unfiltered, has_contained, contained_has}
+use Rattle.rename_parts.proofs.Having.{Has, has_left, has_right, has_split, has_mapped, has_unmapped, has_filtered, has_unfiltered, has_contained}
+use Rattle.rename_parts.proofs.Having.{contained_has}
 use Rattle.value_at.specs.declared.footprint_places.ValuePlace.{ValuePlace}
 use Rattle.value_at.specs.Places.{place_as, places_of}
 use Rattle.value_at.specs.Laws.{IsPlaceOf, PlacesAreAll, PlacesAreInOrder}

@@ -15,7 +15,8 @@ pub struct ValuePlace {
     pub is_declaration: bool,
 }
 
-/// The declarations of a footprint and the references to them, in the order of their places. `Memory` is the only error.
+/// The declarations of a footprint and the references to them, in the order of their places. `Memory` is the only
+/// error.
 pub fn places_of(alloc: Global, facts: &Facts, foot: &Foot) -> Result<Vec<ValuePlace>, Memory>
     ensures { IfOk result (λ list. list.items ≡ places_of facts.now.refs foot.now) }
 {

@@ -1,5 +1,5 @@
-//! The value at a place of a source: the token of a cursor, the declaration that it declares or uses, and all places of a
-//! footprint.
+//! The value at a place of a source: the token of a cursor, the declaration that it declares or uses, and all places of
+//! a footprint.
 #![tactic(auto)]
 
 mod cursor;

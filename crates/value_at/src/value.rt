@@ -25,8 +25,8 @@ pub enum ValueAt {
     NoValue,
 }
 
-/// What is at a place of a project, by its facts. The caller ensures that the project is sound and that the facts are its
-/// own. `Memory` is the only error.
+/// What is at a place of a project, by its facts. The caller ensures that the project is sound and that the facts are
+/// its own. `Memory` is the only error.
 pub fn value_at(
     alloc: Global,
     project: &Project,

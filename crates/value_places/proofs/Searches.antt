@@ -61,7 +61,8 @@ module _ (xs : List Site) (up : Rises xs) (token : ℕ) where
         split a b = grind arith
 
         by : (j : ℕ) → j < length xs → (get_or xs j no_site).token ≡ token → (j < at) ⊎ (at ≤ j) → ⊥
-        by j l e (inl k) = let less : (get_or xs j no_site).token < token = ranked _ token _ (sym ((parted comparisons_rise).0 j no_site (omega arith) k)) in
+        by j l e (inl k) = let less : (get_or xs j no_site).token < token =
+            ranked _ token _ (sym ((parted comparisons_rise).0 j no_site (omega arith) k)) in
             omega (arith, less, e)
         by j l e (inr k) = let more : token < (get_or xs j no_site).token = ranked _ token _ (sym ((parted comparisons_rise).1 j no_site k l)) in
             omega (arith, more, e)

@@ -16,8 +16,8 @@ use rotor_base::{Memory, Place, Row};
 use std::alloc::Global;
 use std::marker::Model;
 
-/// A project with the places of its values: each file was walked once for them. Contracts see the places, file by file in
-/// link order.
+/// A project with the places of its values: each file was walked once for them. Contracts see the places, file by file
+/// in link order.
 #[derive(Drop)]
 pub struct PlacedProject<'p> {
     /// Contracts alone read it.

@@ -7,9 +7,12 @@ use Rattle.value_sites.specs.Places.{Site, plain, punned, operated, operator_sit
 use Rattle.value_sites.proofs.SitesByForm.{names_sites, pat_sites, pats_sites}
 use Rattle.value_sites.specs.Places.{variable_sites}
 use Rattle.value_sites.proofs.SitesByForm.{pat_field_sites, pat_fields_sites, expr_sites, links_sites, maybe_sites, tail_sites, binding_sites}
-use Rattle.value_sites.proofs.SitesByForm.{bindings_sites, case_sites, cases_sites, argument_sites, arguments_sites, param_sites, params_sites, part_sites}
-use Rattle.value_sites.proofs.SitesByForm.{parts_sites, field_sites, fields_sites, mod_sites, mod_argument_sites, mod_arguments_sites, functor_param_sites}
-use Rattle.value_sites.proofs.SitesByForm.{functor_params_sites, mod_type_sites, signature_sites, item_sites, items_sites, sig_item_sites, sig_items_sites}
+use Rattle.value_sites.proofs.SitesByForm.{bindings_sites, case_sites, cases_sites, argument_sites, arguments_sites, param_sites, params_sites}
+use Rattle.value_sites.proofs.SitesByForm.{part_sites}
+use Rattle.value_sites.proofs.SitesByForm.{parts_sites, field_sites, fields_sites, mod_sites, mod_argument_sites, mod_arguments_sites}
+use Rattle.value_sites.proofs.SitesByForm.{functor_param_sites}
+use Rattle.value_sites.proofs.SitesByForm.{functor_params_sites, mod_type_sites, signature_sites, item_sites, items_sites, sig_item_sites}
+use Rattle.value_sites.proofs.SitesByForm.{sig_items_sites}
 use Rattle.ml_trees.specs.Tree.{ValueName, PlainName, OperatorName, Pat, AsPat, OrPat, TuplePat, ConsPat, ConstrApplyPat, TagApplyPat, LazyPat}
 use Rattle.ml_trees.specs.Tree.{ExceptionPat, AnyPat, ValuePat, LiteralPat, NegativePat, RangePat, ConstrPat, TagPat, BoolPat, UnitPat, ParenPat}
 use Rattle.ml_trees.specs.Tree.{TypedPat, EmptyPat, ListPat, RecordPat, OpenedPat, Pats, no_pat, more_pat, PatField, PunnedField, MatchedField}

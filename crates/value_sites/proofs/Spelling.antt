@@ -10,7 +10,8 @@ use Rattle.ml_trees.specs.Runs.{is_declaration_run, opens, closes, neither}
 use Rattle.ml_trees.specs.Tree.{ValueName, Pat, Pats, PatField, PatFields, Expr, Links, MaybeExpr, Tail}
 use Rattle.ml_trees.specs.Tree.{Binding, Bindings, Case, Cases, Argument, Arguments, Param, Params, Part, Parts, Field, Fields}
 use Rattle.ml_trees.specs.Tree.{Constraint, WithClause, ModExpr, ModArgument, ModArguments, FunctorParam, FunctorParams, ModType, MaybeType, Item}
-use Rattle.ml_trees.specs.Tree.{Items, SigItem, SigItems, FileTree, PlainName, OperatorName, AsPat, OrPat, TuplePat, ConsPat, ConstrApplyPat, TagApplyPat}
+use Rattle.ml_trees.specs.Tree.{Items, SigItem, SigItems, FileTree, PlainName, OperatorName, AsPat, OrPat, TuplePat, ConsPat, ConstrApplyPat}
+use Rattle.ml_trees.specs.Tree.{TagApplyPat}
 use Rattle.ml_trees.specs.Tree.{LazyPat, ExceptionPat, AnyPat, ValuePat, LiteralPat, NegativePat, RangePat, ConstrPat, TagPat, BoolPat, UnitPat}
 use Rattle.ml_trees.specs.Tree.{ParenPat, TypedPat, EmptyPat, ListPat, RecordPat, OpenedPat, no_pat, more_pat, PunnedField, MatchedField}
 use Rattle.ml_trees.specs.Tree.{no_pat_field, more_pat_field, Seq, Let}
@@ -38,8 +39,10 @@ use Rattle.ml_trees.specs.WellFormed.{WfModArgument, WfModArguments, WfFunctorPa
 use Rattle.ml_trees.specs.WellFormed.{WfSigItem, WfSigItems}
 use Rattle.value_sites.specs.Respelled.{Spelling, spell_tok, spell_run, spell_type, spell_value_name, spell_pat, spell_pats, spell_pat_field}
 use Rattle.value_sites.specs.Respelled.{spell_pat_fields, spell_expr, spell_links, spell_maybe_expr, spell_tail, spell_binding}
-use Rattle.value_sites.specs.Respelled.{spell_bindings, spell_case, spell_cases, spell_argument, spell_arguments, spell_param, spell_params, spell_part}
-use Rattle.value_sites.specs.Respelled.{spell_parts, spell_field, spell_fields, spell_constraint, spell_with_clause, spell_mod_expr, spell_mod_argument}
+use Rattle.value_sites.specs.Respelled.{spell_bindings, spell_case, spell_cases, spell_argument, spell_arguments, spell_param, spell_params}
+use Rattle.value_sites.specs.Respelled.{spell_part}
+use Rattle.value_sites.specs.Respelled.{spell_parts, spell_field, spell_fields, spell_constraint, spell_with_clause, spell_mod_expr}
+use Rattle.value_sites.specs.Respelled.{spell_mod_argument}
 use Rattle.value_sites.specs.Respelled.{spell_mod_arguments, spell_functor_param, spell_functor_params, spell_mod_type, spell_maybe_type, spell_item}
 use Rattle.value_sites.specs.Respelled.{spell_items, spell_sig_item, spell_sig_items, spell_file, RespellingKeepsTheTree}
 use Rattle.value_sites.proofs.SpelledEvents.{spell_event, file_spelled}

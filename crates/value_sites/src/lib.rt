@@ -1,5 +1,5 @@
-//! The places of values in trees: what they are, form by form, in a tree and in its respelling; and what a sound project
-//! is.
+//! The places of values in trees: what they are, form by form, in a tree and in its respelling; and what a sound
+//! project is.
 #![tactic(auto)]
 
 mod mark;

@@ -68,7 +68,8 @@ renamings_are_verified files target new done p a =
           record {
             names = sym (renamings_rewrite files target new done p a).names;
             manifest = sym a.renaming.manifest;
-            bytes = subst (λ (m : Renaming). AreRespelledBytes (words_of m (facts us).refs) 0 files.entries (map (λ (s : SourceFile). s.bytes) done.files.entries))
+            bytes = subst (λ (m : Renaming). AreRespelledBytes (words_of m (facts us).refs) 0 files.entries
+                (map (λ (s : SourceFile). s.bytes) done.files.entries))
                 (sym whole) bytes;
           };
     }

@@ -1,5 +1,6 @@
 -- Files that are validly renamed are validly renamed back.
-use Rattle.std.proofs.Common.{◌≡◌, ◌⊎◌, inl, inr, suc, List, [], ◌∷◌, Bool, true, false, ◌||◌, Option, Some, None, Contains, length, refl, ap, sym, subst}
+use Rattle.std.proofs.Common.{◌≡◌, ◌⊎◌, inl, inr, suc, List, [], ◌∷◌, Bool, true, false, ◌||◌, Option, Some, None, Contains, length, refl, ap, sym}
+use Rattle.std.proofs.Common.{subst}
 use Rattle.std.proofs.Common.{◌∙◌, arith}
 use Rattle.std.specs.Prelude.{IsTrue}
 use Rattle.rotor_base.specs.Files.{FileSet, IsProject}

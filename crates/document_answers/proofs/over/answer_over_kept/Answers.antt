@@ -14,4 +14,5 @@ answer_over_project-requires-clause-within c =
     subst (λ (f : FileSet). c.args.number < length f.entries) (sym c.into_parts-files.ensures.files) c.requires.within
 
 pub returns-clause-reply : goal.returns-clause-reply
-returns-clause-reply c = subst (λ (f : FileSet). RepliesTo c.args.asked f c.in_ok-project.reply) c.into_parts-files.ensures.files c.in_ok-project.ensures.reply
+returns-clause-reply c =
+    subst (λ (f : FileSet). RepliesTo c.args.asked f c.in_ok-project.reply) c.into_parts-files.ensures.files c.in_ok-project.ensures.reply

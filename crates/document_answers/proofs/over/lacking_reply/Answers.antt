@@ -6,5 +6,6 @@ use Rattle.document_answers.proofs.Refusing.{refused_as}
 use Rattle.document_answers.proofs.over.lacking_reply.Goals as goal
 
 pub returns-clause-reply : goal.returns-clause-reply
-returns-clause-reply c = refused_as (query_words c.args.query) (IsSaid Refused (lacking_text c.args.name.now)) c.in_ok-failure.failure c.refused_reply.result
+returns-clause-reply c =
+    refused_as (query_words c.args.query) (IsSaid Refused (lacking_text c.args.name.now)) c.in_ok-failure.failure c.refused_reply.result
     c.refused_reply.ensures.refused c.in_ok-failure.ensures

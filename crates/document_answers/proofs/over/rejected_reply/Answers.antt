@@ -19,5 +19,6 @@ returns-in_ok-project_failure-in_default-clause-rejected c =
 
 pub returns-in_ok-project_failure-in_default-clause-reply : goal.returns-in_ok-project_failure-in_default-clause-reply
 returns-in_ok-project_failure-in_default-clause-reply c =
-    refused_by c.args.query (IsProjectFailure c.args.files.now c.args.why.now) c.in_ok-project_failure-in_default.field-0 c.in_default.not-DocumentHighlight
+    refused_by c.args.query (IsProjectFailure c.args.files.now c.args.why.now) c.in_ok-project_failure-in_default.field-0
+    c.in_default.not-DocumentHighlight
     c.in_ok-project_failure-in_default.ensures

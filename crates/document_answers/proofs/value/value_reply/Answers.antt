@@ -24,7 +24,8 @@ returns-in_ok-locations-in-References-clause-reply c =
     subst (λ (q : Query (Bor (List ℕ))). RepliesValue a.files.now (view_project a.read.now.project) (view_scene a.scene) a.has_versions c.args.place
     c.args.declared (query_words q) (Ok (answer.References c.in_ok-locations-in-References.locations))) (sym c.in-References.is) (
       c.in_ok-places-in-References.places.items,
-      subst (λ (f : Facts). ArePlaces f c.args.declared c.in_ok-places-in-References.places.items) c.requires.known.kept.facts c.in_ok-places-in-References.ensures,
+      subst (λ (f : Facts). ArePlaces f c.args.declared c.in_ok-places-in-References.places.items) c.requires.known.kept.facts
+          c.in_ok-places-in-References.ensures,
       c.in_ok-locations-in-References.ensures
           ∙ ap (λ (l : List ValuePlace). locations_of (view_scene a.scene) c.in-References.with_declarations l) c.deref.ensures.value,
     )
@@ -33,7 +34,8 @@ pub returns-in_ok-location-in-Definition-clause-reply : goal.returns-in_ok-locat
 returns-in_ok-location-in-Definition-clause-reply c =
     let a = c.args.around in
     subst (λ (q : Query (Bor (List ℕ))). RepliesValue a.files.now (view_project a.read.now.project) (view_scene a.scene) a.has_versions c.args.place
-    c.args.declared (query_words q) (Ok (answer.Definition c.in_ok-location-in-Definition.location))) (sym c.in-Definition.is) c.in_ok-location-in-Definition.ensures
+    c.args.declared (query_words q) (Ok (answer.Definition c.in_ok-location-in-Definition.location))) (sym c.in-Definition.is)
+    c.in_ok-location-in-Definition.ensures
 
 pub returns-in_ok-highlights-in-DocumentHighlight-clause-reply : goal.returns-in_ok-highlights-in-DocumentHighlight-clause-reply
 returns-in_ok-highlights-in-DocumentHighlight-clause-reply c =
@@ -41,7 +43,8 @@ returns-in_ok-highlights-in-DocumentHighlight-clause-reply c =
     subst (λ (q : Query (Bor (List ℕ))). RepliesValue a.files.now (view_project a.read.now.project) (view_scene a.scene) a.has_versions c.args.place
     c.args.declared (query_words q) (Ok (answer.Highlights c.in_ok-highlights-in-DocumentHighlight.highlights))) (sym c.in-DocumentHighlight.is) (
       c.in_ok-places-in-DocumentHighlight.places.items,
-      subst (λ (f : Facts). ArePlaces f c.args.declared c.in_ok-places-in-DocumentHighlight.places.items) c.requires.known.kept.facts c.in_ok-places-in-DocumentHighlight.ensures,
+      subst (λ (f : Facts). ArePlaces f c.args.declared c.in_ok-places-in-DocumentHighlight.places.items) c.requires.known.kept.facts
+          c.in_ok-places-in-DocumentHighlight.ensures,
       c.in_ok-highlights-in-DocumentHighlight.ensures
           ∙ ap (λ (l : List ValuePlace). highlights_of (view_scene a.scene) c.args.place.file l) c.deref-in-DocumentHighlight.ensures.value,
     )

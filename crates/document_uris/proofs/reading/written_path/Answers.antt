@@ -7,4 +7,5 @@ pub returns : goal.returns
 returns c =
     c.skip_authority.ensures
     ∙ ap (option_and_then behind_authority) c.in_ok-skip_scheme.ensures
-    ∙ ap (λ (ends : Bool). cond ends None (option_and_then behind_authority (behind_scheme c.args.uri.now))) (sym c.if-has_end.false ∙ c.has_end.ensures)
+    ∙ ap (λ (ends : Bool). cond ends None (option_and_then behind_authority (behind_scheme c.args.uri.now)))
+    (sym c.if-has_end.false ∙ c.has_end.ensures)

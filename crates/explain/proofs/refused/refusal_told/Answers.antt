@@ -13,7 +13,8 @@ use Rattle.explain.proofs.refused.refusal_told.Goals as goal
 pub returns-then-not-is_renaming : goal.returns-then-not-is_renaming
 returns-then-not-is_renaming c =
     if_ok_more c.project_told.result _ _ (λ told says.
-    refusal_of_project c.args.files.now c.args.target.now c.args.name.now c.args.refusal.now told (sym c.is_renaming.ensures ∙ c.if-not-is_renaming.true) says) c.project_told.ensures
+    refusal_of_project c.args.files.now c.args.target.now c.args.name.now c.args.refusal.now told
+    (sym c.is_renaming.ensures ∙ c.if-not-is_renaming.true) says) c.project_told.ensures
 
 pub refused_message-requires-clause-few : goal.refused_message-requires-clause-few
 refused_message-requires-clause-few c =

@@ -22,14 +22,17 @@ returns c =
       counts = c.in_ok-count.ensures;
       are_diffs = subst (λ (news : List SourceFile). AreDiffs files.entries news done.changed c.in_ok-diffs.diffs.items) c.entries-3.ensures.entries
           (subst (λ (olds : List SourceFile). AreDiffs olds c.entries-3.result.now done.changed c.in_ok-diffs.diffs.items) c.entries-2.ensures.entries
-          (subst (λ ns. AreDiffs c.entries-2.result.now c.entries-3.result.now ns c.in_ok-diffs.diffs.items) c.as_slice-changed.ensures c.in_ok-diffs.ensures));
+          (subst (λ ns. AreDiffs c.entries-2.result.now c.entries-3.result.now ns c.in_ok-diffs.diffs.items) c.as_slice-changed.ensures
+          c.in_ok-diffs.ensures));
       ending = refl;
       messages = c.new.ensures;
       text = c.in_ok-done_text.ensures
-          ∙ ap (λ (cs : List CutSource). renamed_line done ++ declaration_lines (map view_cut cs) done ++ c.as_slice.result.now ++ c.deref-2.result.now)
+          ∙ ap (λ (cs : List CutSource). renamed_line done ++ declaration_lines (map view_cut cs)
+          done ++ c.as_slice.result.now ++ c.deref-2.result.now)
           c.deref.ensures.value
           ∙ ap (λ (count : Word). renamed_line done ++ declaration_lines cuts done ++ count ++ c.deref-2.result.now) c.as_slice.ensures
           ∙ ap (λ (diffs : Word). renamed_line done ++ declaration_lines cuts done ++ c.in_ok-count.count ++ diffs) c.deref-2.ensures.value;
-      places = subst (λ (cs : List CutSource). AreToolPlaces c.args.opened.now.resolved.facts (map view_cut cs) done.foot c.args.for_tools c.in_ok-tool_places.field-0)
+      places = subst (λ (cs : List CutSource). AreToolPlaces c.args.opened.now.resolved.facts (map view_cut cs) done.foot c.args.for_tools
+          c.in_ok-tool_places.field-0)
           c.deref-3.ensures.value c.in_ok-tool_places.ensures;
     }

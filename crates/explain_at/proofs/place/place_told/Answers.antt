@@ -12,5 +12,6 @@ returns-in-Value c =
 pub returns-in_ok-explain_valueless-in_default : goal.returns-in_ok-explain_valueless-in_default
 returns-in_ok-explain_valueless-in_default c =
     said_nothing (view_project c.args.project.now) (map view_cut c.args.cuts.now) c.args.place c.in_ok-found.found
-    c.in_ok-explain_valueless-in_default.field-0 c.refuse_at.result c.in_ok-found.ensures c.in_default.not-Value c.in_ok-explain_valueless-in_default.ensures
+    c.in_ok-explain_valueless-in_default.field-0 c.refuse_at.result c.in_ok-found.ensures c.in_default.not-Value
+    c.in_ok-explain_valueless-in_default.ensures
     c.refuse_at.ensures

@@ -5,7 +5,8 @@ pub returns-in_ok-unread_told-in-Err-Load-clause-listed : goal.returns-in_ok-unr
 returns-in_ok-unread_told-in-Err-Load-clause-listed g c =
     load_listed (g.T.Tree.content c.args.tree.now) c.args.list.now c.in-Err-Load.error c.load_list.result
     c.in_ok-unread_told-in-Err-Load.field-0
-    (fails_so c.load_list.result c.in-Err-Load.field-0 _ c.in-Err-Load.is c.in-Err-Load.field-0-is) c.in_ok-unread_told-in-Err-Load.ensures.other c.in_ok-unread_told-in-Err-Load.ensures.told
+    (fails_so c.load_list.result c.in-Err-Load.field-0 _ c.in-Err-Load.is c.in-Err-Load.field-0-is) c.in_ok-unread_told-in-Err-Load.ensures.other
+    c.in_ok-unread_told-in-Err-Load.ensures.told
     c.load_list.ensures.answer
 
 pub returns-in_ok-bad_told-in-Err-BadList-clause-listed : goal.returns-in_ok-bad_told-in-Err-BadList-clause-listed

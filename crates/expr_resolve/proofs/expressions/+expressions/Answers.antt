@@ -210,7 +210,8 @@ expression-returns-in_ok-field-in-Record-clause-taken t c =
     c.deref-in-Record.ensures c.deref-in-Record-2.ensures.value) in
     carry c.more_fields.result c.args.found.now c.field.new.found c.more_fields.new.found (expr_steps file sc (view c.args.e.now))
     (fields_steps file (entries_of c.field.new.scope) (fields c.deref-in-Record-2.result.now))
-    (three c.args.found.now c.resolve_optional-in-Record.new.found c.field.new.found c.args.scope.now c.resolve_optional-in-Record.new.scope c.field.new.scope
+    (three c.args.found.now c.resolve_optional-in-Record.new.found c.field.new.found c.args.scope.now c.resolve_optional-in-Record.new.scope
+    c.field.new.scope
     (λ s. maybe_steps file s (maybe c.in-Record.base)) (λ s. field_steps file s (view_field c.deref-in-Record.result.now))
     (λ s. fields_steps file s (fields c.deref-in-Record-2.result.now))
     (expr_steps file sc (view c.args.e.now)) c.in_ok-resolve_optional-in-Record.ensures.taken c.in_ok-resolve_optional-in-Record.ensures.scope
@@ -228,7 +229,8 @@ expression-returns-in_ok-field-in-Record-clause-heavy t c =
     c.deref-in-Record.ensures c.deref-in-Record-2.ensures.value) in
     carry_heavy c.more_fields.result c.args.found.now c.field.new.found (expr_steps file sc (view c.args.e.now))
     (fields_steps file (entries_of c.field.new.scope) (fields c.deref-in-Record-2.result.now))
-    (three c.args.found.now c.resolve_optional-in-Record.new.found c.field.new.found c.args.scope.now c.resolve_optional-in-Record.new.scope c.field.new.scope
+    (three c.args.found.now c.resolve_optional-in-Record.new.found c.field.new.found c.args.scope.now c.resolve_optional-in-Record.new.scope
+    c.field.new.scope
     (λ s. maybe_steps file s (maybe c.in-Record.base)) (λ s. field_steps file s (view_field c.deref-in-Record.result.now))
     (λ s. fields_steps file s (fields c.deref-in-Record-2.result.now))
     (expr_steps file sc (view c.args.e.now)) c.in_ok-resolve_optional-in-Record.ensures.taken c.in_ok-resolve_optional-in-Record.ensures.scope

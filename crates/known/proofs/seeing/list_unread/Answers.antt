@@ -26,6 +26,7 @@ loop-name-preserved c = record {
       (set_files (string_bytes c.in-Some.name) c.make_unread.result c.loop-name.seen c.set.new.self c.in_ok-set.ensures.set)
       ∙ ap (list_any (bytes_eq name)) (sym (map-append string_bytes c.loop-name.yielded (c.in-Some.name ∷ [])));
   nothing =
-      unread_more c.loop-name.seen c.set.new.self (string_bytes c.in-Some.name) c.make_unread.result c.in_ok-set.ensures.set c.make_unread.ensures.limit
+      unread_more c.loop-name.seen c.set.new.self (string_bytes c.in-Some.name) c.make_unread.result c.in_ok-set.ensures.set
+      c.make_unread.ensures.limit
       c.loop-name.invariant.nothing;
 }

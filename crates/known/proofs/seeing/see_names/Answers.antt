@@ -8,7 +8,8 @@ pub returns-clause-names : goal.returns-clause-names
 returns-clause-names g c =
     rests_names (g.T.Tree.content c.args.tree.now) (g.T.Tree.content c.list.new.self) (seen_files c.in_ok-list_unread.field-0)
     (seen_files c.in_ok-list_unread.field-0) c.list.ensures.content refl
-    (names_held (g.T.Tree.content c.args.tree.now) c.in_ok-list_unread.field-0 (map string_bytes c.in_ok-names.names.items) c.in_ok-names.ensures.names
+    (names_held (g.T.Tree.content c.args.tree.now) c.in_ok-list_unread.field-0 (map string_bytes c.in_ok-names.names.items)
+    c.in_ok-names.ensures.names
     c.in_ok-list_unread.ensures.names)
 
 pub returns-clause-fronts : goal.returns-clause-fronts

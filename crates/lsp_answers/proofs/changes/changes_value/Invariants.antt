@@ -6,4 +6,5 @@ use Rattle.lsp_answers.proofs.changes.changes_value.Given as goal
 
 -- with those of the documents that are left, they are all
 abbrev pub invariant-loop-document : goal.invariant-loop-document
-invariant-loop-document l = changes_members (members_view l.members.entries) (drop l.document-index l.documents) ≡ changes_members no_members l.documents
+invariant-loop-document l =
+    changes_members (members_view l.members.entries) (drop l.document-index l.documents) ≡ changes_members no_members l.documents

@@ -462,5 +462,6 @@ item-returns-in_ok-named_module-in-Module-clause-shown t c =
     let ht : target ≡ T = c.in_ok-target-in-Module.ensures.shape ∙ ap (λ e. optional_shape file e s) eP in
     let to = ap (λ k. functors_to k (seal_shape source target)) hg ∙ ap (λ k. functors_to G (seal_shape k target)) hs
     ∙ ap (λ k. functors_to G (seal_shape M k)) ht in
-    ap entries_of c.add_shown-in-Module.ensures.shown ∙ c.in_ok-named_module-in-Module.ensures ∙ ap (named x) (c.in_ok-shape-in-Module.ensures.shape ∙ to)
+    ap entries_of c.add_shown-in-Module.ensures.shown ∙ c.in_ok-named_module-in-Module.ensures
+    ∙ ap (named x) (c.in_ok-shape-in-Module.ensures.shape ∙ to)
     ∙ sym (ap (adds file sc) shape ∙ module_added file at sc x ps s c.in-Module.equals m)

@@ -20,6 +20,7 @@ returns-in_err-units-clause-heavy c =
 pub returns-clause-light : goal.returns-clause-light
 returns-clause-light c =
     λ h. light_taken (view_project c.args.project.now) None c.units.new.found
-    (from_start None c.start_from_nothing-found.result c.in_ok-top.top c.deref.result.now c.args.project.now.units.items _ c.start_from_nothing-found.ensures
+    (from_start None c.start_from_nothing-found.result c.in_ok-top.top c.deref.result.now c.args.project.now.units.items _
+    c.start_from_nothing-found.ensures
     c.in_ok-top.ensures c.deref.ensures.value
     c.in_ok-units.ensures.taken)

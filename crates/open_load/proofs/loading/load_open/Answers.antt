@@ -18,5 +18,6 @@ returns g c =
     (files_below g.T.Tree.content (documents c.args.held.now) docs c.args.folder (below c.new-tree.result)
     (open_files g.T.Tree.content c.load.new.tree) c.new-tree.ensures.documents c.new-tree.ensures.tree c.in-Err.ensures.content)
     (told_below g.T.Tree.content (documents c.args.held.now) docs c.args.folder (below c.new-tree.result)
-    (λ held. IsOutside c.in-Err.error ⊎ (loaded held ≡ Err c.in-Err.error)) c.new-tree.ensures.documents c.new-tree.ensures.tree c.in-Err.ensures.answer)
+    (λ held. IsOutside c.in-Err.error ⊎ (loaded held ≡ Err c.in-Err.error)) c.new-tree.ensures.documents c.new-tree.ensures.tree
+    c.in-Err.ensures.answer)
     c.make_unloaded.ensures

@@ -20,7 +20,8 @@ returns c =
     let named : map string_bytes c.deref-2.result.now ≡ names_of files.entries
     = ap (map string_bytes) c.deref-2.ensures.value ∙ c.in_ok-names.ensures ∙ ap names_of c.entries-2.ensures.entries in
     let says : SaysPlaced (map view_cut c.in_ok-cuts.cuts.items) c.args.why.now c.in_ok-message.message
-    = subst (λ (l : List CutSource). SaysPlaced (map view_cut l) c.args.why.now c.in_ok-message.message) c.deref.ensures.value c.in_ok-message.ensures in
+    = subst (λ (l : List CutSource). SaysPlaced (map view_cut l) c.args.why.now c.in_ok-message.message) c.deref.ensures.value
+    c.in_ok-message.ensures in
     project_fails files c.args.why.now c.entries.result.now (map view_cut c.in_ok-cuts.cuts.items) c.in_ok-message.message c.as_slice.result.now
     (map string_bytes c.deref-2.result.now) (view c.in_ok-refusal_data.field-0) c.noted_failure.result c.entries.ensures.entries c.in_ok-cuts.ensures
     says (c.as_slice.ensures ∙ c.in_ok-text.ensures) named c.in_ok-refusal_data.ensures.data c.noted_failure.ensures

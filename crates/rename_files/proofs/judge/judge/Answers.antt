@@ -32,7 +32,8 @@ returns-in_err-found-clause-refused c =
     let e = c.in_err-found.field-0.0 in
     stopped c.from_residual.result e (IsRefusedFor (refusals_of_binder c.args.files.now.entries us c.args.binder foot new))
     c.from_residual.ensures
-    (first_refused us c.args.binder foot new c.args.files.now.entries e (c.in_err-found.ensures.refused us c.args.binder c.requires.placed c.requires.facts c.requires.old))
+    (first_refused us c.args.binder foot new c.args.files.now.entries e
+    (c.in_err-found.ensures.refused us c.args.binder c.requires.placed c.requires.facts c.requires.old))
 
 pub returns-in-Some-clause-refused : goal.returns-in-Some-clause-refused
 returns-in-Some-clause-refused c =
@@ -56,7 +57,8 @@ returns-clause-sources c =
     let made = subst (λ (n : List ℕ). AreMade c.in_ok-found.found.set n 0 c.args.files.now.entries c.in_ok-sources.sources.items) c.as_bytes.ensures
     c.in_ok-sources.ensures.made in
     are_respelled (view_project c.args.read.now.project) c.args.binder c.args.watch.now c.requires.sound c.requires.foot c.requires.binds
-    c.requires.old free c.in_ok-found.found.set (hits_of c.args.watch.now c.args.facts.now (view_project c.args.read.now.project) c.requires.facts c.in_ok-found.found.set
+    c.requires.old free c.in_ok-found.found.set
+    (hits_of c.args.watch.now c.args.facts.now (view_project c.args.read.now.project) c.requires.facts c.in_ok-found.found.set
     c.in_ok-found.ensures.set)
     c.args.files.now.entries c.in_ok-sources.sources.items made
 
@@ -68,7 +70,8 @@ returns-clause-passed c =
     let small : position_with are_over c.in_ok-sources.sources.items ≡ None = sym (ap (position_with are_over) c.deref.ensures.value)
     ∙ (sym c.find_first_over.ensures ∙ c.in_default.is) in
     is_free (view_project c.args.read.now.project) c.args.binder c.args.watch.now c.requires.sound c.requires.foot c.requires.binds c.requires.old
-    free c.in_ok-found.found.set (hits_of c.args.watch.now c.args.facts.now (view_project c.args.read.now.project) c.requires.facts c.in_ok-found.found.set
+    free c.in_ok-found.found.set
+    (hits_of c.args.watch.now c.args.facts.now (view_project c.args.read.now.project) c.requires.facts c.in_ok-found.found.set
     c.in_ok-found.ensures.set)
     c.args.files.now.entries c.in_ok-sources.sources.items made small c.in_ok-judge_faults.ensures.passed
 

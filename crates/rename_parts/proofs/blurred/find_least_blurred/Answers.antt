@@ -22,7 +22,8 @@ loop-link-init c =
 
 pub loop-link-preserved : goal.loop-link-preserved
 loop-link-preserved c =
-    link_step c.args.members.now c.args.refs.now c.args.links.now c.loop-link.link-index _ c.loop-link.least c.take_earlier_of-least-in-loop-link.result
+    link_step c.args.members.now c.args.refs.now c.args.links.now c.loop-link.link-index _ c.loop-link.least
+    c.take_earlier_of-least-in-loop-link.result
     c.loop-link-test.true
     (folded c.loop-link.least _ _ c.blurred_item.result c.find_behind.result c.take_earlier_of-least-in-loop-link.result c.take_earlier_of-item.result
     c.take_earlier_of-item.ensures c.blurred_item.ensures c.find_behind.ensures c.take_earlier_of-least-in-loop-link.ensures)

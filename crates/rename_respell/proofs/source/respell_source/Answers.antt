@@ -36,6 +36,8 @@ loop-token-preserved c =
       order = goes_on names goals file src ts c.loop-token.token-index c.loop-token.from _ c.loop-token-test.true c.loop-token.invariant.order;
       made =
           written names goals file src ts c.loop-token.token-index c.loop-token.from _ c.loop-token-test.true c.loop-token.invariant.order
-          c.loop-token.number (option_copied c.find_word.result) c.loop-token.bytes.items c.extend_from_slice.new.self.items c.add_text.new.bytes.items
-          c.loop-token.invariant.count c.find_word.ensures c.in_ok-extend_from_slice.ensures.items c.in_ok-add_text.ensures c.loop-token.invariant.made;
+          c.loop-token.number (option_copied c.find_word.result) c.loop-token.bytes.items c.extend_from_slice.new.self.items
+          c.add_text.new.bytes.items
+          c.loop-token.invariant.count c.find_word.ensures c.in_ok-extend_from_slice.ensures.items c.in_ok-add_text.ensures
+          c.loop-token.invariant.made;
     }

@@ -11,5 +11,6 @@ use Rattle.rename_respell.proofs.words.new_names.Given as goal
 -- with the entries that are left, the table is that of all of them
 abbrev pub invariant-loop-entry : goal.invariant-loop-entry
 invariant-loop-entry l =
-    (p : Place) → or_else (option_copied (get place_cmp l.names p)) (at_place (changed_from (name_in l.placed) (drop l.entry-index l.map)) p) ≡ at_place
+    (p : Place)
+    → or_else (option_copied (get place_cmp l.names p)) (at_place (changed_from (name_in l.placed) (drop l.entry-index l.map)) p) ≡ at_place
     (changed_from (name_in l.placed) l.map) p

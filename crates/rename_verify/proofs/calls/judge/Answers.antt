@@ -22,9 +22,11 @@ returns-in-Some-2-clause-verdict c =
     c.in_ok-found.found.changes.items c.args.placed.now c.requires.placed c.in_ok-found.ensures
     (subst (HasSpot us names c.args.old.now c.args.new.now) c.in_default.is c.in_ok-spot.ensures) c.in-Some-2.at
     (subst (λ (l : List Changed). IsLeastHeld us l (Some c.in-Some-2.at)) c.deref.ensures.value
-    (subst (IsLeastHeld us c.deref.result.now) c.in-Some-2.is (c.in_ok-at.ensures (view_project c.args.read.now.project) c.requires.placed c.requires.facts (λ k among.
+    (subst (IsLeastHeld us c.deref.result.now) c.in-Some-2.is
+    (c.in_ok-at.ensures (view_project c.args.read.now.project) c.requires.placed c.requires.facts (λ k among.
     changes_free c.args.old.now c.args.new.now (view_project c.args.read.now.project) c.requires.project c.requires.reads c.requires.light
-    c.requires.names c.requires.manifest c.in_ok-found.found.names.items c.in_ok-found.found.changes.items c.args.placed.now c.requires.placed c.in_ok-found.ensures k
+    c.requires.names c.requires.manifest c.in_ok-found.found.names.items c.in_ok-found.found.changes.items c.args.placed.now c.requires.placed
+    c.in_ok-found.ensures k
     (subst (λ (l : List Changed). Contains l k) c.deref.ensures.value among)))))
 
 pub find_fault-requires-clause-read : goal.find_fault-requires-clause-read
@@ -35,9 +37,11 @@ find_fault-requires-clause-read c =
     c.in_ok-found.found.changes.items c.args.placed.now c.requires.placed c.in_ok-found.ensures
     (subst (HasSpot us names c.args.old.now c.args.new.now) c.in_default.is c.in_ok-spot.ensures)
     (subst (λ (l : List Changed). IsLeastHeld us l None) c.deref.ensures.value
-    (subst (IsLeastHeld us c.deref.result.now) c.in_default-2.is (c.in_ok-at.ensures (view_project c.args.read.now.project) c.requires.placed c.requires.facts (λ k among.
+    (subst (IsLeastHeld us c.deref.result.now) c.in_default-2.is
+    (c.in_ok-at.ensures (view_project c.args.read.now.project) c.requires.placed c.requires.facts (λ k among.
     changes_free c.args.old.now c.args.new.now (view_project c.args.read.now.project) c.requires.project c.requires.reads c.requires.light
-    c.requires.names c.requires.manifest c.in_ok-found.found.names.items c.in_ok-found.found.changes.items c.args.placed.now c.requires.placed c.in_ok-found.ensures k
+    c.requires.names c.requires.manifest c.in_ok-found.found.names.items c.in_ok-found.found.changes.items c.args.placed.now c.requires.placed
+    c.in_ok-found.ensures k
     (subst (λ (l : List Changed). Contains l k) c.deref.ensures.value among)))))
 
 pub find_fault-requires-clause-same : goal.find_fault-requires-clause-same
@@ -48,9 +52,11 @@ find_fault-requires-clause-same c =
     c.in_ok-found.found.changes.items c.args.placed.now c.requires.placed c.in_ok-found.ensures
     (subst (HasSpot us names c.args.old.now c.args.new.now) c.in_default.is c.in_ok-spot.ensures)
     (subst (λ (l : List Changed). IsLeastHeld us l None) c.deref.ensures.value
-    (subst (IsLeastHeld us c.deref.result.now) c.in_default-2.is (c.in_ok-at.ensures (view_project c.args.read.now.project) c.requires.placed c.requires.facts (λ k among.
+    (subst (IsLeastHeld us c.deref.result.now) c.in_default-2.is
+    (c.in_ok-at.ensures (view_project c.args.read.now.project) c.requires.placed c.requires.facts (λ k among.
     changes_free c.args.old.now c.args.new.now (view_project c.args.read.now.project) c.requires.project c.requires.reads c.requires.light
-    c.requires.names c.requires.manifest c.in_ok-found.found.names.items c.in_ok-found.found.changes.items c.args.placed.now c.requires.placed c.in_ok-found.ensures k
+    c.requires.names c.requires.manifest c.in_ok-found.found.names.items c.in_ok-found.found.changes.items c.args.placed.now c.requires.placed
+    c.in_ok-found.ensures k
     (subst (λ (l : List Changed). Contains l k) c.deref.ensures.value among)))))
     c.args.facts.now c.requires.facts
 
@@ -62,9 +68,11 @@ returns-in-Some-3-clause-verdict c =
     c.in_ok-found.found.changes.items c.args.placed.now c.requires.placed c.in_ok-found.ensures
     (subst (HasSpot us names c.args.old.now c.args.new.now) c.in_default.is c.in_ok-spot.ensures)
     (subst (λ (l : List Changed). IsLeastHeld us l None) c.deref.ensures.value
-    (subst (IsLeastHeld us c.deref.result.now) c.in_default-2.is (c.in_ok-at.ensures (view_project c.args.read.now.project) c.requires.placed c.requires.facts (λ k among.
+    (subst (IsLeastHeld us c.deref.result.now) c.in_default-2.is
+    (c.in_ok-at.ensures (view_project c.args.read.now.project) c.requires.placed c.requires.facts (λ k among.
     changes_free c.args.old.now c.args.new.now (view_project c.args.read.now.project) c.requires.project c.requires.reads c.requires.light
-    c.requires.names c.requires.manifest c.in_ok-found.found.names.items c.in_ok-found.found.changes.items c.args.placed.now c.requires.placed c.in_ok-found.ensures k
+    c.requires.names c.requires.manifest c.in_ok-found.found.names.items c.in_ok-found.found.changes.items c.args.placed.now c.requires.placed
+    c.in_ok-found.ensures k
     (subst (λ (l : List Changed). Contains l k) c.deref.ensures.value among)))))
     c.args.facts.now c.requires.facts c.in-Some-3.fault
     (subst (HasFirstFault c.args.new.now c.args.facts.now) c.in-Some-3.is c.in_ok-fault.ensures.fault)
@@ -77,8 +85,10 @@ returns-in-None-clause-verdict c =
     c.in_ok-found.found.changes.items c.args.placed.now c.requires.placed c.in_ok-found.ensures
     (subst (HasSpot us names c.args.old.now c.args.new.now) c.in_default.is c.in_ok-spot.ensures)
     (subst (λ (l : List Changed). IsLeastHeld us l None) c.deref.ensures.value
-    (subst (IsLeastHeld us c.deref.result.now) c.in_default-2.is (c.in_ok-at.ensures (view_project c.args.read.now.project) c.requires.placed c.requires.facts (λ k among.
+    (subst (IsLeastHeld us c.deref.result.now) c.in_default-2.is
+    (c.in_ok-at.ensures (view_project c.args.read.now.project) c.requires.placed c.requires.facts (λ k among.
     changes_free c.args.old.now c.args.new.now (view_project c.args.read.now.project) c.requires.project c.requires.reads c.requires.light
-    c.requires.names c.requires.manifest c.in_ok-found.found.names.items c.in_ok-found.found.changes.items c.args.placed.now c.requires.placed c.in_ok-found.ensures k
+    c.requires.names c.requires.manifest c.in_ok-found.found.names.items c.in_ok-found.found.changes.items c.args.placed.now c.requires.placed
+    c.in_ok-found.ensures k
     (subst (λ (l : List Changed). Contains l k) c.deref.ensures.value among)))))
     c.args.facts.now c.requires.facts (subst (HasFirstFault c.args.new.now c.args.facts.now) c.in-None.is c.in_ok-fault.ensures.fault)

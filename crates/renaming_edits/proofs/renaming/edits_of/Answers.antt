@@ -17,6 +17,8 @@ listed_edits-requires-clause-within c =
 
 pub returns-clause-edits : goal.returns-clause-edits
 returns-clause-edits c =
-    let listed = subst (λ (l : List SourceFile). AreListed c.args.counting c.in_ok-set.set c.args.done.now.new l c.args.done.now.changed c.in_ok-list.list.items)
+    let listed = subst
+    (λ (l : List SourceFile). AreListed c.args.counting c.in_ok-set.set c.args.done.now.new l c.args.done.now.changed c.in_ok-list.list.items)
     c.entries-sources.ensures.entries c.in_ok-list.ensures in
-    are_edits c.args.counting c.args.files.now c.args.facts.now c.args.done.now c.requires c.in_ok-set.set c.in_ok-set.ensures c.in_ok-list.list.items listed
+    are_edits c.args.counting c.args.files.now c.args.facts.now c.args.done.now c.requires c.in_ok-set.set c.in_ok-set.ensures c.in_ok-list.list.items
+    listed

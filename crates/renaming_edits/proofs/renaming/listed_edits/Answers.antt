@@ -17,7 +17,8 @@ loop-file-preserved c =
     let e : FileEdits = record { file = file; edits = c.in_ok-edits.edits } in
     let more = listed_more c.args.counting set new sources (take i items) c.loop-file.list.items file e c.loop-file.invariant
     (gives_words c.args.counting set new sources file e c.index-sources-file.result c.as_slice-source.result.now c.as_bytes.result.now refl
-    c.index-sources-file.is (c.as_slice-source.ensures ∙ sym (ap (λ (s : SourceFile). s.bytes) c.index-sources-file.is)) c.as_bytes.ensures c.in_ok-edits.ensures) in
+    c.index-sources-file.is (c.as_slice-source.ensures ∙ sym (ap (λ (s : SourceFile). s.bytes) c.index-sources-file.is)) c.as_bytes.ensures
+    c.in_ok-edits.ensures) in
     let P : List ℕ → List FileEdits → Type 0 = λ fs es. AreListed c.args.counting set new sources fs es in
     subst (λ es. P (take (i + 1) items) es) (sym c.in_ok-push.ensures.items)
     (subst (λ fs. P fs (c.loop-file.list.items ++ e ∷ [])) (sym (take_more items i 0 c.loop-file-test.true)) more)

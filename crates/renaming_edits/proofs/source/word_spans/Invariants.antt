@@ -7,5 +7,6 @@ use Rattle.renaming_edits.proofs.source.word_spans.Given as goal
 abbrev pub invariant-loop-token : goal.invariant-loop-token
 invariant-loop-token l = record {
   count : l.number ≡ l.token-index + 1;
-  left : l.spans.items ++ word_spans l.set l.file l.number (view_tokens (drop l.token-index l.tokens)) ≡ word_spans l.set l.file 1 (view_tokens l.tokens);
+  left : l.spans.items ++ word_spans l.set l.file l.number (view_tokens (drop l.token-index l.tokens)) ≡ word_spans l.set l.file 1
+      (view_tokens l.tokens);
 }

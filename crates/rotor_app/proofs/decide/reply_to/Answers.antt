@@ -76,4 +76,5 @@ returns-in_ok-reply_to_sample-in-Sample-clause-said_alone g c = λ asks.
 
 pub returns-in_ok-reply_to_sample-in-Sample-clause-room : goal.returns-in_ok-reply_to_sample-in-Sample-clause-room
 returns-in_ok-reply_to_sample-in-Sample-clause-room g c =
-    sample_room (g.T.Tree.room_for c.args.tree.now) c.in-Sample.units c.in_ok-reply_to_sample-in-Sample.field-0 c.in_ok-reply_to_sample-in-Sample.ensures
+    sample_room (g.T.Tree.room_for c.args.tree.now) c.in-Sample.units c.in_ok-reply_to_sample-in-Sample.field-0
+    c.in_ok-reply_to_sample-in-Sample.ensures

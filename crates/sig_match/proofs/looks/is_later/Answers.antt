@@ -8,5 +8,6 @@ use Rattle.sig_match.proofs.looks.is_later.Goals as goal
 pub returns-in-Behind : goal.returns-in-Behind
 returns-in-Behind c =
     let t = test_of c.args.test c.args.watch.now in
-    later_behind t c.in-Behind.at (entries_in c.in-Behind.shape.now) c.find_last_in.result c.is_behind.result c.is_behind.ensures c.find_last_in.ensures
+    later_behind t c.in-Behind.at (entries_in c.in-Behind.shape.now) c.find_last_in.result c.is_behind.result c.is_behind.ensures
+    c.find_last_in.ensures
     ∙ ap (λ r. is_some (pure.last_where t (rest_of r))) (sym c.in-Behind.is)

@@ -20,7 +20,8 @@ loop-run-preserved c =
       omega (arith, found.within, ap length c.deref.ensures.value),
       completes_on (map view_pair pairs) c.args.name.now c.loop-run.text.items c.push_hunk.new.text.items c.loop-run.at c.in-Some.run' next
           c.loop-run.invariant.1
-          (c.in_ok-push_hunk.ensures ∙ ap (λ xs. c.loop-run.text.items ++ xs) (hunk_view c.deref-in-Some.result.now pairs c.in-Some.run' c.deref-in-Some.ensures.value)),
+          (c.in_ok-push_hunk.ensures
+          ∙ ap (λ xs. c.loop-run.text.items ++ xs) (hunk_view c.deref-in-Some.result.now pairs c.in-Some.run' c.deref-in-Some.ensures.value)),
     )
 
 pub returns : goal.returns

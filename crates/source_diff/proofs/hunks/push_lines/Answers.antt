@@ -19,14 +19,16 @@ loop-at-preserved c =
         omega (arith, c.loop-at.invariant.0),
         changed_step text w.push_line.new.text.items _ (left_text pairs from (at + 1)) _ w.in_ok-push_line.ensures
             (ap (λ xs. text ++ xs)
-            (sym (left_changed pairs from at _ c.loop-at.invariant.0 c.loop-at-test.true (sym c.is_changed.ensures ∙ w.if-is_changed.true))) ∙ c.loop-at.invariant.1),
+            (sym (left_changed pairs from at _ c.loop-at.invariant.0 c.loop-at-test.true (sym c.is_changed.ensures ∙ w.if-is_changed.true)))
+            ∙ c.loop-at.invariant.1),
       )
       | else-is_changed+in_ok-push_added+in_ok-push_line-2 w ↦ rw (w.text-is, w.from-is) (
         omega arith,
         kept_step text w.push_added.new.text.items w.push_line-else-is_changed.new.text.items waits _ (left_text pairs (at + 1) (at + 1)) _
             w.in_ok-push_added.ensures w.in_ok-push_line-2.ensures
             (ap (λ xs. text ++ xs)
-            (sym (left_kept pairs from at _ c.loop-at.invariant.0 c.loop-at-test.true (sym c.is_changed.ensures ∙ w.if-is_changed.false))) ∙ c.loop-at.invariant.1),
+            (sym (left_kept pairs from at _ c.loop-at.invariant.0 c.loop-at-test.true (sym c.is_changed.ensures ∙ w.if-is_changed.false)))
+            ∙ c.loop-at.invariant.1),
       )
     ]
 

@@ -4,11 +4,13 @@ use Rattle.token_reading.specs.Pieces.{longest}
 use Rattle.token_reading.specs.RunRows.{is_inside, is_beside, is_first, first_after, run_length, counted, count_after}
 use Rattle.token_reading.specs.Tokens.{from}
 use Rattle.token_reading.proofs.Places.{from_end, from_next}
-use Rattle.token_reading.proofs.RunTurns.{or_later, run_ends, run_stops, run_goes_on, run_begins, run_begins_not, count_at_once, count_least, steps_on, steps_off}
+use Rattle.token_reading.proofs.RunTurns.{or_later, run_ends, run_stops, run_goes_on, run_begins, run_begins_not, count_at_once, count_least}
+use Rattle.token_reading.proofs.RunTurns.{steps_on, steps_off}
 use Rattle.token_reading.proofs.runs.run_length.Goals as goal
 
 pub returns-then-at-len-clause-value : goal.returns-then-at-len-clause-value
-returns-then-at-len-clause-value c = ap (run_length c.args.run) (from_end c.args.tokens.now c.args.at (omega (arith, c.if-at-len.true, c.len.ensures)))
+returns-then-at-len-clause-value c =
+    ap (run_length c.args.run) (from_end c.args.tokens.now c.args.at (omega (arith, c.if-at-len.true, c.len.ensures)))
 
 pub returns-then-not-branch-clause-value : goal.returns-then-not-branch-clause-value
 returns-then-not-branch-clause-value c =

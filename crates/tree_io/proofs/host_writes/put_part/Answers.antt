@@ -23,12 +23,14 @@ pub returns-in_default-clause-front : goal.returns-in_default-clause-front
 returns-in_default-clause-front g c =
     let before = c.loop-at.invariant.before in
     let within = c.requires.within in
-    front_stays c.args.bytes.now c.args.from c.loop-at.at (g.D.Disk.held c.args.file.now) (g.D.Disk.held c.loop-at.file) (g.D.Disk.held c.put.new.file)
+    front_stays c.args.bytes.now c.args.from c.loop-at.at (g.D.Disk.held c.args.file.now) (g.D.Disk.held c.loop-at.file)
+    (g.D.Disk.held c.put.new.file)
     c.loop-at.invariant.behind (omega (arith, before, within)) c.loop-at.invariant.put c.put.ensures.front
 
 pub returns-then-count-eq0-clause-front : goal.returns-then-count-eq0-clause-front
 returns-then-count-eq0-clause-front g c =
     let before = c.loop-at.invariant.before in
     let within = c.requires.within in
-    front_stays c.args.bytes.now c.args.from c.loop-at.at (g.D.Disk.held c.args.file.now) (g.D.Disk.held c.loop-at.file) (g.D.Disk.held c.put.new.file)
+    front_stays c.args.bytes.now c.args.from c.loop-at.at (g.D.Disk.held c.args.file.now) (g.D.Disk.held c.loop-at.file)
+    (g.D.Disk.held c.put.new.file)
     c.loop-at.invariant.behind (omega (arith, before, within)) c.loop-at.invariant.put c.put.ensures.front

@@ -211,7 +211,8 @@ expression-returns-in_ok-field-in-Record g t c =
     let e = c.in-Record in
     let shape = ap (expr_told step (state c.args.visitor.now)) (ap view e.is ∙ at_expr_record e.at e.base e.first e.rest e.last)
     ∙ told_Record step (state c.args.visitor.now) e.at (maybe e.base) (view_field e.first.value) (fields e.rest.items) e.last in
-    let first = c.in_ok-field-in-Record.ensures ∙ ap (λ x. field_told step (state c.walk_optional.new.visitor) (view_field x)) c.deref-in-Record.ensures
+    let first = c.in_ok-field-in-Record.ensures
+    ∙ ap (λ x. field_told step (state c.walk_optional.new.visitor) (view_field x)) c.deref-in-Record.ensures
     ∙ ap (λ z. field_told step z (view_field e.first.value)) c.in_ok-walk_optional-in-Record.ensures.base in
     subst (λ z. OnOk c.more_fields.result (state c.more_fields.new.visitor ≡ z))
     (ap (λ l. fields_told step (state c.field.new.visitor) (fields l)) c.deref-in-Record-2.ensures.value

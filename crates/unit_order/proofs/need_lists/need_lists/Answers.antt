@@ -15,7 +15,8 @@ lists_more out f xs i x lists r lt is before list =
 pub loop-unit-preserved : goal.loop-unit-preserved
 loop-unit-preserved c =
     ap (map (λ list. list.items)) c.in_ok-push.ensures.items
-    ∙ lists_more (λ list. list.items) _ c.args.units.now c.loop-unit.unit-index c.unit-item.result c.loop-unit.lists.items c.in_ok-positions_in.field-0
+    ∙ lists_more (λ list. list.items) _ c.args.units.now c.loop-unit.unit-index c.unit-item.result c.loop-unit.lists.items
+    c.in_ok-positions_in.field-0
     (omega (arith, c.loop-unit-test.true)) c.unit-item.is c.loop-unit.invariant
     (c.in_ok-positions_in.ensures ∙ ap (positions_from 0) (c.deref.ensures.value ∙ c.in_ok-row.ensures))
 

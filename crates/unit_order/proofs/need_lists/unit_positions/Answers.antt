@@ -18,12 +18,15 @@ loop-at-preserved c =
     let at = c.loop-at.at in
     let names = map (λ u. u.name) units in
     let lt : at < length units = omega (arith, c.loop-at-test.true) in
-    let name : get_or names at [] ≡ c.as_bytes.result.now = get_or-map (λ u. u.name) units at c.index-units-at.result [] lt ∙ sym c.as_bytes.ensures in
+    let name : get_or names at [] ≡ c.as_bytes.result.now = get_or-map (λ u. u.name) units at c.index-units-at.result [] lt
+    ∙ sym c.as_bytes.ensures in
     one_positioned c.loop-at.positions c.put.new.self names at c.as_bytes.result.now (omega (arith, lt, length-map units (λ u. u.name))) name
-    (AllPairs-from_IsDistinct eq_is_same names (IsDistinct-from_sorted (slice_cmp nat_cmp) names c.requires.sorted)) c.in_ok-put.ensures.put c.loop-at.invariant
+    (AllPairs-from_IsDistinct eq_is_same names (IsDistinct-from_sorted (slice_cmp nat_cmp) names c.requires.sorted)) c.in_ok-put.ensures.put
+    c.loop-at.invariant
 
 pub returns : goal.returns
 returns c =
     let names = map (λ u. u.name) c.args.units.now in
-    subst (ArePositions c.loop-at.positions) (take_all c.loop-at.at names (omega (arith, c.loop-at-test.false, length-map c.args.units.now (λ u. u.name))))
+    subst (ArePositions c.loop-at.positions)
+    (take_all c.loop-at.at names (omega (arith, c.loop-at-test.false, length-map c.args.units.now (λ u. u.name))))
     c.loop-at.invariant

@@ -7,7 +7,8 @@ returns-in-Some-clause-at c = first_found c.args.offset c.in-Some.at c.args.toke
 
 pub returns-in-Some-word_before-clause-at : goal.returns-in-Some-word_before-clause-at
 returns-in-Some-word_before-clause-at c =
-    second_found c.args.offset c.args.tokens.now c.in-Some-word_before.at (sym c.in_default.is ∙ c.word_over.ensures.at) c.in-Some-word_before.ensures.at
+    second_found c.args.offset c.args.tokens.now c.in-Some-word_before.at (sym c.in_default.is ∙ c.word_over.ensures.at)
+    c.in-Some-word_before.ensures.at
 
 pub returns-clause-at : goal.returns-clause-at
 returns-clause-at c =

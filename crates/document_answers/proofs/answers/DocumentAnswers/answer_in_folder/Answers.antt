@@ -11,8 +11,10 @@ pub returns-in-Some-clause-reply : goal.returns-in-Some-clause-reply
 returns-in-Some-clause-reply g c =
     let folder = string_bytes c.args.file.now.folder in
     let same : documents c.in-Some.held.now ≡ documents_in c.args.workspace.now folder
-    = ap (λ (o : Option (Bor Documents)). documents_or_none (option_copied o)) (sym c.in-Some.is) ∙ c.folder.ensures ∙ ap (documents_in c.args.workspace.now) c.as_str.ensures.value in
-    subst (λ (m : DocumentMap). IfOk c.answer_in_documents.result (RepliesIn (g.F.Folders.content c.args.self.now.folders folder) c.args.client folder m
+    = ap (λ (o : Option (Bor Documents)). documents_or_none (option_copied o)) (sym c.in-Some.is) ∙ c.folder.ensures
+    ∙ ap (documents_in c.args.workspace.now) c.as_str.ensures.value in
+    subst (λ (m : DocumentMap). IfOk c.answer_in_documents.result
+    (RepliesIn (g.F.Folders.content c.args.self.now.folders folder) c.args.client folder m
     (string_bytes c.args.file.now.name) c.args.position (query_words c.args.query))) same c.answer_in_documents.ensures.reply
 
 pub returns-in-None-clause-reply : goal.returns-in-None-clause-reply
@@ -21,5 +23,6 @@ returns-in-None-clause-reply g c =
     let same : documents c.new-held.result ≡ documents_in c.args.workspace.now folder
     = c.new-held.ensures ∙ ap (λ (o : Option (Bor Documents)). documents_or_none (option_copied o)) (sym c.in-None.is) ∙ c.folder.ensures
     ∙ ap (documents_in c.args.workspace.now) c.as_str.ensures.value in
-    subst (λ (m : DocumentMap). IfOk c.answer_in_documents-in-None.result (RepliesIn (g.F.Folders.content c.args.self.now.folders folder) c.args.client folder
+    subst (λ (m : DocumentMap). IfOk c.answer_in_documents-in-None.result
+    (RepliesIn (g.F.Folders.content c.args.self.now.folders folder) c.args.client folder
     m (string_bytes c.args.file.now.name) c.args.position (query_words c.args.query))) same c.answer_in_documents-in-None.ensures.reply

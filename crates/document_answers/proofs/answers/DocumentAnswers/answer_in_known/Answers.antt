@@ -30,5 +30,6 @@ returns-in_ok-failure-in-Refused-clause-reply g c =
     let is = subst (λ (o : OpenFolder). IsOpenFolder there held o) c.in-Refused.is
     (subst (λ (k : Option FileMap). IsOpenFolder k held c.in_ok-opened.opened) same c.in_ok-opened.ensures) in
     no_project c.in-Refused.why c.in-Refused.message c.requires is
-    (refused_as (query_words c.args.query) (IsFolderFailure c.in-Refused.why c.in-Refused.message) c.in_ok-failure-in-Refused.failure c.refused_reply.result
+    (refused_as (query_words c.args.query) (IsFolderFailure c.in-Refused.why c.in-Refused.message) c.in_ok-failure-in-Refused.failure
+    c.refused_reply.result
     c.refused_reply.ensures.refused c.in_ok-failure-in-Refused.ensures)

@@ -16,7 +16,8 @@ pub returns-then-is_source-clause-reply : goal.returns-then-is_source-clause-rep
 returns-then-is_source-clause-reply g c =
     let is = subst (λ (o : Option FilePlace). IfSome o (λ place. IsFile c.args.spot.uri.now (string_bytes place.folder) (string_bytes place.name)))
     c.in-Some.is c.in_ok-found.ensures.file in
-    IfOk-weaker c.answer_in_folder.result _ _ (λ reply h. source (string_bytes c.in-Some.file.folder) (string_bytes c.in-Some.file.name) is (sym (c.is_source.ensures ∙ ap is_source_name c.as_bytes.ensures.value) ∙ c.if-is_source.true) h)
+    IfOk-weaker c.answer_in_folder.result _ _ (λ reply h. source (string_bytes c.in-Some.file.folder) (string_bytes c.in-Some.file.name) is
+    (sym (c.is_source.ensures ∙ ap is_source_name c.as_bytes.ensures.value) ∙ c.if-is_source.true) h)
     c.answer_in_folder.ensures.reply
 
 pub returns-clause-reply : goal.returns-clause-reply
@@ -24,5 +25,6 @@ returns-clause-reply g c =
     let is = subst (λ (o : Option FilePlace). IfSome o (λ place. IsFile c.args.spot.uri.now (string_bytes place.folder) (string_bytes place.name)))
     c.in-Some.is c.in_ok-found.ensures.file in
     IfOk-weaker c.no_source_reply-else-is_source.result _ _ (λ reply h.
-    no_source (string_bytes c.in-Some.file.folder) (string_bytes c.in-Some.file.name) is (sym (c.is_source.ensures ∙ ap is_source_name c.as_bytes.ensures.value) ∙ c.if-is_source.false) h)
+    no_source (string_bytes c.in-Some.file.folder) (string_bytes c.in-Some.file.name) is
+    (sym (c.is_source.ensures ∙ ap is_source_name c.as_bytes.ensures.value) ∙ c.if-is_source.false) h)
     c.no_source_reply-else-is_source.ensures.reply

@@ -15,7 +15,8 @@ returns-in-Err-Syntax g c =
     let part = r.else_branch (read_expr c.args.self.now.grammar.depth) c.args.self.now.grammar.depth in
     let here = from c.args.tokens.now c.loop-turn.at in
     let failed : part here ≡ None = rw c.in-Err-Syntax.field-0-is at c.in-Err-Syntax.ensures in
-    ap Some (turn_none pure.no_else r.cons_branch r.branch_ends part (map branch_of c.loop-turn.found.items) c.args.self.now.grammar.depth c.loop-turn._turn
+    ap Some (turn_none pure.no_else r.cons_branch r.branch_ends part (map branch_of c.loop-turn.found.items) c.args.self.now.grammar.depth
+    c.loop-turn._turn
     here _ c.loop-turn-test.true failed c.loop-turn.invariant
     ∙ ap (λ (l : pure.Tail). (l, here)) (tail_before_is pure.no_else c.loop-turn.found.items))
 
@@ -23,7 +24,8 @@ pub loop-turn-preserved : goal.loop-turn-preserved
 loop-turn-preserved g c =
     let part = r.else_branch (read_expr c.args.self.now.grammar.depth) c.args.self.now.grammar.depth in
     let after = from c.args.tokens.now c.in-Ok.after in
-    pushed pure.no_else r.cons_branch r.branch_ends part branch_of c.loop-turn.found.items c.push.new.self.items c.in-If.next c.args.self.now.grammar.depth
+    pushed pure.no_else r.cons_branch r.branch_ends part branch_of c.loop-turn.found.items c.push.new.self.items c.in-If.next
+    c.args.self.now.grammar.depth
     c.loop-turn._turn (from c.args.tokens.now c.loop-turn.at) after _ c.in_ok-push-in-If.ensures.items c.loop-turn-test.true
     (c.in-Ok.ensures ∙ ap (λ p. Some (otherwise_of p, after)) c.in-If.is) (ap not (sym c.on_edge-goes_on.ensures ∙ c.if-not-goes_on.false))
     c.loop-turn.invariant
@@ -32,7 +34,8 @@ pub returns : goal.returns
 returns g c =
     let part = r.else_branch (read_expr c.args.self.now.grammar.depth) c.args.self.now.grammar.depth in
     let here = from c.args.tokens.now c.loop-turn.at in
-    ap Some (turn_end pure.no_else r.cons_branch r.branch_ends part (map branch_of c.loop-turn.found.items) c.args.self.now.grammar.depth c.loop-turn._turn
+    ap Some (turn_end pure.no_else r.cons_branch r.branch_ends part (map branch_of c.loop-turn.found.items) c.args.self.now.grammar.depth
+    c.loop-turn._turn
     here _ c.loop-turn-test.false c.loop-turn.invariant ∙ ap (λ (l : pure.Tail). (l, here)) (tail_before_is pure.no_else c.loop-turn.found.items))
 
 pub returns-then-not-goes_on : goal.returns-then-not-goes_on
@@ -40,7 +43,8 @@ returns-then-not-goes_on g c =
     let part = r.else_branch (read_expr c.args.self.now.grammar.depth) c.args.self.now.grammar.depth in
     let after = from c.args.tokens.now c.in-Ok.after in
     ap Some (pushed_last pure.no_else r.cons_branch r.branch_ends part branch_of c.loop-turn.found.items c.push.new.self.items c.in-If.next
-    c.args.self.now.grammar.depth c.loop-turn._turn (from c.args.tokens.now c.loop-turn.at) after _ c.in_ok-push-in-If.ensures.items c.loop-turn-test.true
+    c.args.self.now.grammar.depth c.loop-turn._turn (from c.args.tokens.now c.loop-turn.at) after _ c.in_ok-push-in-If.ensures.items
+    c.loop-turn-test.true
     (c.in-Ok.ensures ∙ ap (λ p. Some (otherwise_of p, after)) c.in-If.is) (ap not (sym c.on_edge-goes_on.ensures ∙ c.if-not-goes_on.true))
     c.loop-turn.invariant ∙ ap (λ (l : pure.Tail). (l, after)) (tail_before_is pure.no_else c.push.new.self.items))
 
@@ -50,7 +54,8 @@ returns-in-Last g c =
     let after = from c.args.tokens.now c.in-Ok.after in
     let e = view c.in-Last.last.value in
     let xs = c.loop-turn.found.items in
-    let whole = turn_off pure.no_else r.cons_branch r.branch_ends part (map branch_of xs) (r.last_branch e) c.args.self.now.grammar.depth c.loop-turn._turn
+    let whole =
+    turn_off pure.no_else r.cons_branch r.branch_ends part (map branch_of xs) (r.last_branch e) c.args.self.now.grammar.depth c.loop-turn._turn
     (from c.args.tokens.now c.loop-turn.at) after _ c.loop-turn-test.true (c.in-Ok.ensures ∙ ap (λ p. Some (otherwise_of p, after)) c.in-Last.is)
     refl c.loop-turn.invariant in
     let ends : before r.cons_branch (map branch_of xs ++ r.last_branch e ∷ []) pure.no_else ≡ tail_before (pure.or_else e) xs =

@@ -30,5 +30,6 @@ pub returns : goal.returns
 returns g c =
     let part = r.next_binding (read_expr c.args.self.now.grammar.depth) c.args.self.now.grammar.depth in
     let here = from c.args.tokens.now c.loop-turn.at in
-    ap Some (turn_end pure.no_binding pure.more_binding always part (map view_binding c.loop-turn.found.items) c.args.self.now.grammar.depth c.loop-turn._turn
+    ap Some (turn_end pure.no_binding pure.more_binding always part (map view_binding c.loop-turn.found.items) c.args.self.now.grammar.depth
+    c.loop-turn._turn
     here _ c.loop-turn-test.false c.loop-turn.invariant ∙ ap (λ (l : pure.Bindings). (l, here)) (bindings_before c.loop-turn.found.items))

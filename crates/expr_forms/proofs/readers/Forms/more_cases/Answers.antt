@@ -13,7 +13,8 @@ returns-in-Err-Syntax g c =
     let part = r.next_case (read_expr c.args.self.now.grammar.depth) c.args.self.now.grammar.depth in
     let here = from c.args.tokens.now c.loop-turn.at in
     let failed : part here ≡ None = rw c.in-Err-Syntax.field-0-is at c.in-Err-Syntax.ensures in
-    ap Some (turn_none pure.no_case pure.more_case r.no_cases part (map view_case c.loop-turn.found.items) c.args.self.now.grammar.depth c.loop-turn._turn
+    ap Some (turn_none pure.no_case pure.more_case r.no_cases part (map view_case c.loop-turn.found.items) c.args.self.now.grammar.depth
+    c.loop-turn._turn
     here _ c.loop-turn-test.true failed c.loop-turn.invariant ∙ ap (λ (l : pure.Cases). (l, here)) (cases_before c.loop-turn.found.items))
 
 pub loop-turn-preserved : goal.loop-turn-preserved
@@ -28,7 +29,8 @@ pub returns : goal.returns
 returns g c =
     let part = r.next_case (read_expr c.args.self.now.grammar.depth) c.args.self.now.grammar.depth in
     let here = from c.args.tokens.now c.loop-turn.at in
-    ap Some (turn_end pure.no_case pure.more_case r.no_cases part (map view_case c.loop-turn.found.items) c.args.self.now.grammar.depth c.loop-turn._turn here
+    ap Some (turn_end pure.no_case pure.more_case r.no_cases part (map view_case c.loop-turn.found.items) c.args.self.now.grammar.depth
+    c.loop-turn._turn here
     _ c.loop-turn-test.false c.loop-turn.invariant ∙ ap (λ (l : pure.Cases). (l, here)) (cases_before c.loop-turn.found.items))
 
 pub returns-then-not-goes_on : goal.returns-then-not-goes_on

@@ -12,7 +12,8 @@ write-requires-clause-placed c = λ files e none.
 
 pub returns-then-has-clause-files : goal.returns-then-has-clause-files
 returns-then-has-clause-files c =
-    seen_set c.args.self.now (record { seen = c.fill.new.self; made = c.args.self.now.made }) c.args.name.now c.args.bytes.now c.fill.ensures.files refl
+    seen_set c.args.self.now (record { seen = c.fill.new.self; made = c.args.self.now.made }) c.args.name.now c.args.bytes.now c.fill.ensures.files
+    refl
 
 pub returns-then-has-clause-room : goal.returns-then-has-clause-room
 returns-then-has-clause-room c =

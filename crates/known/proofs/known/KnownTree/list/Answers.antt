@@ -10,7 +10,8 @@ invariant_of-self g c =
     let content = g.T.Tree.content c.args.self.now.tree in
     record {
       names =
-          rests_names content content (kept_files c.args.self.now.kept) (kept_files c.names.new.self) refl c.names.ensures.files c.args.self.now.names;
+          rests_names content content (kept_files c.args.self.now.kept) (kept_files c.names.new.self) refl c.names.ensures.files
+          c.args.self.now.names;
       fronts = λ none.
           rests_fronts content content c.args.self.now.kept c.names.new.self refl c.names.ensures.files
           (has_seen c.args.self.now.kept c.names.new.self c.names.ensures.seen) (c.args.self.now.fronts none);

@@ -30,5 +30,6 @@ returns-in-Some-clause-read c =
     let was = was_found c.args.self.now c.args.name.now c.get_mut.result c.in-Some.held c.get_mut.ensures.value c.in-Some.is in
     let sets = btree_map_updates_text c.args.name.now c.args.self.now.files (c.get_mut.follows.lender c.reserve.new.self) (Some c.reserve.new.self)
     ((c.get_mut.follows.holds c.reserve.new.self).3 (ap is_some was)) in
-    read_kept c.args.self.now (record { files = c.get_mut.follows.lender c.reserve.new.self }) c.args.name.now c.reserve.new.self c.in-Some.held.now sets
+    read_kept c.args.self.now (record { files = c.get_mut.follows.lender c.reserve.new.self }) c.args.name.now c.reserve.new.self c.in-Some.held.now
+    sets
     was c.reserve.ensures.bytes c.reserve.ensures.limit

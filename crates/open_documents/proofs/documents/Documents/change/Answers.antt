@@ -18,7 +18,8 @@ returns-in-Some-clause-changed c =
     was_held c.args.self.now c.as_str.result.now c.get_mut.result c.in-Some.document c.get_mut.ensures.value c.in-Some.is in
     let new : c.change.new.self ≡ changed_from (get (documents c.args.self.now) c.as_str.result.now) c.args.uri c.args.version c.args.text =
     c.change.ensures ∙ ap (λ (found : Option Document). changed_from found c.args.uri c.args.version c.args.text) (sym was) in
-    let set = gathered_set c.args.self.now.held.entries (c.get_mut.follows.lender c.change.new.self).entries c.as_str.result.now (Some c.change.new.self)
+    let set =
+    gathered_set c.args.self.now.held.entries (c.get_mut.follows.lender c.change.new.self).entries c.as_str.result.now (Some c.change.new.self)
     (btree_map_updates_text c.as_str.result.now c.args.self.now.held (c.get_mut.follows.lender c.change.new.self) (Some c.change.new.self)
     ((c.get_mut.follows.holds c.change.new.self).3 (ap is_some found)))
     c.change.new.self refl

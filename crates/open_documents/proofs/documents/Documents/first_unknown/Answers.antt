@@ -15,7 +15,8 @@ returns-then-not-is_known-clause-unknown c =
     let at : slice_get c.args.self.now.held.entries (length c.loop-name.yielded) ≡ Some (c.in-Some.name.now, c.in-Some.document.now) =
     (iter_turn deref_pair c.args.self.now.held.entries c.loop-name.yielded c.into_iter-name-iterator.result c.loop-name.name-iterator c.next.new.self
     c.next.result (search rules) c.loop-name.yielded_by (c.in-Some.name, c.in-Some.document) c.in-Some.is c.next.ensures.steps).1 in
-    let held = entry_held c.args.self.now (length c.loop-name.yielded) c.in-Some.name.now c.in-Some.document.now c.iter-name-items.ensures.ordered at in
+    let held =
+    entry_held c.args.self.now (length c.loop-name.yielded) c.in-Some.name.now c.in-Some.document.now c.iter-name-items.ensures.ordered at in
     ap (λ (name : List ℕ). option_map is_known (get (documents c.args.self.now) name)) c.as_str.ensures.value
     ∙ ap (option_map is_known) held ∙ ap (λ (known : Bool). Some known) (sym c.is_known.ensures ∙ c.if-not-is_known.true)
 

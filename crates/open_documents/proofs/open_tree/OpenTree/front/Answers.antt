@@ -14,7 +14,8 @@ read-requires g c =
 
 pub returns-in_ok-front-in-Some-clause-bytes : goal.returns-in_ok-front-in-Some-clause-bytes
 returns-in_ok-front-in-Some-clause-bytes g c =
-    laid_front (held_documents c.args.self.now) (g.T.Tree.content c.args.self.now.tree) c.args.name.now c.in_ok-front-in-Some.field-0.items c.args.limit
+    laid_front (held_documents c.args.self.now) (g.T.Tree.content c.args.self.now.tree) c.args.name.now c.in_ok-front-in-Some.field-0.items
+    c.args.limit
     c.in-Some.document.now (sym c.get.ensures ∙ ap option_copied c.in-Some.is) c.in_ok-front-in-Some.ensures
 
 pub returns-in-None-clause-bytes : goal.returns-in-None-clause-bytes
@@ -23,5 +24,6 @@ returns-in-None-clause-bytes g c =
     if_ok (λ bytes. IfSome (g.T.Tree.content c.args.self.now.tree) (λ files. IsFront c.args.limit (get files c.args.name.now) bytes.items))
     (λ bytes. IfSome (open_files g.T.Tree.content c.args.self.now) (λ files. IsFront c.args.limit (get files c.args.name.now) bytes.items))
     c.read.result
-    (λ bytes front. laid_read (held_documents c.args.self.now) (g.T.Tree.content c.args.self.now.tree) c.args.name.now bytes.items c.args.limit none front)
+    (λ bytes front. laid_read (held_documents c.args.self.now) (g.T.Tree.content c.args.self.now.tree) c.args.name.now bytes.items c.args.limit none
+    front)
     c.read.ensures.bytes

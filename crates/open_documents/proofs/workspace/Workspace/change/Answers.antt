@@ -13,14 +13,16 @@ use Rattle.open_documents.proofs.workspace.Workspace.change.Goals as goal
 
 pub returns-in-Some-clause-changed : goal.returns-in-Some-clause-changed
 returns-in-Some-clause-changed c =
-    let edit : DocumentMap → DocumentMap = λ map. insert map (string_bytes c.args.name) (changed_from (get map (string_bytes c.args.name)) c.args.uri c.args.version c.args.text) in
+    let edit : DocumentMap → DocumentMap =
+    λ map. insert map (string_bytes c.args.name) (changed_from (get map (string_bytes c.args.name)) c.args.uri c.args.version c.args.text) in
     let new : Workspace = record { folders = c.get_mut.follows.lender c.change.new.self } in
     let found : get_by_text c.args.self.now.folders c.as_str.result.now ≡ Some c.in-Some.folder.now =
     sym c.get_mut.ensures.value ∙ ap option_copied_mut c.in-Some.is in
     let was = folder_found c.args.self.now c.as_str.result.now c.get_mut.result c.in-Some.folder c.get_mut.ensures.value c.in-Some.is in
     let sets = btree_map_updates_text c.as_str.result.now c.args.self.now.folders new.folders (Some c.change.new.self)
     ((c.get_mut.follows.holds c.change.new.self).3 (ap is_some found)) in
-    on_ok c.change.result (λ is. subst (λ (path : List ℕ). SetsFolder path (edit (documents_in c.args.self.now path)) c.args.self.now new) c.as_str.ensures.value
+    on_ok c.change.result
+    (λ is. subst (λ (path : List ℕ). SetsFolder path (edit (documents_in c.args.self.now path)) c.args.self.now new) c.as_str.ensures.value
     (found_folder c.args.self.now new c.as_str.result.now c.in-Some.folder.now c.change.new.self edit was is sets))
     c.change.ensures.changed
 
@@ -37,7 +39,8 @@ returns-in-Some-clause-kept c =
 
 pub returns-in_ok-insert-in-None-clause-changed : goal.returns-in_ok-insert-in-None-clause-changed
 returns-in_ok-insert-in-None-clause-changed c =
-    let edit : DocumentMap → DocumentMap = λ map. insert map (string_bytes c.args.name) (changed_from (get map (string_bytes c.args.name)) c.args.uri c.args.version c.args.text) in
+    let edit : DocumentMap → DocumentMap =
+    λ map. insert map (string_bytes c.args.name) (changed_from (get map (string_bytes c.args.name)) c.args.uri c.args.version c.args.text) in
     let lacks = subst (λ (path : List ℕ). documents_in c.args.self.now path ≡ documents c.new-folder.result) c.as_str.ensures.value
     (folder_missing c.args.self.now c.as_str.result.now c.get_mut.result c.get_mut.ensures.value c.in-None.is ∙ sym c.new-folder.ensures) in
     made_folder c.args.self.now (record { folders = c.insert.new.self }) c.get_mut.follows.lender-at-none (string_bytes c.args.path)

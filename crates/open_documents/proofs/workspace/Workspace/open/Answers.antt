@@ -19,7 +19,8 @@ returns-in-Some-clause-opened c =
     let was = folder_found c.args.self.now c.as_str.result.now c.get_mut.result c.in-Some.folder c.get_mut.ensures.value c.in-Some.is in
     let sets = btree_map_updates_text c.as_str.result.now c.args.self.now.folders new.folders (Some c.open.new.self)
     ((c.get_mut.follows.holds c.open.new.self).3 (ap is_some found)) in
-    on_ok c.open.result (λ is. subst (λ (path : List ℕ). SetsFolder path (edit (documents_in c.args.self.now path)) c.args.self.now new) c.as_str.ensures.value
+    on_ok c.open.result
+    (λ is. subst (λ (path : List ℕ). SetsFolder path (edit (documents_in c.args.self.now path)) c.args.self.now new) c.as_str.ensures.value
     (found_folder c.args.self.now new c.as_str.result.now c.in-Some.folder.now c.open.new.self edit was is sets))
     c.open.ensures.opened
 
