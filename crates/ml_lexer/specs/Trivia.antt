@@ -1,6 +1,7 @@
 -- Comments and attributes (the OCaml manual, "Comments" and "Attributes").
 use Rattle.std.specs.Prelude.{ℕ, zero, suc, ◌+◌, ◌-◌, List, [], ◌∷◌, Bool, true, false, ◌==◌, ◌&&◌, ◌<◌, ◌≤◌, length, drop, Option, Some, None}
-use Rattle.std.specs.Prelude.{if◌then◌else◌}
+use Rattle.std.specs.Prelude.{if◌then◌else◌, ◌≡◌, ◌^◌}
+use Rattle.std.specs.Borrow.{Bor}
 use Rattle.ml_lexer.specs.Bytes.{is_at}
 use Rattle.ml_lexer.specs.Quotes.{char_length, text_length, opens_quoted, quoted_length}
 use Rattle.ml_lexer.specs.declared.trivia.Part.{Part}
@@ -79,3 +80,12 @@ attribute_length bytes = level_end attribute_part 1 0 2 (drop 2 bytes)
 -- the part takes a byte or more, and no more than there are
 abbrev pub PartWithin : Part → List ℕ → Type 0
 PartWithin part bytes = (0 < size_of part) × (size_of part ≤ length bytes)
+
+-- a reader of parts may be called at each text of 1 to 2 ^ 20 bytes, and its part is within the text
+pub record ReadsWithin (pre : Bor (List ℕ) → Type 0) (post : Bor (List ℕ) → Part → Type 0) : Type 0 where
+  pub callable : (b : Bor (List ℕ)) → 0 < length b.now → length b.now ≤ 2 ^ 20 → pre b
+  pub within : (b : Bor (List ℕ)) (r : Part) → post b r → PartWithin r b.now
+
+-- what a reader returns at a text is `part_at` of the text
+abbrev pub Reads : (List ℕ → Part) → (Bor (List ℕ) → Part → Type 0) → Type 0
+Reads part_at post = (b : Bor (List ℕ)) (r : Part) → post b r → r ≡ part_at b.now

@@ -1,7 +1,7 @@
 //! Comments and attributes.
 
-ghost use Rattle.std.specs.Prelude.{◌≡◌, ◌+◌, ◌<◌, ◌≤◌, ◌^◌, length, true, IfSome};
-ghost use Rattle.ml_lexer.specs.Trivia.{whole as whole_spec, or_one_byte as or_one_byte_spec, plain_part as plain_spec, opens_comment as opens_spec, comment_part as comment_part_spec, comment_length, attribute_part as attribute_part_spec, attribute_length, PartWithin};
+ghost use Rattle.std.specs.Prelude.{◌≡◌, ◌+◌, ◌<◌, ◌≤◌, ◌^◌, length, drop, true, IfSome};
+ghost use Rattle.ml_lexer.specs.Trivia.{whole as whole_spec, or_one_byte as or_one_byte_spec, plain_part as plain_spec, opens_comment as opens_spec, comment_part as comment_part_spec, comment_length, attribute_part as attribute_part_spec, attribute_length, level_end, PartWithin, ReadsWithin, Reads};
 
 use crate::bytes::{byte_at, skip};
 use crate::quotes::{char_len, opens_quoted, quoted_len, text_len};
@@ -64,6 +64,39 @@ pub fn opens_comment(bytes: &[u8]) -> bool
     byte_at(bytes, 0) == b'(' && byte_at(bytes, 1) == b'*'
 }
 
+/// The length of what nests and begins here with two bytes, if it ends. `part_at` returns what begins at a byte
+/// inside it.
+#[tactic(auto, using(crate::proofs::Steps::levels))]
+fn nested_len<F: Fn(&[u8]) -> Part>(bytes: &[u8], part_at: F) -> Option<usize>
+    requires few { length bytes.now ≤ 2 ^ 20 }
+    requires opened { 2 ≤ length bytes.now }
+    requires callable { ReadsWithin (F.pre part_at) (F.post part_at) }
+    ensures value { (part : _) → Reads part (F.post part_at) → result ≡ level_end part 1 0 2 (drop 2 bytes.now) }
+    ensures within { IfSome result (λ n. (0 < n) × (n ≤ length bytes.now)) }
+{
+    let mut depth: usize = 1;
+    let mut read = 2;
+    let mut rest = skip(bytes, read);
+    while !rest.is_empty() {
+        let len = match part_at(rest) {
+            Part::Opens(len) => {
+                depth += 1;
+                len
+            }
+            Part::Closes(len) if depth == 1 => return Some(read + len),
+            Part::Closes(len) => {
+                depth -= 1;
+                len
+            }
+            Part::Whole(len) => len,
+            Part::Unended => return None,
+        };
+        read += len;
+        rest = skip(rest, len);
+    }
+    None
+}
+
 /// What begins at a byte inside a comment.
 #[tactic(auto, unfolding(crate::specs::Trivia::comment_part))]
 fn comment_part(bytes: &[u8]) -> Part
@@ -82,34 +115,14 @@ fn comment_part(bytes: &[u8]) -> Part
 }
 
 /// The length of the comment that begins here, if it ends.
-#[tactic(auto, using(crate::proofs::Steps::levels), unfolding(crate::specs::Trivia::comment_length))]
+#[tactic(auto, unfolding(crate::specs::Trivia::comment_length))]
 pub fn comment_len(bytes: &[u8]) -> Option<usize>
     requires few { length bytes.now ≤ 2 ^ 20 }
     requires opened { 2 ≤ length bytes.now }
     ensures value { result ≡ comment_length bytes.now }
     ensures within { IfSome result (λ n. (0 < n) × (n ≤ length bytes.now)) }
 {
-    let mut depth: usize = 1;
-    let mut read = 2;
-    let mut rest = skip(bytes, read);
-    while !rest.is_empty() {
-        let len = match comment_part(rest) {
-            Part::Opens(len) => {
-                depth += 1;
-                len
-            }
-            Part::Closes(len) if depth == 1 => return Some(read + len),
-            Part::Closes(len) => {
-                depth -= 1;
-                len
-            }
-            Part::Whole(len) => len,
-            Part::Unended => return None,
-        };
-        read += len;
-        rest = skip(rest, len);
-    }
-    None
+    nested_len(bytes, comment_part)
 }
 
 /// What begins at a byte inside an attribute.
@@ -132,32 +145,12 @@ fn attribute_part(bytes: &[u8]) -> Part
 }
 
 /// The length of the attribute that begins here, if it ends.
-#[tactic(auto, using(crate::proofs::Steps::levels), unfolding(crate::specs::Trivia::attribute_length))]
+#[tactic(auto, unfolding(crate::specs::Trivia::attribute_length))]
 pub fn attribute_len(bytes: &[u8]) -> Option<usize>
     requires few { length bytes.now ≤ 2 ^ 20 }
     requires opened { 2 ≤ length bytes.now }
     ensures value { result ≡ attribute_length bytes.now }
     ensures within { IfSome result (λ n. (0 < n) × (n ≤ length bytes.now)) }
 {
-    let mut depth: usize = 1;
-    let mut read = 2;
-    let mut rest = skip(bytes, read);
-    while !rest.is_empty() {
-        let len = match attribute_part(rest) {
-            Part::Opens(len) => {
-                depth += 1;
-                len
-            }
-            Part::Closes(len) if depth == 1 => return Some(read + len),
-            Part::Closes(len) => {
-                depth -= 1;
-                len
-            }
-            Part::Whole(len) => len,
-            Part::Unended => return None,
-        };
-        read += len;
-        rest = skip(rest, len);
-    }
-    None
+    nested_len(bytes, attribute_part)
 }
