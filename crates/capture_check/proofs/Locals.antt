@@ -28,7 +28,7 @@ use Rattle.capture_check.specs.Local.{would_name, IsLocalFault}
 use Rattle.capture_check.specs.Would.{ref_by, links_by, HasRefLooks, HasLinkLooks}
 use Rattle.capture_check.proofs.Faults.{Agree, first_as, fault_is}
 use Rattle.capture_check.proofs.Looking.{members_are, refs_are, links_are}
-use Rattle.capture_check.proofs.Told.{looks_tell_faults}
+use Rattle.capture_check.proofs.Told.{looks_determine_faults}
 
 -- the first fault of old facts and of new ones, under the new names
 abbrev IsToldBy : List UnitTree → Watch → Facts → Facts → Option Fault → Type 0
@@ -67,4 +67,4 @@ module _ (us : List UnitTree) (w : Watch) (s : IsSound us) (k : IsWatched us w) 
           let P : Facts → Type 0 = λ x. IsToldBy us w fs x (fault_of repeat capture mislink) in
           let Q : Facts → Type 0 = λ x. IsToldBy us w x (would_facts w ls x) (fault_of repeat capture mislink) in
           let R : Looks → Type 0 = λ x. IsToldBy us w (facts us) (would_facts w x (facts us)) (fault_of repeat capture mislink) in
-          looks_tell_faults us w (fault_of repeat capture mislink) s k (subst R l (subst Q f (subst P (sym told) first)))
+          looks_determine_faults us w (fault_of repeat capture mislink) s k (subst R l (subst Q f (subst P (sym told) first)))

@@ -20,7 +20,7 @@ use Rattle.binding_model.proofs.Telltale.{looks_tell_facts}
 use Rattle.capture_check.specs.declared.fault.Fault.{Fault}
 use Rattle.capture_check.specs.declared.fault.Fault.TheVariants.{Clash, Capture, Mislink}
 use Rattle.capture_check.specs.Fault.{Names, IsClash, faults, IsFirstFault}
-use Rattle.capture_check.specs.Local.{would_name, LooksTellFaults}
+use Rattle.capture_check.specs.Local.{would_name, LooksDetermineFaults}
 use Rattle.capture_check.proofs.Binders.{group_binds}
 use Rattle.capture_check.proofs.Faults.{Agree, first_as}
 
@@ -59,8 +59,8 @@ module _ (us : List UnitTree) (w : Watch) (s : IsSound us) (k : IsWatched us w) 
   agree : Agree (would_name w us) (name_of (respell us (renaming w))) (facts us).groups
   agree g d i j = sym (new_name d (group_binds us s g d i j))
 
-pub looks_tell_faults : LooksTellFaults
-looks_tell_faults us w o s k h =
+pub looks_determine_faults : LooksDetermineFaults
+looks_determine_faults us w o s k h =
     let P : Facts → Type 0 = λ fs. IsFirstFault (name_of (respell us (renaming w))) (facts us) fs o in
     subst P (sym (looks_tell_facts us w s k))
     (fault_as (would_name w us) (name_of (respell us (renaming w))) (facts us) (would_facts w (looks w us) (facts us)) (agree us w s k) o h)

@@ -27,8 +27,8 @@ abbrev pub IsLocalFault : List UnitTree → Watch → Option Fault → Type 0
 IsLocalFault us w o = IsFirstFault (name_of (respell us (renaming w))) (facts us) (facts (respell us (renaming w))) o
 
 -- Law: the fault that the looks give is the first fault of the renamed project
-abbrev pub LooksTellFaults : Type 0
-LooksTellFaults = (us : List UnitTree) (w : Watch) (o : Option Fault) → IsSound us → IsWatched us w → IsToldFault us w o → IsLocalFault us w o
+abbrev pub LooksDetermineFaults : Type 0
+LooksDetermineFaults = (us : List UnitTree) (w : Watch) (o : Option Fault) → IsSound us → IsWatched us w → IsToldFault us w o → IsLocalFault us w o
 
 -- Law: if no fault is found, the renamed project has the facts of the old one
 abbrev pub NoFaultKeepsFacts : Type 0

@@ -15,7 +15,7 @@ mod would;
 pub use changes::{first_capture, first_mislink};
 pub use fault::{Change, Fault, Repeat};
 pub use first::first_fault;
-pub use laws::{faults_are_one, looks_tell_faults, no_fault_keeps_facts};
+pub use laws::{faults_are_one, looks_determine_faults, no_fault_keeps_facts};
 pub use local::{local_fault, local_fault_of};
 pub use order::is_before;
 pub use repeats::first_repeat;

@@ -88,8 +88,8 @@ fn add_link_look(table: &mut LinkTable, look: LinkLook) -> Result<(), Memory>
     Ok(())
 }
 
-/// The references that the renamed project will have, at the places of the old ones. The answer comes from the looks
-/// alone. `Memory` is the only error.
+/// The references that the renamed project will have, at the places of the old ones. The looks alone
+/// determine the answer. `Memory` is the only error.
 pub fn would_refs(
     alloc: Global,
     members: &Members,
@@ -119,7 +119,7 @@ fn goal_by(members: &Members, look: Option<RefLook>, old: Goal) -> Goal
     }
 }
 
-/// The links that the renamed project will have, in the order of the old ones. The answer comes from the looks alone.
+/// The links that the renamed project will have, in the order of the old ones. The looks alone determine the answer.
 /// `Memory` is the only error.
 pub fn would_links(
     alloc: Global,

@@ -20,7 +20,7 @@ use Rattle.ml_syntax.specs.Standing.{StandFrom, StandsAt}
 use Rattle.ml_trees.specs.Tok.{Tok}
 use Rattle.ml_trees.specs.Tree.{Body, Face, FileTree, UnitTree}
 use Rattle.ml_trees.specs.Words.{words}
-use Rattle.ml_syntax.proofs.Standing.{sites_stand}
+use Rattle.ml_syntax.proofs.Standing.{sites_have_their_words}
 use Rattle.binding_model.specs.Facts.{in_order, is_before, put}
 use Rattle.binding_model.specs.Renaming.{file_places, placed_sites, places}
 use Rattle.parse_module.specs.declared.files.FileKind.{FileKind}
@@ -94,7 +94,7 @@ as_many_placed file (s ∷ ss) = ap suc (as_many_placed file ss)
 
 few_sites : (t : FileTree) → IsSoundFile t → length (sites t) ≤ 1048576
 few_sites t h =
-    let stand = few_from (words t) 0 (sites t) (omega arith) (sites_stand t h.0) in
+    let stand = few_from (words t) 0 (sites t) (omega arith) (sites_have_their_words t h.0) in
     omega (arith, stand, h.2)
 
 few_in_body : (part : Option FileTree) → IsBodyPart part → length (file_places part) ≤ length (part_files part) * 1048576

@@ -1,4 +1,4 @@
-//! What is told of a value.
+//! The answers to queries on a value.
 ghost use Rattle.std.specs.Prelude.{◌≡◌, IfOk, Some, false, map};
 ghost use Rattle.lsp_answers.specs.Plain.{IsPlain};
 ghost use Rattle.ml_trees.specs.View.{view_project};

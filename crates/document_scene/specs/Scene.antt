@@ -1,4 +1,4 @@
--- What an answer is told with (own).
+-- What an answer is made from (own).
 use Rattle.std.specs.Prelude.{ℤ, List, [], ℕ, Option, None, Some, map, slice_get, string_bytes}
 use Rattle.std.specs.FinMap.{get}
 use Rattle.report.specs.Pieces.{Word}

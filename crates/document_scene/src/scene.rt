@@ -1,4 +1,4 @@
-//! What an answer is told with.
+//! What an answer is made from.
 
 use open_documents::Documents;
 use refusal_words::CutSource;

@@ -1,4 +1,4 @@
-// The laws of documents' URIs.
+//! The laws of documents' URIs.
 ghost use Rattle.document_uris.specs.Laws.{NamesItsFile, HasOneReading};
 
 /// A URI names one file at most.

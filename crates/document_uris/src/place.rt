@@ -1,4 +1,4 @@
-// A file of a folder.
+//! A file of a folder.
 ghost use Rattle.std.specs.Prelude.{◌≡◌, ◌==◌, ℕ, List, string_bytes, IfNone, IfOk, IfSome};
 ghost use Rattle.std.specs.List.{list_any};
 ghost use Rattle.document_uris.specs.Places.{IsPlace, Splits};

@@ -1,4 +1,4 @@
-// The file that a URI names.
+//! The file that a URI names.
 ghost use Rattle.std.specs.Prelude.{◌≡◌, ◌==◌, ◌<◌, ℕ, List, length, string_bytes, IfNone, IfOk, IfSome};
 ghost use Rattle.std.specs.List.{list_any, position};
 ghost use Rattle.std.specs.Option.{option_copied};

@@ -1,8 +1,7 @@
-// The URI of a file.
+//! The URI of a file.
 ghost use Rattle.std.specs.Prelude.{◌≡◌, string_bytes, IfOk};
 ghost use Rattle.document_uris.specs.Written.{path_of, separator, written_uri};
 
-use crate::place::FilePlace;
 use percent_encoding::{AsciiSet, NON_ALPHANUMERIC, ascii_set, utf8_percent_encode};
 use rotor_base::Memory;
 use std::alloc::Global;

@@ -7,7 +7,7 @@ use cli_words::{Command, WordsError, read_words};
 use rotor_base::{Memory, Name, Target, Text};
 use std::alloc::Global;
 
-/// What the words ask, and whether it is to be told as JSON.
+/// What the words ask, and whether the output is JSON.
 #[derive(Debug, Drop)]
 pub struct Asked {
     pub question: Question,

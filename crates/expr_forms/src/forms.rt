@@ -14,9 +14,8 @@ use crate::readers::Forms;
 use expr_parts::{bang, local_module, path, upper_word};
 use expr_reading::Wanted;
 use ml_trees::{Expr, Fixed, Param, Word};
-use rotor_base::Class;
 use std::alloc::Global;
-use token_reading::{Kind, ReadError, TokenTable, expect, kind_at, number, word};
+use token_reading::{Kind, ReadError, TokenTable, expect, kind_at, number};
 
 impl<
     F: Copy

@@ -6,7 +6,7 @@ ghost use Rattle.ml_trees.specs.WellFormed.{on_edge};
 ghost use Rattle.expr_reading.specs.ExprReading.{is_calm};
 ghost use Rattle.expr_parts.specs.Edges.{test_of};
 
-use ml_trees::{Case, Expr};
+use ml_trees::Expr;
 
 /// What is looked for on the right edge.
 #[derive(Clone, Copy, Debug, PartialEq, Eq)]

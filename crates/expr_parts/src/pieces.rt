@@ -17,8 +17,7 @@ use ml_trees::{Bracket, Expr, Fixed, Path, Run, Variable, Word};
 use rotor_base::Class;
 use std::alloc::Global;
 use token_reading::{
-    Kind, ReadError, TokenTable, expect, has_fixed, kind_at, more_uppers, number, text, type_run,
-    word,
+    Kind, ReadError, TokenTable, expect, kind_at, more_uppers, number, text, type_run, word,
 };
 
 /// A last `;`, if it may follow, and the place after it.

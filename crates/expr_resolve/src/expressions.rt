@@ -18,9 +18,7 @@ ghost use Rattle.expr_resolve.specs.Branches.{branches_steps};
 ghost use Rattle.expr_resolve.specs.Opened.{opened_steps};
 
 use binding_model::Found;
-use ml_trees::{
-    Argument, Binding, Branch, Case, Expr, Field, LocalModule, Param, Part, Pat, Variable, Word,
-};
+use ml_trees::{Argument, Binding, Branch, Case, Expr, Field, Param, Part, Word};
 use name_resolve::{
     end_weighed_site, go_on_with, group, resolve_opening, start_of, use_label, use_minus,
     use_name_in, use_operator, use_word,

@@ -1,4 +1,4 @@
-// A folder of the system at a path, by the calls of std alone. No clause says what they do.
+//! A folder of the system at a path, by the calls of std alone. No clause says what they do.
 ghost use Rattle.std.specs.Prelude.{◌≡◌, None};
 ghost use Rattle.std.specs.Bool.{⊤};
 

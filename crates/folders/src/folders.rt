@@ -1,4 +1,4 @@
-// Folders by their paths.
+//! Folders by their paths.
 ghost use Rattle.std.specs.Prelude.{◌≡◌, ℕ, List, Option, IfOk};
 ghost use Rattle.tree_io.specs.Outside.{FileMap};
 

@@ -1,4 +1,4 @@
-// The folders of the system.
+//! The folders of the system.
 ghost use Rattle.std.specs.Prelude.{None};
 
 use crate::folder_disk::FolderDisk;

@@ -1,4 +1,4 @@
-// Folders in memory.
+//! Folders in memory.
 ghost use Rattle.std.specs.Prelude.{◌≡◌, [], IfNone, IfOk, IfSome, Some};
 ghost use Rattle.tree_io.specs.MemTree.{mem_files};
 ghost use Rattle.tree_io.specs.Store.{HasDistinctNames, source_map};

@@ -1,4 +1,4 @@
-// The bytes of one file, as far as they are known.
+//! The bytes of one file, as far as they are known.
 ghost use Rattle.std.specs.Prelude.{◌≡◌, ◌≤◌, [], length, vec_capacity, OnOk};
 
 use rotor_base::Memory;

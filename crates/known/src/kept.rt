@@ -1,4 +1,4 @@
-// The files of a folder that was seen, and those that were made since.
+//! The files of a folder that was seen, and those that were made since.
 ghost use Rattle.std.specs.Prelude.{◌≡◌, ◌≤◌, ℕ, List, length, map, string_bytes, IfOk, IfSome, IsNone, OnOk, OnSome, IsPermutation};
 ghost use Rattle.std.specs.FinMap.{get, insert, keys};
 ghost use Rattle.tree_io.specs.Outside.{IsFront, KeepsRoom};

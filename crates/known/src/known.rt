@@ -1,4 +1,4 @@
-// A folder that was read before, and is still written.
+//! A folder that was read before, and is still written.
 ghost use Rattle.std.specs.Prelude.{◌≡◌, ◌≤◌, Some, IfErr, IfOk, IsNone, IsSome, OnOk, OnErr, length};
 ghost use Rattle.std.specs.FinMap.{get};
 ghost use Rattle.tree_io.specs.Outside.{HasCause, HasFault, IsFront, KeepsRoom, Spoils, Writes};

@@ -1,4 +1,4 @@
-// Folders that can be asked for a name which they lack.
+//! Folders that can be asked for a name which they lack.
 ghost use Rattle.std.specs.Prelude.{◌≡◌, refl, List, ℕ, IfOk, IfSome, is_some};
 ghost use Rattle.std.specs.FinMap.{get};
 ghost use Rattle.tree_io.specs.Outside.{IsFront};

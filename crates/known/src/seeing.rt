@@ -1,4 +1,4 @@
-// Seeing a folder: it is listed once, and each file that is asked is read once.
+//! Seeing a folder: it is listed once, and each file that is asked is read once.
 ghost use Rattle.std.specs.Prelude.{◌≡◌, ◌≤◌, ℕ, List, length, IfErr, IfOk, IfSome, OnErr, OnOk, is_some};
 ghost use Rattle.std.specs.Prelude.{map, string_bytes};
 ghost use Rattle.std.specs.List.{list_any};

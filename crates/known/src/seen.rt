@@ -1,4 +1,4 @@
-// What was seen of a folder.
+//! What was seen of a folder.
 ghost use Rattle.std.specs.Prelude.{◌≡◌, ◌≤◌, ℕ, List, length, map, string_bytes, IfOk, IfSome, IsSome, OnErr, OnOk, OnSome, is_some};
 ghost use Rattle.std.specs.FinMap.{empty, get, insert, keys};
 ghost use Rattle.tree_io.specs.Outside.{IsFront, KeepsRoom};

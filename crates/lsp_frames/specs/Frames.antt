@@ -86,7 +86,7 @@ abbrev pub Gives : List ℕ → Option (List ℕ) → Option (List ℕ) → Type
 Gives bytes None left = Reads bytes at_end × (left ≡ Some [])
 Gives bytes (Some body) left = (rest : List ℕ) × Reads bytes (message body rest) × (left ≡ Some rest)
 
--- what the bytes begin with where a call fails; want of memory and a fault of the reader come with any bytes
+-- what the bytes begin with where a call fails; want of memory and a fault of the reader can follow any bytes
 abbrev pub Fails : List ℕ → FrameError → Type 0
 Fails bytes Memory = ⊤
 Fails bytes (Io error) = ⊤

@@ -9,6 +9,6 @@ pub fn readings_are_one()
 {}
 
 /// Law: what a call writes for a body within the limit is read back as that body, and what is behind it is left.
-pub fn messages_come_back()
+pub fn messages_are_read_back()
     ensures { ComesBack }
 {}

@@ -9,6 +9,6 @@ mod reading;
 mod writing;
 
 pub use error::FrameError;
-pub use laws::{messages_come_back, readings_are_one};
+pub use laws::{messages_are_read_back, readings_are_one};
 pub use reading::{MAX_HEADER, MAX_MESSAGE, read_message};
 pub use writing::write_message;

@@ -8,7 +8,7 @@ use std::alloc::Global;
 use std::io::{Read, Write};
 
 /// Serves an editor, if each word is `--stdio`: it reads the messages of the input and writes one response for each
-/// request, in order. If another word stands there, it reads and writes nothing. No folder changes.
+/// request, in order. After another word it reads and writes nothing. No folder changes.
 pub fn serve_words<A: Answers, R: Read, W: Write>(
     alloc: Global,
     words: &[String],

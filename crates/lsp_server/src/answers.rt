@@ -1,4 +1,4 @@
-// What a server is asked at a place of a document.
+//! What a server is asked at a place of a document.
 ghost use Rattle.std.specs.Prelude.{◌≡◌, ℕ, List, Option, Result, IfOk};
 ghost use Rattle.tree_io.specs.Outside.{FileMap};
 ghost use Rattle.open_documents.specs.declared.workspace.Workspace.{Workspace};

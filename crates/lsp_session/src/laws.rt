@@ -1,4 +1,4 @@
-// The laws of a session.
+//! The laws of a session.
 ghost use Rattle.lsp_session.specs.Laws.{NotificationsAreNot, RequestsAreAnswered};
 
 /// Each request has one response, with its id.

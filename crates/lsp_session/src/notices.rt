@@ -1,4 +1,4 @@
-// What notifications do to the documents.
+//! What notifications do to the documents.
 ghost use Rattle.std.specs.Prelude.{◌≡◌, ℕ, List, string_bytes, IfNone, IfOk, IfSome, OnErr, OnOk};
 ghost use Rattle.std.specs.Option.{option_copied, option_map};
 ghost use Rattle.open_documents.specs.Workspace.{KeepsFolders};

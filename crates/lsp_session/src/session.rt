@@ -1,4 +1,4 @@
-// The session.
+//! The session.
 ghost use Rattle.std.specs.Prelude.{◌≡◌, ℕ, List, false, true, OnErr, OnOk, IfOk};
 ghost use Rattle.std.specs.FinMap.{empty};
 ghost use Rattle.open_documents.specs.Workspace.{KeepsFolders, documents_in};

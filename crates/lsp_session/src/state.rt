@@ -1,4 +1,4 @@
-// How far a session is.
+//! How far a session is.
 ghost use Rattle.std.specs.Prelude.{◌≡◌};
 ghost use Rattle.requests.specs.Message.{message_words};
 ghost use Rattle.lsp_session.specs.State.{state_after};

@@ -1,4 +1,4 @@
-// What is to be done about a message.
+//! What is to be done about a message.
 ghost use Rattle.std.specs.Prelude.{◌≡◌};
 ghost use Rattle.requests.specs.Asked.{query_words, result_words};
 ghost use Rattle.requests.specs.Spot.{spot_words};

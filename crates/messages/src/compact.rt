@@ -7,7 +7,7 @@ ghost use Rattle.messages.specs.Json.{bare_data, end_column as end_column_of, he
 use crate::kinds::kind_text;
 use crate::parts::{Message, Note, Spot};
 use crate::printed::severity_text;
-use rotor_base::{Memory, Row};
+use rotor_base::Memory;
 use serde_json::{Value, json};
 use std::alloc::{AllocError, Global};
 

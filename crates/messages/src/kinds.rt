@@ -2,7 +2,7 @@
 ghost use Rattle.std.specs.Prelude.{◌≡◌};
 ghost use Rattle.messages.specs.Kind.{kind_text as kind_text_of};
 
-/// The kind of a message, which stands in brackets behind its sentence.
+/// The kind of a message, printed in brackets behind its sentence.
 #[derive(Clone, Copy)]
 pub enum Kind {
     TooMany,

@@ -1,7 +1,7 @@
 //! Comments and attributes.
 
 ghost use Rattle.std.specs.Prelude.{◌≡◌, ◌+◌, ◌<◌, ◌≤◌, ◌^◌, length, drop, true, IfSome};
-ghost use Rattle.ml_lexer.specs.Trivia.{whole as whole_spec, or_one_byte as or_one_byte_spec, plain_part as plain_spec, opens_comment as opens_spec, comment_part as comment_part_spec, comment_length, attribute_part as attribute_part_spec, attribute_length, level_end, PartWithin, ReadsWithin, Reads};
+ghost use Rattle.ml_lexer.specs.Trivia.{whole as whole_spec, or_one_byte as or_one_byte_spec, plain_part as plain_spec, opens_comment as opens_spec, comment_part as comment_part_spec, comment_length, attribute_part as attribute_part_spec, attribute_length, level_end, size_of, PartWithin, ReadsWithin, Reads};
 
 use crate::bytes::{byte_at, skip};
 use crate::quotes::{char_len, opens_quoted, quoted_len, text_len};
@@ -53,6 +53,23 @@ fn plain_part(bytes: &[u8]) -> Part
         skip_whole(quoted_len(bytes))
     } else {
         or_one_byte(char_len(bytes))
+    }
+}
+
+/// How many bytes are skipped at once here, inside a comment or an attribute: those of a Text, a Quoted or a Char that
+/// ends, or one byte. The caller ensures that there is a byte, and at most 1,048,576. It takes no memory.
+pub fn part_len(bytes: &[u8]) -> usize
+    requires few { length bytes.now ≤ 2 ^ 20 }
+    requires some { 0 < length bytes.now }
+    ensures value { result ≡ size_of (plain_spec bytes.now) }
+    ensures more { 0 < result }
+    ensures within { result ≤ length bytes.now }
+{
+    match plain_part(bytes) {
+        Part::Opens(len) => len,
+        Part::Closes(len) => len,
+        Part::Whole(len) => len,
+        Part::Unended => 1,
     }
 }
 

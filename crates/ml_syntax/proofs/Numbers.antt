@@ -10,7 +10,7 @@ use Rattle.value_sites.specs.Sound.{AreNumbered}
 use Rattle.value_sites.specs.Places.{Site, sites}
 use Rattle.ml_syntax.specs.Standing.{IsWordOf, a_name, a_label, an_equals, a_sign, a_minus, StandsAt, StandFrom, AreNumberedBy, SitesAreNumbered}
 use Rattle.ml_syntax.specs.Standing.{RiseFrom, SitesAreOrdered}
-use Rattle.ml_syntax.proofs.Standing.{sites_stand}
+use Rattle.ml_syntax.proofs.Standing.{sites_have_their_words}
 
 abbrev number : Tok → Option ℕ
 number (fixed x) = None
@@ -68,7 +68,7 @@ numbered ts low (s ∷ ss) ns h =
     (h.0, h.1, omega (arith, found, place), h.2, numbered ts (suc h.0) ss ns h.3)
 
 pub sites_are_numbered : SitesAreNumbered
-sites_are_numbered t wf ns = numbered (words t) 0 (sites t) ns (sites_stand t wf)
+sites_are_numbered t wf ns = numbered (words t) 0 (sites t) ns (sites_have_their_words t wf)
 
 rise : (ts : List Tok) (low : ℕ) (ss : List Site) → AreNumberedBy ts low ss → RiseFrom low ss
 rise ts low [] h = tt

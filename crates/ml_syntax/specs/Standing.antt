@@ -56,8 +56,8 @@ StandFrom ts low [] = Unit {0}
 StandFrom ts low (s ∷ ss) = (count : ℕ) × (low ≤ count) × StandsAt ts count s × StandFrom ts (suc count) ss
 
 -- the places of a file are words of it, in their order
-abbrev pub SitesStand : Type 0
-SitesStand = (t : FileTree) → WfFile t → StandFrom (words t) 0 (sites t)
+abbrev pub SitesHaveTheirWords : Type 0
+SitesHaveTheirWords = (t : FileTree) → WfFile t → StandFrom (words t) 0 (sites t)
 
 -- their numbers are those of the words, from 1
 abbrev pub AreNumberedBy : List Tok → ℕ → List Site → Type 0

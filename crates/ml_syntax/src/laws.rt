@@ -3,7 +3,7 @@
 ghost use Rattle.value_sites.specs.Respelled.{RespellingKeepsTheTree};
 ghost use Rattle.ml_syntax.specs.RespelledFile.{LexemesAreNumbered, PartsAreNumbered, ReadFilesAreSound, RespelledTokens, RespelledFilesAreRead, SitesMayBecome, RespelledNamesAreRead};
 ghost use Rattle.value_sites.specs.SpelledSites.{SitesAreRespelled};
-ghost use Rattle.ml_syntax.specs.Standing.{NoSiteOpensAQuoted, SitesAreWords, SitesStand, SitesAreNumbered, SitesAreOrdered};
+ghost use Rattle.ml_syntax.specs.Standing.{NoSiteOpensAQuoted, SitesAreWords, SitesHaveTheirWords, SitesAreNumbered, SitesAreOrdered};
 
 /// A respelled tree is well formed, and its words are the old ones, each lower-case one respelled: as many, of the
 /// same classes, with the same tokens.
@@ -15,9 +15,9 @@ pub fn respelling_keeps_the_tree()
 /// The places of a well-formed file are among its words, each behind the one before it: a lower-case word, a label or
 /// an operator. If one that is no operator is directly behind a `{`, no word that begins with `|` is directly behind
 /// it.
-#[tactic(auto, using(crate::proofs::Standing::sites_stand))]
-pub fn sites_stand()
-    ensures { SitesStand }
+#[tactic(auto, using(crate::proofs::Standing::sites_have_their_words))]
+pub fn sites_have_their_words()
+    ensures { SitesHaveTheirWords }
 {}
 
 /// If the words of a well-formed file are numbered from 1, the number of each place is that of its word.

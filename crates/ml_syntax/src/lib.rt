@@ -10,7 +10,7 @@ pub use found::list_sites;
 pub use laws::{
     lexemes_are_numbered, read_files_are_sound, respelled_files_are_read, respelled_names_are_read,
     respelling_keeps_the_tree, sites_are_numbered, sites_are_ordered, sites_are_respelled,
-    sites_are_words, sites_stand,
+    sites_are_words, sites_have_their_words,
 };
 pub use place::{binders, puns, value_refs};
 pub use sites::Site;

@@ -1,4 +1,4 @@
-// A document that an editor holds.
+//! A document that an editor holds.
 ghost use Rattle.std.specs.Prelude.{◌≡◌, true, take, IfOk};
 
 use rotor_base::Memory;

@@ -1,4 +1,4 @@
-// The documents of a folder that an editor holds.
+//! The documents of a folder that an editor holds.
 ghost use Rattle.std.specs.Prelude.{◌≡◌, Some, false, map, string_bytes, IfOk, IfNone, IfSome, OnErr, OnOk};
 ghost use Rattle.std.specs.Option.{option_copied, option_map};
 ghost use Rattle.std.specs.FinMap.{empty, get, insert, keys, remove};

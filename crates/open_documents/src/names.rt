@@ -1,4 +1,4 @@
-// The names of a folder and of the documents in it.
+//! The names of a folder and of the documents in it.
 ghost use Rattle.std.specs.Prelude.{◌≡◌, ◌||◌, Bool, List, ℕ, map, string_bytes, IfOk};
 ghost use Rattle.std.specs.List.{list_any};
 ghost use Rattle.std.specs.List.Sorted.{IsStrictlySortedBy};

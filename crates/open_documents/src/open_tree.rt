@@ -1,4 +1,4 @@
-// A folder with the documents of an editor in place of its files.
+//! A folder with the documents of an editor in place of its files.
 ghost use Rattle.std.specs.Prelude.{◌≡◌, ◌≤◌, length, map, string_bytes, IfOk, IfSome, IsErr, IsNone, IsPermutation, IsSome, OnErr};
 ghost use Rattle.std.specs.Option.{ForSome};
 ghost use Rattle.std.specs.FinMap.{get, keys};

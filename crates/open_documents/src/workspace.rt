@@ -1,4 +1,4 @@
-// The documents of all folders that an editor holds.
+//! The documents of all folders that an editor holds.
 ghost use Rattle.std.specs.Prelude.{◌≡◌, ℕ, List, string_bytes, OnErr, OnOk};
 ghost use Rattle.std.specs.Option.{option_copied};
 ghost use Rattle.std.specs.FinMap.{empty, insert, remove};

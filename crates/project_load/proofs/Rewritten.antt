@@ -15,7 +15,7 @@ use Rattle.rotor_base.specs.declared.refusal.LoadError.{LoadError}
 use Rattle.rotor_base.proofs.Rising.{some_is, not_named}
 use Rattle.tree_io.specs.Outside.{FileMap}
 use Rattle.project_load.specs.Load.{files_in, source_names, sources_of, manifest_of, unless_refused, loaded}
-use Rattle.project_load.specs.Rewritten.{files_at, Covers, AreOthers, LoadedFilesAreAProject, NewSourcesAreLoaded, OldSourcesComeBack}
+use Rattle.project_load.specs.Rewritten.{files_at, Covers, AreOthers, LoadedFilesAreAProject, NewSourcesAreLoaded, OldSourcesAreRestored}
 use Rattle.tree_io.specs.Writes.{after}
 use Rattle.project_load.proofs.Keys.{keys_kept, get_written}
 use Rattle.project_load.proofs.Sorted.{names_rise, all_there}
@@ -255,8 +255,8 @@ module _ (held : FileMap) (old new : FileSet) (numbers : List ℕ) (is : loaded 
 pub new_sources_are_loaded : NewSourcesAreLoaded
 new_sources_are_loaded held old new numbers is others taken covers = loads held old new numbers is others covers taken
 
-pub old_sources_come_back : OldSourcesComeBack
-old_sources_come_back held old new numbers back is others covers returns = comes_back held old new numbers is others covers back returns
+pub old_sources_are_restored : OldSourcesAreRestored
+old_sources_are_restored held old new numbers back is others covers returns = comes_back held old new numbers is others covers back returns
 
 -- what is loaded is a project
 filtered : (ns : List (List ℕ)) → list_all is_source_name (filter is_source_name ns) ≡ true

@@ -33,8 +33,8 @@ NewSourcesAreLoaded =
     → loaded (after (files_at new.entries numbers) held) ≡ Ok new
 
 -- Law: and it is the folder that it was after the old sources are written again
-abbrev pub OldSourcesComeBack : Type 0
-OldSourcesComeBack =
+abbrev pub OldSourcesAreRestored : Type 0
+OldSourcesAreRestored =
     (held : FileMap) (old new : FileSet) (numbers back : List ℕ)
     → loaded held ≡ Ok old → AreOthers old new → Covers old.entries new.entries numbers → Covers new.entries old.entries back
     → after (files_at old.entries back) (after (files_at new.entries numbers) held) ≡ held

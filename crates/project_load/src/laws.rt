@@ -1,6 +1,6 @@
 //! The laws of loading, each as the contract of a function.
 ghost use Rattle.project_load.specs.Listed.{ListsAreOne};
-ghost use Rattle.project_load.specs.Rewritten.{LoadedFilesAreAProject, NewSourcesAreLoaded, OldSourcesComeBack};
+ghost use Rattle.project_load.specs.Rewritten.{LoadedFilesAreAProject, NewSourcesAreLoaded, OldSourcesAreRestored};
 
 /// If a folder loads as some files, it loads as others of the same names after those that differ are written.
 pub fn new_sources_are_loaded()
@@ -8,8 +8,8 @@ pub fn new_sources_are_loaded()
 {}
 
 /// If the old sources are written again, the folder is as it was.
-pub fn old_sources_come_back()
-    ensures { OldSourcesComeBack }
+pub fn old_sources_are_restored()
+    ensures { OldSourcesAreRestored }
 {}
 
 /// What a folder loads as is a project.

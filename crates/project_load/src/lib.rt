@@ -12,7 +12,7 @@ mod reading;
 
 pub use error::ListError;
 pub use laws::{
-    lists_are_one, loaded_files_are_a_project, new_sources_are_loaded, old_sources_come_back,
+    lists_are_one, loaded_files_are_a_project, new_sources_are_loaded, old_sources_are_restored,
 };
 pub use listed::load_list;
 pub use loading::load;

@@ -4,9 +4,8 @@ ghost use Rattle.rotor_base.specs.Limits.{max_file_bytes};
 ghost use Rattle.ml_lexer.specs.Lexed.{view_tokens};
 ghost use Rattle.reading_differences.specs.Comments.{begins_char as begins_char_of, comments_in, quote_here, quotes_in};
 
-use crate::bytes::{byte_at, front, is_identifier, skip_bytes};
 use crate::difference::{Difference, Parting};
-use crate::parts::{char_len, part_len};
+use ml_lexer::{byte_at, char_len, front, is_identifier, part_len, skip};
 use rotor_base::{Memory, Place, Token};
 
 /// Adds the quotes of a source, by its number, its bytes and its tokens.
@@ -23,7 +22,7 @@ pub(crate) fn add_comments(
     let mut number: u32 = 0;
     let mut from: u32 = 0;
     for token in tokens {
-        let rest = skip_bytes(bytes, from as usize);
+        let rest = skip(bytes, from as usize);
         let gap = front(rest, token.start.saturating_sub(from) as usize);
         add_quotes(
             found,
@@ -37,7 +36,7 @@ pub(crate) fn add_comments(
         number += 1;
         from = token.end;
     }
-    let rest = skip_bytes(bytes, from as usize);
+    let rest = skip(bytes, from as usize);
     add_quotes(
         found,
         Place {
@@ -63,7 +62,7 @@ fn add_quotes(found: &mut Vec<Difference>, at: Place, start: u32, gap: &[u8]) ->
         let len = part_len(rest);
         before = byte_at(rest, len - 1);
         offset += len as u32;
-        rest = skip_bytes(rest, len);
+        rest = skip(rest, len);
     }
     Ok(())
 }

@@ -2,12 +2,10 @@
 #![tactic(auto)]
 
 mod applied;
-mod bytes;
 mod comments;
 mod difference;
 mod indexed;
 mod late;
-mod parts;
 mod project;
 mod standard;
 

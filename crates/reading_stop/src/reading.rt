@@ -42,7 +42,7 @@ enum Frame {
 }
 
 /// A reading: its tokens, where it is, the number of tokens up to the furthest one that it looked at, the steps that
-/// come next, what it does behind them, and for each token whether the next expression of a sequence was tried there
+/// follow, what it does behind them, and for each token whether the next expression of a sequence was tried there
 /// and cannot be read.
 #[derive(Drop)]
 pub(crate) struct Reading<'a> {

@@ -13,7 +13,7 @@ use Rattle.parse_module.specs.Parts.{read_file}
 use Rattle.module_laws.proofs.LongerMod.{items_more, sig_items_more}
 use Rattle.parse_module.proofs.Whole.{no_tree, tree_of}
 use Rattle.refusal_places.specs.Front.{behind_items, front_of, is_in, items_end, last_let}
-use Rattle.refusal_places.specs.Laws.{AreRead, FrontsTellReading}
+use Rattle.refusal_places.specs.Laws.{AreRead, FrontsDetermineReading}
 use Rattle.refusal_places.proofs.Ending.{fronts_end_items}
 use Rattle.refusal_places.proofs.Fronts.{toks_length}
 
@@ -87,6 +87,6 @@ read_some k file xs None h read =
     let all = count xs in
     absurd (no_tree k file (length xs + 1) (lexeme_toks 1 xs) (omega (arith, all)) h read.0 read.1.of_file read.1.wf read.1.reads)
 
-pub fronts_tell_reading : FrontsTellReading
-fronts_tell_reading k file xs =
+pub fronts_determine_reading : FrontsDetermineReading
+fronts_determine_reading k file xs =
     (λ h. read_by k file xs (none_behind k xs h), λ read. read_some k file xs (read_file k file (length xs + 1) (lexeme_toks 1 xs)) refl read)

@@ -24,5 +24,5 @@ abbrev pub AreRead : FileKind → ℕ → List Lexeme → Type 0
 AreRead k file xs = (t : FileTree) × IsTreeOf k file (lexeme_toks 1 xs) t
 
 -- no lexeme is behind the front, exactly if the source is read
-abbrev pub FrontsTellReading : Type 0
-FrontsTellReading = (k : FileKind) (file : ℕ) (xs : List Lexeme) → (front_of k xs ≡ length xs) ↔ AreRead k file xs
+abbrev pub FrontsDetermineReading : Type 0
+FrontsDetermineReading = (k : FileKind) (file : ℕ) (xs : List Lexeme) → (front_of k xs ≡ length xs) ↔ AreRead k file xs

@@ -27,7 +27,7 @@ use capture_check::local_fault_of;
 use mod_shape::looks;
 use project_reading::Read;
 use rename_parts::{find_first_over, judge_foot, new_source, refusal_of_fault};
-use rotor_base::{Facts, Files, Memory, Place, Refusal, SourceFile, Token, Watch};
+use rotor_base::{Facts, Files, Memory, Place, Refusal, SourceFile, Watch};
 use std::alloc::Global;
 use std::collections::BTreeSet;
 use value_places::PlacedProject;

@@ -1,4 +1,4 @@
-// What a client can do.
+//! What a client can do.
 ghost use Rattle.std.specs.Prelude.{◌≡◌, option_map};
 ghost use Rattle.serde_json.specs.View.{items_view, view};
 ghost use Rattle.requests.specs.Client.{capability, client_of, encoding_of, encodings, first_encoding, is_set, known_encoding};

@@ -1,4 +1,4 @@
-// JSON, as the bytes of a message write it.
+//! JSON, as the bytes of a message write it.
 ghost use Rattle.std.specs.Prelude.{IfNone, IfOk, IfSome};
 ghost use Rattle.serde_json.specs.Data.{Data};
 ghost use Rattle.serde_json.specs.View.{view};

@@ -1,4 +1,4 @@
-// The methods of requests.
+//! The methods of requests.
 ghost use Rattle.std.specs.Prelude.{◌≡◌};
 ghost use Rattle.requests.specs.Method.{method_named};
 

@@ -1,4 +1,4 @@
-// Notifications.
+//! Notifications.
 ghost use Rattle.std.specs.Prelude.{◌≡◌, option_map};
 ghost use Rattle.std.specs.Option.{option_copied};
 ghost use Rattle.serde_json.specs.View.{items_view, view};

@@ -1,4 +1,4 @@
-// A place of a document that a request names.
+//! A place of a document that a request names.
 ghost use Rattle.std.specs.Prelude.{◌≡◌, option_map};
 ghost use Rattle.serde_json.specs.View.{view};
 ghost use Rattle.requests.specs.Spot.{count_at, position_of, spot_of, spot_words, uri_of};

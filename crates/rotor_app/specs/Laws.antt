@@ -4,7 +4,7 @@ use Rattle.std.specs.Prelude.{◌≡◌, Option}
 use Rattle.tree_io.specs.Outside.{FileMap}
 use Rattle.cli_words.specs.declared.command.Command.{Command}
 use Rattle.project_load.specs.Listed.{ListsAreOne}
-use Rattle.project_load.specs.Rewritten.{LoadedFilesAreAProject, NewSourcesAreLoaded, OldSourcesComeBack}
+use Rattle.project_load.specs.Rewritten.{LoadedFilesAreAProject, NewSourcesAreLoaded, OldSourcesAreRestored}
 use Rattle.cli_words.specs.Laws.{UndosAreRead}
 use Rattle.rename_laws.specs.Laws.{ChangesAreListed, RenamingsRewrite, RenamingsAreUndone, RenamingsAreValid, UndosHavePlaces, RenamingsKeepFacts}
 use Rattle.rename_laws.specs.Laws.{RenamingsKeepRuns, FootprintsAreLeast, ShownAreLeast, ShownOutsideIsKept}
@@ -16,7 +16,7 @@ use Rattle.rotor_app.specs.Said.{Says}
 pub record HasLaws : Type 0 where
   pub project : LoadedFilesAreAProject
   pub loaded_new : NewSourcesAreLoaded
-  pub old_back : OldSourcesComeBack
+  pub old_back : OldSourcesAreRestored
   pub undos : UndosAreRead
   pub rewrite : RenamingsRewrite
   pub undone : RenamingsAreUndone

@@ -14,7 +14,7 @@ use crate::reply::Reply;
 use crate::status::Status;
 use cli_words::undos_are_read;
 use project_load::{
-    lists_are_one, loaded_files_are_a_project, new_sources_are_loaded, old_sources_come_back,
+    lists_are_one, loaded_files_are_a_project, new_sources_are_loaded, old_sources_are_restored,
 };
 use rename_batch::{
     batches_are_undone, batches_keep_runs, batches_rewrite, undos_are_read as batch_undos_are_read,
@@ -107,7 +107,7 @@ fn recall_laws()
 {
     loaded_files_are_a_project();
     new_sources_are_loaded();
-    old_sources_come_back();
+    old_sources_are_restored();
     undos_are_read();
     renamings_rewrite();
     renamings_are_undone();

@@ -1,4 +1,4 @@
-// How a run ended.
+//! How a run ended.
 ghost use Rattle.std.specs.Prelude.{◌≡◌};
 ghost use Rattle.rotor_run.specs.Run.{IsUnseen};
 

@@ -1,5 +1,5 @@
-// Reading what a command may ask. The calls that read it are those of the command, in its order, so that the bounds of
-// loading are kept, and the first fault is the command's.
+//! Reading what a command may ask. The calls that read it are those of the command, in its order, so that the bounds of
+//! loading are kept, and the first fault is the command's.
 ghost use Rattle.std.specs.Prelude.{◌≡◌, IfErr, IfOk};
 ghost use Rattle.known.specs.Known.{known_faults, known_tree};
 ghost use Rattle.known.specs.Seeing.{seeing_tree};

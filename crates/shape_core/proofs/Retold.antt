@@ -21,9 +21,9 @@ pub mapped-then : {A B : Type 0} (f : A → B) (a b : Trace A) → mapped f (a &
 unfolding ◌&◌
 mapped-then f a b = ap (λ l. record { told = l; work = a.work + b.work }) (map-append f a.told b.told)
 
-module _ {A B : Type 0} (f : A → B) (tell : Name → Goal → Entries → Option Entries → A) where
+module _ {A B : Type 0} (f : A → B) (keep : Name → Goal → Entries → Option Entries → A) where
   abbrev pub after : Name → Goal → Entries → Option Entries → B
-  after x g rest src = f (tell x g rest src)
+  after x g rest src = f (keep x g rest src)
 
   two : (a b : Trace A) (a' b' : Trace B) → mapped f a ≡ a' → mapped f b ≡ b' → mapped f (a & b) ≡ a' & b'
   two a b a' b' h k = mapped-then f a b ∙ ap (λ l. l & mapped f b) h ∙ ap (λ l. a' & l) k
@@ -36,30 +36,30 @@ module _ {A B : Type 0} (f : A → B) (tell : Name → Goal → Entries → Opti
   shown (Some u) a a' h = refl
 
   mutual
-    pub pin-mapped : (s : Shape) → mapped f (pin tell s) ≡ pin after s
+    pub pin-mapped : (s : Shape) → mapped f (pin keep s) ≡ pin after s
     pin-mapped (Struct es) = two a_step _ a_step _ refl (pin_entries-mapped es)
     pin-mapped (Functor p r) = three a_step _ _ a_step _ _ refl (pin-mapped p) (pin-mapped r)
     pin-mapped (Unitary r) = two a_step _ a_step _ refl (pin-mapped r)
     pin-mapped Opaque = refl
 
-    pin_entries-mapped : (es : Entries) → mapped f (pin_entries tell es) ≡ pin_entries after es
+    pin_entries-mapped : (es : Entries) → mapped f (pin_entries keep es) ≡ pin_entries after es
     pin_entries-mapped none = refl
-    pin_entries-mapped (a_val x g es) = two (one (tell x g es None)) _ (one (after x g es None)) _ refl (pin_entries-mapped es)
+    pin_entries-mapped (a_val x g es) = two (one (keep x g es None)) _ (one (after x g es None)) _ refl (pin_entries-mapped es)
     pin_entries-mapped (a_mod X s es) = three a_step _ _ a_step _ _ refl (shown (find_mod es X) _ _ (pin-mapped s)) (pin_entries-mapped es)
     pin_entries-mapped (a_mty S s es) = three a_step _ _ a_step _ _ refl (shown (find_mty es S) _ _ (pin-mapped s)) (pin_entries-mapped es)
     pin_entries-mapped (a_dark at es) = two a_step _ a_step _ refl (pin_entries-mapped es)
 
-  pin_vals-mapped : (es : Entries) → mapped f (pin_vals tell es) ≡ pin_vals after es
+  pin_vals-mapped : (es : Entries) → mapped f (pin_vals keep es) ≡ pin_vals after es
   pin_vals-mapped none = refl
-  pin_vals-mapped (a_val x g es) = two (one (tell x g es None)) _ (one (after x g es None)) _ refl (pin_vals-mapped es)
+  pin_vals-mapped (a_val x g es) = two (one (keep x g es None)) _ (one (after x g es None)) _ refl (pin_vals-mapped es)
   pin_vals-mapped (a_mod X s es) = pin_vals-mapped es
   pin_vals-mapped (a_mty S s es) = pin_vals-mapped es
   pin_vals-mapped (a_dark at es) = pin_vals-mapped es
 
   entries-mapped : (go : Shape → Shape → Trace A) (go' : Shape → Shape → Trace B) → ((s t : Shape) → mapped f (go s t) ≡ go' s t) → (src ts : Entries)
-      → mapped f (match_entries tell go src ts) ≡ match_entries after go' src ts
+      → mapped f (match_entries keep go src ts) ≡ match_entries after go' src ts
   entries-mapped go go' h src none = refl
-  entries-mapped go go' h src (a_val x g ts) = two (one (tell x g ts (Some src))) _ (one (after x g ts (Some src))) _ refl
+  entries-mapped go go' h src (a_val x g ts) = two (one (keep x g ts (Some src))) _ (one (after x g ts (Some src))) _ refl
       (entries-mapped go go' h src ts)
   entries-mapped go go' h src (a_mod X t ts) = three a_step _ _ a_step _ _ refl (shown (find_mod ts X) _ _ (h (or_empty (find_mod src X)) t))
       (entries-mapped go go' h src ts)
@@ -69,7 +69,7 @@ module _ {A B : Type 0} (f : A → B) (tell : Name → Goal → Entries → Opti
   entries-mapped go go' h src (a_dark at ts) = three a_step _ _ a_step _ _ refl (pin_vals-mapped src) (entries-mapped go go' h src ts)
 
   level-mapped : (go : Shape → Shape → Trace A) (go' : Shape → Shape → Trace B) → ((s t : Shape) → mapped f (go s t) ≡ go' s t) → (s t : Shape)
-      → mapped f (match_step tell go s t) ≡ match_step after go' s t
+      → mapped f (match_step keep go s t) ≡ match_step after go' s t
   level-mapped go go' h (Struct es) (Struct ts) = two a_step _ a_step _ refl (entries-mapped go go' h es ts)
   level-mapped go go' h (Struct es) (Functor q t) = three a_step _ _ a_step _ _ refl (pin-mapped (Functor q t)) (pin-mapped (Struct es))
   level-mapped go go' h (Struct es) (Unitary t) = three a_step _ _ a_step _ _ refl (pin-mapped (Unitary t)) (pin-mapped (Struct es))
@@ -87,11 +87,11 @@ module _ {A B : Type 0} (f : A → B) (tell : Name → Goal → Entries → Opti
   level-mapped go go' h Opaque (Unitary t) = three a_step _ _ a_step _ _ refl (pin-mapped (Unitary t)) (pin-mapped Opaque)
   level-mapped go go' h Opaque Opaque = refl
 
-  levels-mapped : (n : ℕ) (s t : Shape) → mapped f (match_to tell n s t) ≡ match_to after n s t
+  levels-mapped : (n : ℕ) (s t : Shape) → mapped f (match_to keep n s t) ≡ match_to after n s t
   levels-mapped zero s t = refl
-  levels-mapped (suc n) s t = level-mapped (match_to tell n) (match_to after n) (levels-mapped n) s t
+  levels-mapped (suc n) s t = level-mapped (match_to keep n) (match_to after n) (levels-mapped n) s t
 
-  pub matched-mapped : (s t : Shape) → mapped f (matched tell s t) ≡ matched after s t
+  pub matched-mapped : (s t : Shape) → mapped f (matched keep s t) ≡ matched after s t
   unfolding matched
   matched-mapped s t = levels-mapped (suc (depth s + depth t)) s t
 
@@ -115,7 +115,7 @@ links-work w s t = ap (λ t. t.work) (links-items w s t)
 pub pinned-work : (w : Words) (s : Shape) → (pinned (spell_shape w s)).work ≡ (pinned s).work
 pinned-work w s = ap (λ t. t.work) (pinned-items w s)
 
--- the number of results of a match does not depend on `tell`
+-- the number of results of a match does not depend on `keep`
 abbrev nothing_of : {A : Type 0} → A → ℕ
 nothing_of a = 0
 
@@ -123,9 +123,9 @@ length-map : {A B : Type 0} (f : A → B) (xs : List A) → length (map f xs) �
 length-map f [] = refl
 length-map f (x ∷ xs) = ap suc (length-map f xs)
 
-pub told-number : {A B : Type 0} (tell : Name → Goal → Entries → Option Entries → A) (other : Name → Goal → Entries → Option Entries → B)
-    (s t : Shape) → length (matched tell s t).told ≡ length (matched other s t).told
-told-number tell other s t =
-    sym (length-map nothing_of (matched tell s t).told)
-    ∙ ap (λ z. length z.told) (matched-mapped nothing_of tell s t ∙ sym (matched-mapped nothing_of other s t))
+pub told-number : {A B : Type 0} (keep : Name → Goal → Entries → Option Entries → A) (other : Name → Goal → Entries → Option Entries → B)
+    (s t : Shape) → length (matched keep s t).told ≡ length (matched other s t).told
+told-number keep other s t =
+    sym (length-map nothing_of (matched keep s t).told)
+    ∙ ap (λ z. length z.told) (matched-mapped nothing_of keep s t ∙ sym (matched-mapped nothing_of other s t))
     ∙ length-map nothing_of (matched other s t).told

@@ -124,10 +124,10 @@ module _ (w : Words) where
   src_mty : (es : Entries) (S : Name) → or_empty (find_mty (spell_entries w es) S) ≡ spell_shape w (or_empty (find_mty es S))
   src_mty es S = ap or_empty (find_mtys-spell es S) ∙ or_empty-over (find_mty es S)
 
-  -- the match of respelled shapes is the match of the shapes with respelled arguments of `tell`
-  module _ {A : Type 0} (tell : Name → Goal → Entries → Option Entries → A) where
+  -- the match of respelled shapes is the match of the shapes with respelled arguments of `keep`
+  module _ {A : Type 0} (keep : Name → Goal → Entries → Option Entries → A) where
     abbrev pub retold : Name → Goal → Entries → Option Entries → A
-    retold x g rest src = tell (spell_at w g x) g (spell_entries w rest) (over (spell_entries w) src)
+    retold x g rest src = keep (spell_at w g x) g (spell_entries w rest) (over (spell_entries w) src)
 
     part : {U : Type 0} (o : Option U) (o' : Option U) (a a' b b' : Trace A) → unless_some o a nothing ≡ unless_some o' a nothing → a ≡ a' → b ≡ b'
         → a_step & unless_some o a nothing & b ≡ a_step & unless_some o' a' nothing & b'
@@ -143,22 +143,22 @@ module _ (w : Words) where
     shown_mty es S a = ap (λ o. unless_some o a nothing) (find_mtys-spell es S) ∙ unless_some-over (spell_shape w) (find_mty es S) a nothing
 
     mutual
-      pub pin-spell : (s : Shape) → pin tell (spell_shape w s) ≡ pin retold s
+      pub pin-spell : (s : Shape) → pin keep (spell_shape w s) ≡ pin retold s
       pin-spell (Struct es) = ap (λ l. a_step & l) (pin_entries-spell es)
-      pin-spell (Functor p r) = ap (λ l. a_step & l & pin tell (spell_shape w r)) (pin-spell p) ∙ ap (λ l. a_step & pin retold p & l) (pin-spell r)
+      pin-spell (Functor p r) = ap (λ l. a_step & l & pin keep (spell_shape w r)) (pin-spell p) ∙ ap (λ l. a_step & pin retold p & l) (pin-spell r)
       pin-spell (Unitary r) = ap (λ l. a_step & l) (pin-spell r)
       pin-spell Opaque = refl
 
-      pub pin_entries-spell : (es : Entries) → pin_entries tell (spell_entries w es) ≡ pin_entries retold es
+      pub pin_entries-spell : (es : Entries) → pin_entries keep (spell_entries w es) ≡ pin_entries retold es
       pin_entries-spell none = refl
       pin_entries-spell (a_val x g es) = ap (λ l. one (retold x g es None) & l) (pin_entries-spell es)
-      pin_entries-spell (a_mod X s es) = part (find_mod (spell_entries w es) X) (find_mod es X) _ _ _ _ (shown_mod es X (pin tell (spell_shape w s)))
+      pin_entries-spell (a_mod X s es) = part (find_mod (spell_entries w es) X) (find_mod es X) _ _ _ _ (shown_mod es X (pin keep (spell_shape w s)))
           (pin-spell s) (pin_entries-spell es)
-      pin_entries-spell (a_mty S s es) = part (find_mty (spell_entries w es) S) (find_mty es S) _ _ _ _ (shown_mty es S (pin tell (spell_shape w s)))
+      pin_entries-spell (a_mty S s es) = part (find_mty (spell_entries w es) S) (find_mty es S) _ _ _ _ (shown_mty es S (pin keep (spell_shape w s)))
           (pin-spell s) (pin_entries-spell es)
       pin_entries-spell (a_dark at es) = ap (λ l. a_step & l) (pin_entries-spell es)
 
-    pub pin_vals-spell : (es : Entries) → pin_vals tell (spell_entries w es) ≡ pin_vals retold es
+    pub pin_vals-spell : (es : Entries) → pin_vals keep (spell_entries w es) ≡ pin_vals retold es
     pin_vals-spell none = refl
     pin_vals-spell (a_val x g es) = ap (λ l. one (retold x g es None) & l) (pin_vals-spell es)
     pin_vals-spell (a_mod X s es) = pin_vals-spell es
@@ -166,7 +166,7 @@ module _ (w : Words) where
     pin_vals-spell (a_dark at es) = pin_vals-spell es
 
     entries-spell : (go go' : Shape → Shape → Trace A) → ((s t : Shape) → go (spell_shape w s) (spell_shape w t) ≡ go' s t) → (src ts : Entries)
-        → match_entries tell go (spell_entries w src) (spell_entries w ts) ≡ match_entries retold go' src ts
+        → match_entries keep go (spell_entries w src) (spell_entries w ts) ≡ match_entries retold go' src ts
     entries-spell go go' h src none = refl
     entries-spell go go' h src (a_val x g ts) = ap (λ l. one (retold x g ts (Some src)) & l) (entries-spell go go' h src ts)
     entries-spell go go' h src (a_mod X t ts) =
@@ -178,14 +178,14 @@ module _ (w : Words) where
         (ap (λ z. go z (spell_shape w t) & go (spell_shape w t) z) (src_mty src S) ∙ ap (λ l. l & go (spell_shape w t) (spell_shape w s)) (h s t)
         ∙ ap (λ l. go' s t & l) (h t s))
         (entries-spell go go' h src ts)
-    entries-spell go go' h src (a_dark at ts) = ap (λ l. a_step & l & match_entries tell go (spell_entries w src) (spell_entries w ts))
+    entries-spell go go' h src (a_dark at ts) = ap (λ l. a_step & l & match_entries keep go (spell_entries w src) (spell_entries w ts))
         (pin_vals-spell src) ∙ ap (λ l. a_step & pin_vals retold src & l) (entries-spell go go' h src ts)
 
-    both-spell : (s t : Shape) → a_step & pin tell (spell_shape w t) & pin tell (spell_shape w s) ≡ a_step & pin retold t & pin retold s
-    both-spell s t = ap (λ l. a_step & l & pin tell (spell_shape w s)) (pin-spell t) ∙ ap (λ l. a_step & pin retold t & l) (pin-spell s)
+    both-spell : (s t : Shape) → a_step & pin keep (spell_shape w t) & pin keep (spell_shape w s) ≡ a_step & pin retold t & pin retold s
+    both-spell s t = ap (λ l. a_step & l & pin keep (spell_shape w s)) (pin-spell t) ∙ ap (λ l. a_step & pin retold t & l) (pin-spell s)
 
     level-spell : (go go' : Shape → Shape → Trace A) → ((s t : Shape) → go (spell_shape w s) (spell_shape w t) ≡ go' s t) → (s t : Shape)
-        → match_step tell go (spell_shape w s) (spell_shape w t) ≡ match_step retold go' s t
+        → match_step keep go (spell_shape w s) (spell_shape w t) ≡ match_step retold go' s t
     level-spell go go' h (Struct es) (Struct ts) = ap (λ l. a_step & l) (entries-spell go go' h es ts)
     level-spell go go' h (Struct es) (Functor q t) = both-spell (Struct es) (Functor q t)
     level-spell go go' h (Struct es) (Unitary t) = both-spell (Struct es) (Unitary t)
@@ -204,13 +204,13 @@ module _ (w : Words) where
     level-spell go go' h Opaque (Unitary t) = both-spell Opaque (Unitary t)
     level-spell go go' h Opaque Opaque = refl
 
-    levels-spell : (n : ℕ) (s t : Shape) → match_to tell n (spell_shape w s) (spell_shape w t) ≡ match_to retold n s t
+    levels-spell : (n : ℕ) (s t : Shape) → match_to keep n (spell_shape w s) (spell_shape w t) ≡ match_to retold n s t
     levels-spell zero s t = refl
-    levels-spell (suc n) s t = level-spell (match_to tell n) (match_to retold n) (levels-spell n) s t
+    levels-spell (suc n) s t = level-spell (match_to keep n) (match_to retold n) (levels-spell n) s t
 
-    pub matched-spell : (s t : Shape) → matched tell (spell_shape w s) (spell_shape w t) ≡ matched retold s t
+    pub matched-spell : (s t : Shape) → matched keep (spell_shape w s) (spell_shape w t) ≡ matched retold s t
     unfolding matched
     matched-spell s t =
-        ap (λ n. match_to tell (suc (n + depth (spell_shape w t))) (spell_shape w s) (spell_shape w t)) (depth-spell s)
-        ∙ ap (λ n. match_to tell (suc (depth s + n)) (spell_shape w s) (spell_shape w t)) (depth-spell t)
+        ap (λ n. match_to keep (suc (n + depth (spell_shape w t))) (spell_shape w s) (spell_shape w t)) (depth-spell s)
+        ∙ ap (λ n. match_to keep (suc (depth s + n)) (spell_shape w s) (spell_shape w t)) (depth-spell t)
         ∙ levels-spell (suc (depth s + depth t)) s t

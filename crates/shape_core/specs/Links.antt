@@ -32,10 +32,10 @@ abbrev pub or_empty : Option Shape → Shape
 or_empty o = or_value o (Struct none)
 
 -- The rules of matching, pinning and work (the manual: Module types, and the matching of structures with signatures
--- there). `tell` returns what is kept of each link. Its first arguments are the name and the goal of the item, and the
+-- there). `keep` returns what is kept of each link. Its first arguments are the name and the goal of the item, and the
 -- entries after the item in its own list. The last is the list in which its source is looked up, or None if the link is
 -- pinned.
-module _ {A : Type 0} (tell : Name → Goal → Entries → Option Entries → A) where
+module _ {A : Type 0} (keep : Name → Goal → Entries → Option Entries → A) where
   abbrev mutual
     -- Pin
     pub pin : Shape → Trace A
@@ -46,7 +46,7 @@ module _ {A : Type 0} (tell : Name → Goal → Entries → Option Entries → A
 
     pub pin_entries : Entries → Trace A
     pin_entries none = nothing
-    pin_entries (a_val x g es) = one (tell x g es None) & pin_entries es
+    pin_entries (a_val x g es) = one (keep x g es None) & pin_entries es
     pin_entries (a_mod X s es) = a_step & unless_some (find_mod es X) (pin s) nothing & pin_entries es
     pin_entries (a_mty S s es) = a_step & unless_some (find_mty es S) (pin s) nothing & pin_entries es
     pin_entries (a_dark at es) = a_step & pin_entries es
@@ -54,7 +54,7 @@ module _ {A : Type 0} (tell : Name → Goal → Entries → Option Entries → A
   -- what a Dark entry of a target gives: a link for each value of the source
   abbrev pub pin_vals : Entries → Trace A
   pin_vals none = nothing
-  pin_vals (a_val x g es) = one (tell x g es None) & pin_vals es
+  pin_vals (a_val x g es) = one (keep x g es None) & pin_vals es
   pin_vals (a_mod X s es) = pin_vals es
   pin_vals (a_mty S s es) = pin_vals es
   pin_vals (a_dark at es) = pin_vals es
@@ -62,7 +62,7 @@ module _ {A : Type 0} (tell : Name → Goal → Entries → Option Entries → A
   -- two structures, of which `go` matches the parts: the entries of the target in order
   abbrev pub match_entries : (Shape → Shape → Trace A) → Entries → Entries → Trace A
   match_entries go src none = nothing
-  match_entries go src (a_val x g es) = one (tell x g es (Some src)) & match_entries go src es
+  match_entries go src (a_val x g es) = one (keep x g es (Some src)) & match_entries go src es
   match_entries go src (a_mod X t es) =
       a_step & unless_some (find_mod es X) (go (or_empty (find_mod src X)) t) nothing & match_entries go src es
   match_entries go src (a_mty S t es) =

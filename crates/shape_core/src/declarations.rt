@@ -71,7 +71,7 @@ impl Declarations {
         last
     }
 
-    // The last value of a declaration.
+    /// The last value of a declaration.
     fn spot(&self, decl: Place, darks: u64) -> Option<LookSpot>
         ensures { result ≡ spot_of decl darks (get place_cmp self.now.last_values decl) }
     {
@@ -85,7 +85,7 @@ impl Declarations {
     }
 }
 
-// The declaration that an entry is, if it is one.
+/// The declaration that an entry is, if it is one.
 fn declaration_in(entry: &SharedEntry) -> Option<Place>
     ensures { result ≡ declared_in entry.now }
 {
@@ -109,7 +109,7 @@ fn declaration_of(goal: Goal) -> Option<Place>
     }
 }
 
-// The later one of two spots.
+/// The later one of two spots.
 fn take_later(one: Option<LookSpot>, other: Option<LookSpot>) -> Option<LookSpot>
     ensures { result ≡ later one other }
 {

@@ -83,7 +83,7 @@ impl Drop for Index {
 }
 
 impl Tables {
-    // Takes in the entry at a position. An `Err` changes nothing that the tables hold.
+    /// Takes in the entry at a position. An `Err` changes nothing that the tables hold.
     fn note(
         &mut self,
         alloc: Global,
@@ -131,7 +131,7 @@ impl Tables {
         }
     }
 
-    // Takes the last entry out.
+    /// Takes the last entry out.
     fn forget(&mut self, entry: &SharedEntry, before: Before)
         requires { (list : List SharedEntry) × Tells self.old (list ++ entry.now ∷ []) }
         ensures { (list : List SharedEntry) → Tells self.old (list ++ entry.now ∷ []) → before ≡ before_of list entry.now → Tells self.new list }
@@ -220,7 +220,7 @@ impl Index {
         }
     }
 
-    // The same of the entry at the position.
+    /// The same of the entry at the position.
     fn is_entry_shown(&self, entry: &SharedEntry, at: usize) -> bool
         ensures { (list : List SharedEntry) → IsIndexOf self.now list → slice_get list at ≡ Some entry.now → result ≡ pure.is_shown (pure.entries_from at (entries_of list)) }
     {
@@ -289,7 +289,7 @@ impl Index {
         None
     }
 
-    // The last value that had the name of the value at a position, before that position.
+    /// The last value that had the name of the value at a position, before that position.
     fn spot_before(&self, position: usize) -> Option<Spot>
         ensures { result ≡ spot_in (slice_get self.now.befores.items position) }
     {
@@ -307,7 +307,7 @@ impl Index {
     }
 }
 
-// Adds what an entry changed, and its position if it is a value. An `Err` changes neither list.
+/// Adds what an entry changed, and its position if it is a value. An `Err` changes neither list.
 fn record(
     befores: &mut Vec<Before>,
     values: &mut Vec<usize>,
@@ -330,7 +330,7 @@ fn record(
     }
 }
 
-// Adds the position of an entry that is a value. An `Err` changes nothing.
+/// Adds the position of an entry that is a value. An `Err` changes nothing.
 fn add_value(values: &mut Vec<usize>, entry: &SharedEntry, position: usize) -> Result<(), Memory>
     ensures added { OnOk result (values.new.items ≡ values.old.items ++ pure.values_from position (and_then entry.now pure.none)) }
     ensures kept { OnErr result (values.new.items ≡ values.old.items) }
@@ -343,7 +343,7 @@ fn add_value(values: &mut Vec<usize>, entry: &SharedEntry, position: usize) -> R
     }
 }
 
-// Removes the position of the last entry, if that is a value.
+/// Removes the position of the last entry, if that is a value.
 fn take_value_out(values: &mut Vec<usize>, entry: &SharedEntry)
     ensures { (front : List ℕ) (position : ℕ) → values.old.items ≡ front ++ pure.values_from position (and_then entry.now pure.none) → values.new.items ≡ front }
 {
@@ -394,7 +394,7 @@ fn module_type_at(list: &[SharedEntry], position: Option<usize>) -> Option<&Shar
 }
 
 impl Tables {
-    // What a look-up of a value has seen of the list.
+    /// What a look-up of a value has seen of the list.
     fn find_seen(&self, name: &[u8]) -> Seen
         ensures { (list : List SharedEntry) → Tells self.now list → Sees (entries_of list) name.now result }
     {

@@ -78,7 +78,7 @@ impl Members {
         Ok(())
     }
 
-    // Notes the next entry.
+    /// Notes the next entry.
     fn note_next(&mut self, entries: &[SharedEntry], set: &BTreeSet<Place>) -> Result<(), Memory>
         requires members { HasPlaces self.old.decls.items set.now }
         requires has { HasMembers self.old entries.now }
@@ -93,7 +93,7 @@ impl Members {
         Ok(())
     }
 
-    // Adds what the next entry is.
+    /// Adds what the next entry is.
     fn add(&mut self, entry: &SharedEntry, set: &BTreeSet<Place>) -> Result<(), Memory>
         requires members { HasPlaces self.old.decls.items set.now }
         ensures spots { OnOk result (self.new.spots.items ≡ self.old.spots.items ++ spot_at self.old.decls.items self.old.noted self.old.darks entry.now) }
@@ -169,14 +169,14 @@ pub fn is_among(goal: Goal, set: &BTreeSet<Place>) -> bool
     }
 }
 
-// The last of some spots.
+/// The last of some spots.
 fn final_spot(spots: &[Spot]) -> Option<Spot>
     ensures { result ≡ final spots.now }
 {
     spots.last().copied()
 }
 
-// Whether two lists of places are the same.
+/// Whether two lists of places are the same.
 fn are_same(some: &[Place], others: &[Place]) -> bool
     ensures { result ≡ true → some.now ≡ others.now }
 {

@@ -71,7 +71,7 @@ fn declaration(found: Option<Goal>) -> Option<Place>
     }
 }
 
-// One entry more is seen.
+/// One entry more is seen.
 #[tactic(auto, using(crate::proofs::Seen::seen_rules), unfolding(crate::specs::View::view_then))]
 fn see(seen: Seen, entry: &Entry, name: &[u8]) -> Seen
     requires { seen.passed < 2 ^ 63 }
@@ -170,7 +170,7 @@ fn mty_named<'a>(entry: &'a Entry, name: &[u8]) -> Option<&'a Shape>
     }
 }
 
-// The goal of the last value of that name, whatever follows it.
+/// The goal of the last value of that name, whatever follows it.
 fn last_val(list: &[Entry], name: &[u8]) -> Option<Goal>
     ensures { result ≡ pure.last_of (pure.vals (entries list.now)) name.now }
 {
@@ -203,7 +203,7 @@ pub fn find_mty<'a>(list: &'a [Entry], name: &[u8]) -> Option<&'a Shape>
     last
 }
 
-// A step into a shape.
+/// A step into a shape.
 #[tactic(auto, using(crate::proofs::Views::step_struct), unfolding(crate::specs::View::view_shape))]
 fn step<'a>(shape: &'a Shape, name: &[u8]) -> Option<&'a Shape>
     ensures { found_shape result ≡ pure.step (view_shape shape.now) name.now }
@@ -225,7 +225,7 @@ fn step_from<'a>(at: Option<&'a Shape>, name: &[u8]) -> Option<&'a Shape>
     }
 }
 
-// The shape at the end of a path inside a shape.
+/// The shape at the end of a path inside a shape.
 fn step_inside<'a>(start: Option<&'a Shape>, path: &[Name]) -> Option<&'a Shape>
     ensures { found_shape result ≡ pure.inside (found_shape start.entry) path.now }
 {

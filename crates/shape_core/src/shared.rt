@@ -129,7 +129,7 @@ impl Clone for Shared {
     }
 }
 
-// The shape of a form, unless it is too deep.
+/// The shape of a form, unless it is too deep.
 fn make(alloc: Global, form: Form, weight: u64, levels: usize) -> Result<Shared, Memory>
     requires weight { weight ≡ pure.capped (pure.weight (shape_of form)) }
     requires levels { levels ≡ pure.depth (shape_of form) }

@@ -49,7 +49,7 @@ pub fn pin(alloc: Global, shape: &Shared, room: u32) -> Result<Matched, Memory>
     make_matched(alloc, walked, &found)
 }
 
-// The answer after a walk.
+/// The answer after a walk.
 fn make_matched(alloc: Global, walked: Result<(), Stop>, found: &Found) -> Result<Matched, Memory>
     ensures { IfOk result (IsAnswer walked found.now) }
 {
@@ -104,7 +104,7 @@ fn link_at(meeting: &Meeting) -> Option<Link>
     }
 }
 
-// What the look-up of a visible value gives, or `Outside` if the value is pinned.
+/// What the look-up of a visible value gives, or `Outside` if the value is pinned.
 fn source_of(source: Option<&Shared>, name: &[u8]) -> Goal
     ensures { result ≡ links.source_of (list_in source.entry) name.now }
 {

@@ -40,14 +40,14 @@ fn passes(test: Test, watch: &Watched, name: &[u8], goal: Goal) -> bool
     }
 }
 
-// The last value of a list that a test accepts. The walk begins at the end of the list and stops at that value.
+/// The last value of a list that a test accepts. The walk begins at the end of the list and stops at that value.
 fn find_last(test: Test, watch: &Watched, list: &[SharedEntry]) -> Option<LookSpot>
     ensures { result ≡ pure.last_where (test_of test watch.now) (entries_of list.now) }
 {
     find_last_from(test, watch, list, 0)
 }
 
-// The same if its position is not below another one, at which the walk ends.
+/// The same if its position is not below another one, at which the walk ends.
 fn find_last_from(
     test: Test,
     watch: &Watched,
@@ -88,8 +88,8 @@ pub fn find_last_in(test: Test, watch: &Watched, shape: &Shared) -> Option<LookS
     }
 }
 
-// The last member of the footprint in a structure. It walks from the end of the structure, for as many steps as the
-// footprint has members, before it asks for each member.
+/// The last member of the footprint in a structure. It walks from the end of the structure, for as many steps as the
+/// footprint has members, before it asks for each member.
 fn last_member(watch: &Watched, shape: &Shared) -> Option<LookSpot>
     ensures { result ≡ pure.last_where (pure.in_foot watch.now) (entries_in shape.now) }
 {
@@ -108,7 +108,7 @@ fn last_member(watch: &Watched, shape: &Shared) -> Option<LookSpot>
     }
 }
 
-// The last value of a source list that a test accepts; nothing if the link is pinned.
+/// The last value of a source list that a test accepts; nothing if the link is pinned.
 fn source_where(test: Test, watch: &Watched, source: Option<&Shared>) -> Option<LookSpot>
     ensures { result ≡ pure.source_where (test_of test watch.now) (list_in source.entry) }
 {
@@ -118,7 +118,7 @@ fn source_where(test: Test, watch: &Watched, source: Option<&Shared>) -> Option<
     }
 }
 
-// The number of Dark entries of a source list and the place of the last one; none if the link is pinned.
+/// The number of Dark entries of a source list and the place of the last one; none if the link is pinned.
 fn source_darks(source: Option<&Shared>) -> (u64, Option<Place>)
     ensures number { result.0 ≡ length (pure.source_darks (list_in source.entry)) }
     ensures last { result.1 ≡ shapes.last_place (pure.source_darks (list_in source.entry)) }
@@ -175,7 +175,7 @@ pub fn look_of_value(
     look_before(name, goal, Rest::Listed(rest), source, number, watch)
 }
 
-// The look of the link of a value before these entries.
+/// The look of the link of a value before these entries.
 fn look_before(
     name: &[u8],
     goal: Goal,
@@ -208,7 +208,7 @@ fn look_before(
     })
 }
 
-// The look of a meeting.
+/// The look of a meeting.
 fn look_at(meeting: &Meeting, number: u64, watch: &Watched) -> Option<LinkLook>
     ensures { listed result ≡ pure.numbered number (map (look_of watch.now) (met_at meeting.now)) }
 {
@@ -227,7 +227,7 @@ fn look_at(meeting: &Meeting, number: u64, watch: &Watched) -> Option<LinkLook>
     }
 }
 
-// The number of links of a meeting.
+/// The number of links of a meeting.
 fn count_at(meeting: &Meeting) -> u64
     ensures number { result ≡ length (met_at meeting.now) }
     ensures bound { result ≤ 1 }
@@ -263,7 +263,7 @@ fn looks_of(alloc: Global, meetings: &[Meeting], watch: &Watched) -> Result<Look
     })
 }
 
-// The looks after a walk that reached its end, or `Memory`.
+/// The looks after a walk that reached its end, or `Memory`.
 fn looks_after(
     alloc: Global,
     walked: Result<(), Stop>,

@@ -78,7 +78,7 @@ fn match_entries<'a>(
     Ok(())
 }
 
-// The entry of a target at a position.
+/// The entry of a target at a position.
 #[cycle(matching)]
 fn match_entry<'a>(
     src: &'a Shared,
@@ -137,7 +137,7 @@ fn part_or<'a>(part: Option<&'a Shared>, empty: &'a Shared) -> &'a Shared
     }
 }
 
-// Two module types, matched in both directions.
+/// Two module types, matched in both directions.
 #[cycle(matching)]
 fn match_ways<'a>(
     src: &'a Shared,

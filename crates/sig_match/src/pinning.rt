@@ -42,7 +42,7 @@ fn pin_entries<'a>(shape: &'a Shared, room: u32, found: &mut Found<'a>) -> Resul
     Ok(())
 }
 
-// The entry of a structure at a position.
+/// The entry of a structure at a position.
 #[cycle(pinning)]
 fn pin_entry<'a>(
     shape: &'a Shared,

@@ -27,7 +27,7 @@ line_as mark (b ∷ bs) = record { mark = mark; line = b ∷ bs } ∷ []
 abbrev pub added : List Pair → List HunkLine
 added pairs = flat_map (λ p. line_as Added p.new) pairs
 
--- The lines of a hunk. In a run of changed lines those of the old text come first; those of the new text wait behind them.
+-- The lines of a hunk. In a run of changed lines those of the old text precede those of the new.
 abbrev pub marked : List HunkLine → List Pair → List HunkLine
 marked waiting [] = waiting
 marked waiting (p ∷ ps) =

@@ -103,7 +103,7 @@ fn first_number(from: usize, len: usize) -> usize
     if len == 0 { from } else { from + 1 }
 }
 
-/// Adds the lines of a hunk. In a run of changed lines those of the old text come first.
+/// Adds the lines of a hunk. In a run of changed lines those of the old text precede those of the new.
 fn push_lines(text: &mut Vec<u8>, pairs: &[LinePair]) -> Result<(), Memory>
     ensures { OnOk result (text.new.items ≡ text.old.items ++ lines_text (marked [] (map view_pair pairs.now))) }
 {

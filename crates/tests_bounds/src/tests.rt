@@ -1,4 +1,4 @@
-// Expressions at the bound on levels, and past it.
+//! Expressions at the bound on levels, and past it.
 use ml_lexer::lex;
 use ml_trees::Expr;
 use parse_base::ParseError;

@@ -8,5 +8,5 @@ mod people;
 mod walk;
 
 pub use counting::{Counting, Position};
-pub use laws::offsets_come_back;
+pub use laws::offsets_are_found_again;
 pub use walk::{offset_of, position_of, positions_of};

@@ -21,7 +21,7 @@ IsAlone Other = ⊥
 abbrev pub put_at : ℕ → List ℕ → List ℕ → List ℕ
 put_at at piece bytes = take at bytes ++ (piece ++ drop (at + length piece) bytes)
 
--- if the bytes are known, and reach to the offset, then the piece now stands there
+-- if the bytes are known, and reach to the offset, then the piece is now there
 abbrev pub PutsAt : ℕ → List ℕ → Option (List ℕ) → Option (List ℕ) → Type 0
 PutsAt at piece before now = (bytes : List ℕ) → before ≡ Some bytes → at ≤ length bytes → now ≡ Some (put_at at piece bytes)
 
@@ -29,15 +29,15 @@ PutsAt at piece before now = (bytes : List ℕ) → before ≡ Some bytes → at
 abbrev pub Cuts : ℕ → Option (List ℕ) → Option (List ℕ) → Type 0
 Cuts len before now = (bytes : List ℕ) → before ≡ Some bytes → len ≤ length bytes → now ≡ Some (take len bytes)
 
--- if the bytes are known, and are so many, then these stand in their place
+-- if the bytes are known, and are so many, then these replace them
 abbrev pub Replaces : ℕ → List ℕ → Option (List ℕ) → Option (List ℕ) → Type 0
 Replaces len bytes before now = (old : List ℕ) → before ≡ Some old → length old ≡ len → now ≡ Some bytes
 
--- the bytes from one index to another stand over the old ones
+-- the bytes from one index to another overwrite the old ones
 abbrev pub over : ℕ → ℕ → List ℕ → List ℕ → List ℕ
 over from upto bytes old = take from old ++ (drop from (take upto bytes) ++ drop upto old)
 
--- if the bytes are known, and reach to the first index, then those from one index to another stand over them
+-- if the bytes are known, and reach to the first index, then those from one index to another overwrite them
 abbrev pub PutsPart : ℕ → ℕ → List ℕ → Option (List ℕ) → Option (List ℕ) → Type 0
 PutsPart from upto bytes before now = (old : List ℕ) → before ≡ Some old → from ≤ length old → now ≡ Some (over from upto bytes old)
 

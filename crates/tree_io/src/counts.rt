@@ -1,4 +1,4 @@
-// Counts of calls and of faults, and the calls that are to fail.
+//! Counts of calls and of faults, and the calls that are to fail.
 ghost use Rattle.std.specs.Prelude.{◌≡◌, ◌≤◌, ◌^◌, false};
 ghost use Rattle.tree_io.specs.Counts.{next_count, is_listed};
 ghost use Rattle.tree_io.specs.Outside.{Rose};

@@ -1,4 +1,4 @@
-// The calls on a folder of a disk that the system's folder is built on.
+//! The calls on a folder of a disk that the system's folder is built on.
 ghost use Rattle.std.specs.Prelude.{◌≡◌, ◌≤◌, List, ℕ, Option, length, take, IfOk, OnOk};
 ghost use Rattle.tree_io.specs.declared.disk.Found.TheVariants as variant;
 ghost use Rattle.tree_io.specs.Disk.{IsAlone, IsRegular, PutsAt, Cuts, KeepsFront};

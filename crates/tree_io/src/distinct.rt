@@ -1,4 +1,4 @@
-// Whether files have distinct names, which the folders in memory require.
+//! Whether files have distinct names, which the folders in memory require.
 ghost use Rattle.std.specs.Prelude.{◌≡◌, ◌↔◌, map, IsTrue};
 ghost use Rattle.std.specs.List.{list_any};
 ghost use Rattle.std.specs.Str.{bytes_eq};

@@ -1,4 +1,4 @@
-// The current folder and the standard output of the system. No clause says what they hold.
+//! The current folder and the standard output of the system. No clause says what they hold.
 ghost use Rattle.std.specs.Prelude.{◌≡◌, ◌≤◌, ◌-◌, ◌^◌, ℕ, None, false, length, vec_len, IfOk, IsTrue, IsErr, OnOk};
 ghost use Rattle.tree_io.specs.Outside.{HasCause, HasFault};
 ghost use Rattle.tree_io.specs.Host.{tree_faults, tree_disk, is_blocked, sink_faults};

@@ -1,4 +1,4 @@
-// The current folder of the system, by the calls of std alone. No clause says what they do.
+//! The current folder of the system, by the calls of std alone. No clause says what they do.
 ghost use Rattle.std.specs.Prelude.{◌≡◌, None};
 ghost use Rattle.std.specs.Bool.{⊤};
 

@@ -1,4 +1,4 @@
-// Lists and reads of the system's folder.
+//! Lists and reads of the system's folder.
 ghost use Rattle.std.specs.Prelude.{◌≡◌, ◌≤◌, ◌<◌, true, length, vec_len, IfOk, IsTrue, OnSome};
 ghost use Rattle.std.specs.Io.KnownBytes.{Consumes, IsAtEnd};
 

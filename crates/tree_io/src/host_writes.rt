@@ -1,4 +1,4 @@
-// Writes to the system's folder.
+//! Writes to the system's folder.
 ghost use Rattle.std.specs.Prelude.{◌≡◌, ◌≤◌, length, IsTrue, OnOk};
 ghost use Rattle.tree_io.specs.Disk.{PutsPart, Replaces, KeepsFront};
 
@@ -64,7 +64,7 @@ fn write_old<D: Disk>(disk: &mut D, name: &str, seen: Node, bytes: &[u8]) -> Res
 }
 
 /// Puts these bytes in the place of the `len` bytes that an open file has, and waits until they are on the disk. Those
-/// behind the old end come first: if the disk has no room for them, the file is as it was.
+/// behind the old end are written first: if the disk has no room for them, the file is as it was.
 fn replace<D: Disk>(
     disk: &mut D,
     file: &mut D::Target,

@@ -1,4 +1,4 @@
-// An output in memory that fails at listed puts and past its room.
+//! An output in memory that fails at listed puts and past its room.
 ghost use Rattle.std.specs.Prelude.{◌≡◌, ◌≤◌, ◌++◌, length, vec_len, vec_capacity, [], Some, is_err, IfOk, IsOk, OnOk, OnErr};
 
 use crate::Sink;

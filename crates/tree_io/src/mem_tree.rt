@@ -1,4 +1,4 @@
-// A folder in memory that fails at listed calls.
+//! A folder in memory that fails at listed calls.
 ghost use Rattle.std.specs.Prelude.{◌≡◌, ◌/◌, ◌≤◌, ◌↔◌, map, length, take, string_bytes, Some, None, is_err, IfOk, IfSome, IfNone, IsSome, IsNone, IsErr, IsErrOf, IsTrue, OnOk, OnErr, IsPermutation};
 ghost use Rattle.std.specs.FinMap.{get, keys, insert};
 ghost use Rattle.tree_io.specs.MemTree.{mem_files, mem_room, mem_failing, mem_calls, mem_faults, fails_next, IsSteady, CountsCall, CountsNothing};

@@ -1,4 +1,4 @@
-// The folder and the output that ROTOR reads and writes.
+//! The folder and the output that ROTOR reads and writes.
 ghost use Rattle.std.specs.Prelude.{◌≡◌, ◌≤◌, List, ℕ, Option, map, length, string_bytes, IfOk, IfSome, IsSome, IsNone, IsOk, IsErr, IsErrOf, OnOk, OnErr, IsPermutation};
 ghost use Rattle.std.specs.Option.{ForSome};
 ghost use Rattle.std.specs.FinMap.{get, keys};

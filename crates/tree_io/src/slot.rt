@@ -1,4 +1,4 @@
-// One file in memory, with room for more bytes.
+//! One file in memory, with room for more bytes.
 ghost use Rattle.std.specs.Prelude.{◌≡◌, ◌≤◌, true, length, position, vec_capacity, OnOk};
 ghost use Rattle.tree_io.specs.Slots.{is_named};
 

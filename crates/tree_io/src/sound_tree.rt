@@ -1,4 +1,4 @@
-// A folder in memory that never fails.
+//! A folder in memory that never fails.
 ghost use Rattle.std.specs.Prelude.{◌≡◌, ⊤, Some, None, IfOk, IfSome, IfNone};
 ghost use Rattle.std.specs.FinMap.{get};
 ghost use Rattle.tree_io.specs.SoundTree.{sound_files};

@@ -1,4 +1,4 @@
-// Files in memory. Each folder in memory holds such a store.
+//! Files in memory. Each folder in memory holds such a store.
 ghost use Rattle.std.specs.Prelude.{◌≡◌, ◌≤◌, true, length, map, string_bytes, None, Some, IfOk, IfSome, IfNone, IsSome, IsNone, OnOk, IsPermutation};
 ghost use Rattle.std.specs.FinMap.{get, keys, insert};
 ghost use Rattle.tree_io.specs.Outside.{KeepsRoom, IsFront};

@@ -18,7 +18,7 @@ use Rattle.rename_parts.specs.Findings.{IsFree}
 use Rattle.rename_files.specs.Answer.{Accepts, Renames}
 use Rattle.unused_names.specs.Laws.{HidesNothing, IsUnused}
 
--- a refusal that does not come from the names of other values
+-- a refusal whose reason is not the names of other values
 abbrev pub IsOfTheTarget : Refusal → Type 0
 IsOfTheTarget refusal.NoTarget = Unit {0}
 IsOfTheTarget refusal.Operator = Unit {0}

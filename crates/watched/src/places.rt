@@ -1,4 +1,4 @@
-// Sets of places.
+//! Sets of places.
 ghost use Rattle.std.specs.Prelude.{IfOk};
 ghost use Rattle.shape_core.specs.Places.{HasPlaces};
 

@@ -1,4 +1,4 @@
-// A watched renaming.
+//! A watched renaming.
 ghost use Rattle.std.specs.Prelude.{◌≡◌, IfOk};
 ghost use Rattle.shape_core.specs.Looks as pure;
 ghost use Rattle.shape_core.specs.Node.{entries_of};

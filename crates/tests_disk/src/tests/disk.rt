@@ -1,4 +1,4 @@
-// A disk in memory, with one file, that records its calls and fails at one of them.
+//! A disk in memory, with one file, that records its calls and fails at one of them.
 ghost use Rattle.std.specs.Prelude.{None};
 ghost use Rattle.std.specs.Bool.{⊤};
 
@@ -7,7 +7,7 @@ use std::io;
 use std::io::ErrorKind;
 use tree_io::{Disk, Found, Node};
 
-/// A call of a disk. The looks at names are not told apart from those at open files.
+/// A call of a disk. The looks at names count as those at open files.
 #[derive(Clone, Copy, Debug, PartialEq, Eq)]
 pub enum Call {
     Share,

@@ -1,5 +1,5 @@
-// A disk in memory whose files have known bytes: the clauses of the calls can be met together, and they say what a
-// write leaves.
+//! A disk in memory whose files have known bytes: the clauses of the calls can be met together, and they say what a
+//! write leaves.
 ghost use Rattle.std.specs.Prelude.{◌≡◌, ◌≤◌, Some, length, take, IfOk, OnOk};
 ghost use Rattle.std.specs.Bool.{⊤};
 ghost use Rattle.tree_io.specs.Disk.{PutsAt, Cuts, KeepsFront};

@@ -1,4 +1,4 @@
-// What is looked at before a name is opened, and what a look stops.
+//! What is looked at before a name is opened, and what a look stops.
 use super::disk::{Call, PLAIN, Setting, TestDisk, file_of};
 use std::alloc::Global;
 use std::process::Abort;

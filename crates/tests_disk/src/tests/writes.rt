@@ -1,4 +1,4 @@
-// The order of the calls of a write, and what is left if one of them fails.
+//! The order of the calls of a write, and what is left if one of them fails.
 use super::disk::{Call, PLAIN, Setting, TestDisk, file_of};
 use std::alloc::Global;
 use std::process::Abort;

@@ -1,4 +1,4 @@
-// The public calls that the rows do not make by themselves.
+//! The public calls that the rows do not make by themselves.
 use edits::{Edit, apply, new_len};
 use rotor_base::{Goal, Name, Place, Row, Text, is_body, is_face, is_name, is_source};
 use std::test::Fail;

@@ -1,4 +1,4 @@
-// Footprints over chains and cycles of links, and the outside at an end.
+//! Footprints over chains and cycles of links, and the outside at an end.
 use dependency_kernel::footprint;
 use rotor_base::{Facts, Goal, Link, Memory, Place, Row};
 use std::alloc::Global;

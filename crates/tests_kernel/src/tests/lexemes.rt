@@ -1,4 +1,4 @@
-// The lexer on hostile texts, against the answers of a program that was written apart from it.
+//! The lexer on hostile texts, against the answers of a program that was written apart from it.
 use ml_lexer::{LexError, lex, one_cutting, replaced_names};
 use std::alloc::{AllocError, Global};
 use std::fmt::Write;

@@ -1,4 +1,4 @@
-// The folders of the rows, and what they hold.
+//! The folders of the rows, and what they hold.
 use apply_journal::{Plan, make_plan};
 use project_load::load;
 use rotor_base::{Memory, Row, SourceFile, Text};

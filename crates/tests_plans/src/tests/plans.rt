@@ -1,4 +1,4 @@
-// Plans and what is no plan.
+//! Plans and what is no plan.
 use super::folder::{NEW, PLAN, are_files, plan_of, tree_of};
 use apply_journal::{PlanError, RecoverError, gate_open, read_plan, recover};
 use std::test::Fail;

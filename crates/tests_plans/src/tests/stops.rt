@@ -1,4 +1,4 @@
-// A write stops, and the folder is recovered.
+//! A write stops, and the folder is recovered.
 use super::folder::{
     HALF_BODY, HALF_FACE, NEW, NEW_BODY, OLD, OLD_FACE, PLAN, holds, holds_all, plan_of, tree_of,
 };

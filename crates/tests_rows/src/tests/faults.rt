@@ -1,4 +1,4 @@
-// A command over a folder whose call failed before.
+//! A command over a folder whose call failed before.
 use super::run::{ONE_LINE, ONE_LINE_NEW, ONE_LINE_TEXT, folder, holds, run_command};
 use rotor_app::Status;
 use std::test::Fail;

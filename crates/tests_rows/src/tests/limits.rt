@@ -1,4 +1,4 @@
-// A manifest of line feeds alone, at the limit of its bytes.
+//! A manifest of line feeds alone, at the limit of its bytes.
 use super::run::folder;
 use project_load::load;
 use rotor_base::MAX_FILE_BYTES;

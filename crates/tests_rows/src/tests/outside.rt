@@ -1,4 +1,4 @@
-// Row one-line over the folders that do not fail, and over the system's.
+//! Row one-line over the folders that do not fail, and over the system's.
 use super::run::{ONE_LINE, ONE_LINE_BACK, ONE_LINE_NEW, ONE_LINE_TEXT, run_command};
 use crate::one_file;
 use rotor_app::Status;

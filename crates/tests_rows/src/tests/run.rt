@@ -1,4 +1,4 @@
-// What the tests share: a folder in memory, what it holds, and a run of a command.
+//! What the tests share: a folder in memory, what it holds, and a run of a command.
 use crate::{sources, words};
 use rotor_app::{Status, rotor};
 use rotor_base::Memory;

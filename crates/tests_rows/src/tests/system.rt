@@ -1,4 +1,4 @@
-// The system's folder: files, a folder of a source's name, a source that leads nowhere, and a name that is no text.
+//! The system's folder: files, a folder of a source's name, a source that leads nowhere, and a name that is no text.
 use project_load::load;
 use rotor_base::{LoadError, SourceFile};
 use std::alloc::{Allocator, Global};

@@ -1,4 +1,4 @@
-// The names that a command lists, opens and writes.
+//! The names that a command lists, opens and writes.
 use super::disk::{Calls, NamedDisk, Thing, are_names};
 use known::{Known, see_names};
 use rotor_app::Status;

@@ -1,4 +1,4 @@
-// A disk in memory with some files, which records its calls.
+//! A disk in memory with some files, which records its calls.
 ghost use Rattle.std.specs.Prelude.{None};
 ghost use Rattle.std.specs.Bool.{⊤};
 

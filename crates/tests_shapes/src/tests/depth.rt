@@ -1,9 +1,9 @@
-// Weights at their limits, and shapes as deep as they may be.
+//! Weights at their limits, and shapes as deep as they may be.
 use crate::decl;
 use rotor_base::{MAX_LEVELS, Name};
 use shape_core::{
-    GREATEST_WEIGHT, Shape, Shared, SharedEntry, copy, levels_of, make_functor, make_opaque,
-    make_struct, make_unitary, share, weight, weight_of,
+    GREATEST_WEIGHT, Shape, SharedEntry, copy, levels_of, make_functor, make_opaque, make_struct,
+    make_unitary, share, weight, weight_of,
 };
 use std::test::Fail;
 
@@ -20,7 +20,7 @@ fn weights(rt: HostRuntime) -> Result<(), Fail> {
     Ok(())
 }
 
-// Each level has twice the weight of the one below, and one more.
+/// Each level has twice the weight of the one below, and one more.
 #[test]
 fn weights_double(rt: HostRuntime) -> Result<(), Fail> {
     let alloc = rt.alloc();

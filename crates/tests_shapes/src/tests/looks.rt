@@ -1,4 +1,4 @@
-// The looks of a match.
+//! The looks of a match.
 use crate::tests::making::make_shared;
 use crate::{Piece, Sketch, place};
 use rotor_base::{Foot, LinkLook, Looks, Memory, Name, Row, Watch};

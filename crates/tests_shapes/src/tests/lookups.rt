@@ -1,4 +1,4 @@
-// Look-ups through Dark entries, in both forms and on a scope.
+//! Look-ups through Dark entries, in both forms and on a scope.
 use crate::{Piece, Sketch, decl, entries, make_plain, place};
 use rotor_base::{Goal, Memory, Name, Place};
 use shape_core::{Scope, SharedEntry, find_val, share, val_in, val_of};

@@ -1,4 +1,4 @@
-// Shared shapes of tables, by the makers.
+//! Shared shapes of tables, by the makers.
 use crate::{Piece, Sketch, decl, place};
 use rotor_base::{Memory, Name};
 use shape_core::{Shared, SharedEntry, make_functor, make_opaque, make_struct, make_unitary};

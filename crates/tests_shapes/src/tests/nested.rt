@@ -1,4 +1,4 @@
-// Shapes whose match doubles at each level, and matches of shapes as deep as they may be.
+//! Shapes whose match doubles at each level, and matches of shapes as deep as they may be.
 use crate::tests::making::{make_shared, module_type};
 use crate::{Piece, Sketch, place};
 use rotor_base::{MAX_LEVELS, Memory};
@@ -47,7 +47,7 @@ fn matched_types(alloc: Global, levels: usize, room: u32) -> Result<Option<(usiz
     Ok(sums(&match_shapes(alloc, &src, &tgt, room)?))
 }
 
-// Rows nested-types and nested-types-over; 40 levels would make 1,099,511,627,776 links.
+/// Rows nested-types and nested-types-over; 40 levels would make 1,099,511,627,776 links.
 #[test]
 fn links_double(rt: HostRuntime) -> Result<(), Fail> {
     let alloc = rt.alloc();
@@ -115,7 +115,7 @@ fn darks(alloc: Global, count: u32) -> Result<Shared, Memory> {
     make_struct(alloc, entries)
 }
 
-// Each Dark entry of a target goes over the values of the source, of which there are none.
+/// Each Dark entry of a target goes over the values of the source, of which there are none.
 #[test]
 fn many_dark_entries(rt: HostRuntime) -> Result<(), Fail> {
     let alloc = rt.alloc();

@@ -1,4 +1,4 @@
-// Row two-includes: the plain form of its shapes, copied, shared and looked up.
+//! Row two-includes: the plain form of its shapes, copied, shared and looked up.
 use crate::{Piece, Sketch, decl, entries, make_plain};
 use rotor_base::{Memory, Name};
 use shape_core::{

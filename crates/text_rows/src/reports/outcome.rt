@@ -2,8 +2,8 @@
 
 use crate::reports::refusal::{read_load_error, read_place, read_place_or_none, read_refusal};
 use rotor_base::{
-    Counts, Files, Foot, FootReport, LoadError, Memory, Name, Outcome, Place, Renamed, Row,
-    SampleReport, make_files,
+    Counts, Files, Foot, FootReport, Memory, Name, Outcome, Place, Renamed, Row, SampleReport,
+    make_files,
 };
 use row_pieces::read_number;
 use std::alloc::Global;

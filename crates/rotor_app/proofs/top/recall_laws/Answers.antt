@@ -4,7 +4,7 @@ pub returns : goal.returns
 returns c = record {
   project = c.loaded_files_are_a_project.ensures;
   loaded_new = c.new_sources_are_loaded.ensures;
-  old_back = c.old_sources_come_back.ensures;
+  old_back = c.old_sources_are_restored.ensures;
   undos = c.undos_are_read.ensures;
   rewrite = c.renamings_rewrite.ensures;
   undone = c.renamings_are_undone.ensures;

@@ -1,5 +1,5 @@
 use Rattle.lsp_frames.proofs.Round.{comes_back}
-use Rattle.lsp_frames.proofs.laws.messages_come_back.Goals as goal
+use Rattle.lsp_frames.proofs.laws.messages_are_read_back.Goals as goal
 
 pub returns : goal.returns
 returns c = comes_back
