@@ -27,7 +27,7 @@ MOST_WORDS = {
 # the most words of a sentence, or of a part of it up to a colon or a semicolon
 MOST_SENTENCE_WORDS = 25
 # the most part by which a size of the README may differ
-MOST_DIFFERENCE = 0.05
+MOST_DIFFERENCE = 0.02
 # names that no file of a crate has
 OTHER_NAMES = {"examples", "stdout", "stdin"}
 # the scripts that write a list, and compare it with --check
@@ -113,13 +113,37 @@ def counts_of_kinds(drivers):
             yield rf"^\| `{driver}` \| .*?([\d,]+) (?:rows )?`{kind}`", count, f"rows of the kind {kind}"
 
 
+def crates_of(program):
+    """The crates that a program is made of."""
+    uses = {name: rest.split() for name, rest in re.findall(r"^(\w+):(.*)$", read("crates.txt"), re.M)}
+    taken, waiting = set(), [program]
+    while waiting:
+        name = waiting.pop()
+        if name in uses and name not in taken:
+            taken.add(name)
+            waiting.extend(uses[name])
+    return taken
+
+
+def rows_with(pattern):
+    """The number of rows of the driver `rows` that have such a line."""
+    rows = re.split(r"^run$", read("crates/rows/stdin"), flags=re.M)[:-1]
+    return sum(1 for row in rows if re.search(pattern, row, re.M))
+
+
 def check_counts(texts):
     edits = len(glob.glob("crates/*/must-fail/*.edit"))
     plants = len(glob.glob("plants/*/*.edit"))
     for page, text in texts.items():
         check_count(page, text, r"([\d,]+) (?:wrong versions|changes of the code|such changes)", edits, "edits")
         check_count(page, text, r"`plants/NAME/\*\.edit` has ([\d,]+)", plants, "plants")
+    readme = texts["README.md"]
+    check_count("README.md", readme, r"the program's ([\d,]+) crates", len(crates_of("rotor")), "crates of rotor")
+    check_count("README.md", readme, r"all ([\d,]+) crates", len(glob.glob("crates/*")), "crates")
     page = "docs/TESTING.md"
+    faults = rows_with(r"^(?:call|put|room) ")
+    check_count(page, texts[page], r"([\d,]+) of them have calls that fail", faults, "rows with faults")
+    check_count(page, texts[page], r"([\d,]+) are of `verify`", rows_with(r"^word verify$"), "rows of verify")
     resolutions = read("crates/resolutions/stdin")
     requests = len(re.findall(r"^(?:facts|looks|fault|respell)\b", resolutions, re.M))
     for pattern, there, what in [

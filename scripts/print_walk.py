@@ -13,7 +13,7 @@ EVENTS = f"{TOP}/crates/ml_trees/specs/Events.antt"
 TREE = f"{TOP}/crates/ml_trees/specs/Tree.antt"
 # phrases of words alone: they leave a state as it is (proofs/Silent.antt)
 SILENT = "type optional bang open lowers module_name constraint constraints withs texts".split()
-# phrases that stand in no clause of their own
+# phrases that have no clause of their own
 INLINE = ["external", "open_item"]
 MOST_COLUMNS = 145
 EVENT_NAMES = (
