@@ -55,7 +55,7 @@ target_told cuts p = record { ending = Done; messages = []; text = target_line c
 
 -- of a token that declares and uses no value of the folder, by its word
 abbrev pub valueless_text : Word → ValueAt → Word
-valueless_text word value.NoValue = codes "no value stands here"
+valueless_text word value.NoValue = codes "no value is here"
 valueless_text word _ = around (codes "`") word (codes "` is no value that this folder declares")
 
 abbrev pub valueless : List Cut → Place → ValueAt → Message

@@ -37,7 +37,7 @@ pub record IsRenamingFailure (files : FileSet) (target : Target) (new : Word) (w
 
 -- of a token that declares and uses no value of the folder, by its word
 abbrev pub valueless_text : Word → ValueAt → Word
-valueless_text word value.NoValue = codes "no value stands here"
+valueless_text word value.NoValue = codes "no value is here"
 valueless_text word _ = around (codes "`") word (codes "` is no value that this folder declares")
 
 abbrev pub word_there : List Cut → Option Place → Word

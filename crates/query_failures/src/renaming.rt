@@ -107,7 +107,7 @@ fn valueless_text(alloc: Global, word: &[u8], found: ValueAt) -> Result<Row<u8>,
     ensures { IfOk result (λ text. text ≡ valueless_text word.now found) }
 {
     match found {
-        ValueAt::NoValue => join_words(alloc, &[b"no value stands here"]),
+        ValueAt::NoValue => join_words(alloc, &[b"no value is here"]),
         ValueAt::Outside | ValueAt::Blurred | ValueAt::Value(_) => join_words(
             alloc,
             &[b"`", word, b"` is no value that this folder declares"],

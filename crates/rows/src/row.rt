@@ -132,7 +132,7 @@ impl Row {
     pub fn run(&self, alloc: Global) -> Result<String, Memory> {
         let files = sources(alloc, &self.files)?;
         if !have_distinct_names(&files) {
-            return Ok(String::from_str(alloc, "a name stands twice\n")?);
+            return Ok(String::from_str(alloc, "a name is there twice\n")?);
         }
         if self.is_sound {
             self.run_in(alloc, &mut SoundTree::new(alloc, files)?)

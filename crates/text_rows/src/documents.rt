@@ -53,7 +53,7 @@ fn message_answer(alloc: Global, bytes: &[u8]) -> Result<String, Memory> {
 fn folder_answer(alloc: Global, files: &str, steps: &str) -> Result<String, Memory> {
     let files = files_of(alloc, files)?;
     if !have_distinct_names(&files) {
-        return Ok(String::from_str(alloc, "a name stands twice\n")?);
+        return Ok(String::from_str(alloc, "a name is there twice\n")?);
     }
     let tree = SoundTree::new(alloc, files)?;
     let mut workspace = Workspace::new(alloc);

@@ -24,7 +24,7 @@ pub fn folder(
     failing: &[u32],
 ) -> Result<MemTree, Memory> {
     let files = sources(alloc, files)?;
-    assert!(rt; have_distinct_names(&files), "a name stands twice");
+    assert!(rt; have_distinct_names(&files), "a name is there twice");
     MemTree::new(alloc, files, failing.to_vec(alloc)?)
 }
 
