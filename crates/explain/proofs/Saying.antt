@@ -14,7 +14,7 @@ use Rattle.refusal_words.specs.Cut.{AreCuts, Cut}
 use Rattle.refusal_places.specs.Placed.{SaysPlaced}
 use Rattle.explain.specs.Refused.{is_memory}
 use Rattle.explain.specs.Sources.{IsNoProject, SaysSource, SaysSources, alone, no_project, none, one_more, outside, read, refused}
-use Rattle.explain.specs.Told.{listed}
+use Rattle.explain.specs.Explanation.{listed}
 
 pub source_read : (s : SourceFile) (files : FileSet) (us : List UnitTree) (said : Option Message) → files ≡ alone s → Reads files us → said ≡ None
     → SaysSource s said

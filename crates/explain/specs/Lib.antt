@@ -1,5 +1,5 @@
 pub mod Ending
-pub mod Told
+pub mod Explanation
 pub mod Diffs
 pub mod Lines
 pub mod PathStop

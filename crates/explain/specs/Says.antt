@@ -14,7 +14,7 @@ use Rattle.messages.specs.declared.parts.Message.{Message}
 use Rattle.refusal_words.specs.Cut.{AreCuts, Cut}
 use Rattle.rename_files.specs.Answer.{Checks, Renames, Shows}
 use Rattle.explain.specs.declared.ending.Ending.TheVariants.{Done}
-use Rattle.explain.specs.declared.told.Told.{Told}
+use Rattle.explain.specs.declared.explanation.Explanation.{Explanation}
 use Rattle.value_at.specs.Places.{places_of}
 use Rattle.explain.specs.Around.{AreFacts}
 use Rattle.explain.specs.Diffs.{AreDiffs}
@@ -30,17 +30,17 @@ counts_text c =
     ∷ counted c.declarations (codes "declaration") ∷ codes ", " ∷ counted c.references (codes "use") ∷ codes ": all of it is read\n" ∷ [])
 
 -- a folder that is read: the warnings of the places at which OCaml may read it otherwise, and what the project has
-pub record SaysChecked (files : FileSet) (counts : Counts) (told : Told) : Type 0 where
-  pub ending : told.ending ≡ Done
-  pub warnings : AreWarnings files told.messages
-  pub text : told.text ≡ counts_text counts
-  pub places : told.places ≡ []
+pub record SaysChecked (files : FileSet) (counts : Counts) (explanation : Explanation) : Type 0 where
+  pub ending : explanation.ending ≡ Done
+  pub warnings : AreWarnings files explanation.messages
+  pub text : explanation.text ≡ counts_text counts
+  pub places : explanation.places ≡ []
 
 -- `check`: warnings and what the project has; or what is said of its first refusal
-abbrev pub SaysCheck : FileSet → Told → Type 0
-SaysCheck files told =
-    ((counts : Counts) × Checks files (Ok counts) × SaysChecked files counts told)
-    ⊎ ((why : Refusal) × Checks files (Err why) × SaysProject files why told)
+abbrev pub SaysCheck : FileSet → Explanation → Type 0
+SaysCheck files explanation =
+    ((counts : Counts) × Checks files (Ok counts) × SaysChecked files counts explanation)
+    ⊎ ((why : Refusal) × Checks files (Err why) × SaysProject files why explanation)
 
 -- the first line of a renaming that is accepted
 abbrev pub renamed_line : Renamed → Word
@@ -58,7 +58,7 @@ pub data AreToolPlaces (known : Facts) (cuts : List Cut) (foot : Foot) : Bool �
   asked : AreToolPlaces known cuts foot true (place_messages cuts (places_of known.refs foot))
 
 -- a renaming that is accepted: its line, its declarations, the number of warnings, and the diffs of the changed sources
-pub record SaysDone (files : FileSet) (done : Renamed) (for_tools : Bool) (told : Told) : Type 0 where
+pub record SaysDone (files : FileSet) (done : Renamed) (for_tools : Bool) (explanation : Explanation) : Type 0 where
   pub cuts : List Cut
   pub diffs : List ℕ
   pub count : Word
@@ -67,27 +67,27 @@ pub record SaysDone (files : FileSet) (done : Renamed) (for_tools : Bool) (told 
   pub facts : AreFacts files known
   pub counts : CountsWarnings files count
   pub are_diffs : AreDiffs files.entries done.files.entries done.changed diffs
-  pub ending : told.ending ≡ Done
-  pub messages : told.messages ≡ []
-  pub text : told.text ≡ renamed_line done ++ declaration_lines cuts done ++ count ++ diffs
-  pub places : AreToolPlaces known cuts done.foot for_tools told.places
+  pub ending : explanation.ending ≡ Done
+  pub messages : explanation.messages ≡ []
+  pub text : explanation.text ≡ renamed_line done ++ declaration_lines cuts done ++ count ++ diffs
+  pub places : AreToolPlaces known cuts done.foot for_tools explanation.places
 
 -- `rename`: the renaming; or what is said of its first refusal
-abbrev pub SaysRename : FileSet → Target → List ℕ → Bool → Told → Type 0
-SaysRename files target new for_tools told =
-    ((done : Renamed) × Renames files target new (Ok done) × SaysDone files done for_tools told)
-    ⊎ ((why : Refusal) × Renames files target new (Err why) × SaysRefusal files target new why told)
+abbrev pub SaysRename : FileSet → Target → List ℕ → Bool → Explanation → Type 0
+SaysRename files target new for_tools explanation =
+    ((done : Renamed) × Renames files target new (Ok done) × SaysDone files done for_tools explanation)
+    ⊎ ((why : Refusal) × Renames files target new (Err why) × SaysRefusal files target new why explanation)
 
 -- a footprint, by the facts of the folder: its line, a line for each place, one for the declaration that is fixed from
 -- outside, and the number of warnings
-pub record SaysShown (files : FileSet) (shown : FootReport) (told : Told) : Type 0 where
+pub record SaysShown (files : FileSet) (shown : FootReport) (explanation : Explanation) : Type 0 where
   pub cuts : List Cut
   pub count : Word
   pub known : Facts
   pub cut : AreCuts files.entries cuts
   pub facts : AreFacts files known
   pub counts : CountsWarnings files count
-  pub said : told
+  pub said : explanation
       ≡ record {
         ending = Done;
         messages = [];
@@ -96,7 +96,7 @@ pub record SaysShown (files : FileSet) (shown : FootReport) (told : Told) : Type
       }
 
 -- `footprint`: the footprint; or what is said of the first refusal
-abbrev pub SaysFootprint : FileSet → Target → Told → Type 0
-SaysFootprint files target told =
-    ((shown : FootReport) × Shows files target (Ok shown) × SaysShown files shown told)
-    ⊎ ((why : Refusal) × Shows files target (Err why) × SaysRefusal files target [] why told)
+abbrev pub SaysFootprint : FileSet → Target → Explanation → Type 0
+SaysFootprint files target explanation =
+    ((shown : FootReport) × Shows files target (Ok shown) × SaysShown files shown explanation)
+    ⊎ ((why : Refusal) × Shows files target (Err why) × SaysRefusal files target [] why explanation)

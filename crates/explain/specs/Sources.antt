@@ -10,7 +10,7 @@ use Rattle.messages.specs.declared.parts.Message.{Message}
 use Rattle.project_reading.specs.Reads.{Reads, Unread}
 use Rattle.refusal_words.specs.Cut.{AreCuts, Cut}
 use Rattle.refusal_places.specs.Placed.{SaysPlaced}
-use Rattle.explain.specs.Told.{listed}
+use Rattle.explain.specs.Explanation.{listed}
 
 -- the project of a source alone
 abbrev pub alone : SourceFile → FileSet

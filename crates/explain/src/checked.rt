@@ -12,9 +12,9 @@ ghost use Rattle.rename_project.specs.Steps.{IsFreeOf, IsRefusedFor};
 ghost use Rattle.explain.specs.Says.{SaysCheck, counts_text as counts_text_of};
 
 use crate::ending::Ending;
+use crate::explanation::Explanation;
 use crate::opened::{Opened, open_folder};
-use crate::refused::{is_memory, project_told};
-use crate::told::Told;
+use crate::refused::{explain_project, is_memory};
 use difference_words::warnings;
 use messages::{format_count, join_words};
 use rotor_base::{Counts, Files, Memory, Refusal, Row};
@@ -24,28 +24,32 @@ use value_places::PlacedProject;
 /// What is said of the files of a project: warnings of the places at which OCaml may read them otherwise, and what they
 /// have; or the first refusal of `check`, and if a source is outside the language, a message for each that is. The one
 /// error is want of memory.
-pub fn explain_check(alloc: Global, files: &Files) -> Result<Told, Memory>
+pub fn explain_check(alloc: Global, files: &Files) -> Result<Explanation, Memory>
     ensures { IfOk result (SaysCheck files.now) }
 {
     match open_folder(alloc, files) {
-        Ok(opened) => checked_told(alloc, files, &opened),
+        Ok(opened) => explain_checked_folder(alloc, files, &opened),
         Err(refusal) => refused_check(alloc, files, &refusal),
     }
 }
 
 /// What is said of a folder that `check` refuses.
-fn refused_check(alloc: Global, files: &Files, refusal: &Refusal) -> Result<Told, Memory>
+fn refused_check(alloc: Global, files: &Files, refusal: &Refusal) -> Result<Explanation, Memory>
     requires { IsRefusedFor (λ why. Checks files.now (Err why)) refusal.now }
     ensures { IfOk result (SaysCheck files.now) }
 {
     if is_memory(refusal) {
         return Err(Memory);
     }
-    project_told(alloc, files, refusal)
+    explain_project(alloc, files, refusal)
 }
 
 /// What is said of a folder that is read.
-fn checked_told(alloc: Global, files: &Files, opened: &Opened<'_>) -> Result<Told, Memory>
+fn explain_checked_folder(
+    alloc: Global,
+    files: &Files,
+    opened: &Opened<'_>,
+) -> Result<Explanation, Memory>
     requires reads { Reads files.now (view_project opened.now.read.project) }
     requires sound { IsSound (view_project opened.now.read.project) }
     requires cut { AreCut files.now.entries (map (λ list. view_tokens list.items) opened.now.read.tokens.items) }
@@ -55,7 +59,7 @@ fn checked_told(alloc: Global, files: &Files, opened: &Opened<'_>) -> Result<Tol
 {
     let counts = counts_of(alloc, files, opened)?;
     let messages = warnings(alloc, files, &opened.read)?;
-    Ok(Told {
+    Ok(Explanation {
         ending: Ending::Done,
         messages,
         text: counts_text(alloc, &counts)?,

@@ -6,6 +6,7 @@ mod blurs;
 mod checked;
 mod diffs;
 mod ending;
+mod explanation;
 mod lines;
 mod opened;
 mod path_stop;
@@ -14,12 +15,13 @@ mod renamed;
 mod shown;
 mod sources;
 mod targets;
-mod told;
 
 pub use checked::explain_check;
 pub use diffs::diffs_text;
 pub use ending::Ending;
+pub use explanation::{
+    Explanation, explain_by_message, explain_by_text, explain_unloaded, explanation_text,
+};
 pub use lines::{place_message, place_word};
 pub use renamed::explain_rename;
 pub use shown::explain_footprint;
-pub use told::{Told, bare_told, maybe_told, told_text, unloaded_told};

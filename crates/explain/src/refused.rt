@@ -8,9 +8,9 @@ ghost use Rattle.explain.specs.Refused.{SaysProject, SaysRefusal, is_memory as i
 use crate::around::{Around, look_around};
 use crate::blurs::blurred_message;
 use crate::ending::{Ending, ending_of};
+use crate::explanation::{Explanation, explain_by_message, explain_by_messages};
 use crate::sources::unread_messages;
 use crate::targets::target_message;
-use crate::told::{Told, maybe_told, messages_told};
 use messages::Message;
 use refusal_places::placed_message;
 use refusal_words::{CutSource, cut_sources, operator, renaming_message};
@@ -19,17 +19,21 @@ use std::alloc::Global;
 
 /// What is said of a refusal of a project. If a source is outside the language, there is a message for each that is.
 /// The one error is want of memory.
-pub(crate) fn project_told(alloc: Global, files: &Files, refusal: &Refusal) -> Result<Told, Memory>
+pub(crate) fn explain_project(
+    alloc: Global,
+    files: &Files,
+    refusal: &Refusal,
+) -> Result<Explanation, Memory>
     ensures { IfOk result (SaysProject files.now refusal.now) }
 {
     let ending = ending_of(refusal);
     if is_unread(refusal) {
         let messages = unread_messages(alloc, files.entries())?;
-        return Ok(messages_told(alloc, ending, messages));
+        return Ok(explain_by_messages(alloc, ending, messages));
     }
     let cuts = cut_sources(alloc, files.entries())?;
     let message = placed_message(alloc, &cuts, refusal)?;
-    maybe_told(alloc, ending, message)
+    explain_by_message(alloc, ending, message)
 }
 
 /// Whether a refusal says that a source is outside the language.
@@ -61,22 +65,22 @@ pub(crate) fn is_memory(refusal: &Refusal) -> bool
 }
 
 /// What is said of a refusal of a footprint, or of a renaming to this name. The one error is want of memory.
-pub(crate) fn refusal_told(
+pub(crate) fn explain_refusal(
     alloc: Global,
     files: &Files,
     target: &Target,
     name: &[u8],
     refusal: &Refusal,
-) -> Result<Told, Memory>
+) -> Result<Explanation, Memory>
     ensures { IfOk result (SaysRefusal files.now target.now name.now refusal.now) }
 {
     if !is_renaming(refusal) {
-        return project_told(alloc, files, refusal);
+        return explain_project(alloc, files, refusal);
     }
     let cuts = cut_sources(alloc, files.entries())?;
     let around = look_around(alloc, files, target)?;
     let message = refused_message(alloc, &cuts, &around, target, name, refusal)?;
-    maybe_told(alloc, Ending::Refused, message)
+    explain_by_message(alloc, Ending::Refused, message)
 }
 
 /// The message of a refusal of a renaming.

@@ -12,11 +12,11 @@ ghost use Rattle.explain.specs.Says.{SaysDone, SaysRename, declaration_lines, re
 
 use crate::diffs::diffs_text;
 use crate::ending::Ending;
+use crate::explanation::Explanation;
 use crate::lines::push_declarations;
 use crate::opened::{Opened, open_folder};
-use crate::refused::{is_memory, refusal_told};
+use crate::refused::{explain_refusal, is_memory};
 use crate::shown::tool_places;
-use crate::told::Told;
 use difference_words::counted_differences;
 use messages::{format_count, join_words};
 use refusal_words::{CutSource, cut_sources};
@@ -33,7 +33,7 @@ pub fn explain_rename(
     target: &Target,
     name: &[u8],
     for_tools: bool,
-) -> Result<Told, Memory>
+) -> Result<Explanation, Memory>
     ensures { IfOk result (SaysRename files.now target.now name.now for_tools) }
 {
     let opened = match open_folder(alloc, files) {
@@ -41,7 +41,7 @@ pub fn explain_rename(
         Err(refusal) => return refused_renaming(alloc, files, target, name, &refusal),
     };
     match rename_in(alloc, files, &opened.read, &opened.resolved, target, name) {
-        Ok(done) => done_told(alloc, files, &opened, &done, for_tools),
+        Ok(done) => explain_done_renaming(alloc, files, &opened, &done, for_tools),
         Err(refusal) => refused_renaming(alloc, files, target, name, &refusal),
     }
 }
@@ -53,24 +53,24 @@ fn refused_renaming(
     target: &Target,
     name: &[u8],
     refusal: &Refusal,
-) -> Result<Told, Memory>
+) -> Result<Explanation, Memory>
     requires { IsRefusedFor (λ why. Renames files.now target.now name.now (Err why)) refusal.now }
-    ensures { IfOk result (λ told. (for_tools : Bool) → SaysRename files.now target.now name.now for_tools told) }
+    ensures { IfOk result (λ explanation. (for_tools : Bool) → SaysRename files.now target.now name.now for_tools explanation) }
 {
     if is_memory(refusal) {
         return Err(Memory);
     }
-    refusal_told(alloc, files, target, name, refusal)
+    explain_refusal(alloc, files, target, name, refusal)
 }
 
 /// What is said of a renaming that is accepted, over the facts of the folder.
-fn done_told(
+fn explain_done_renaming(
     alloc: Global,
     files: &Files,
     opened: &Opened<'_>,
     done: &Renamed,
     for_tools: bool,
-) -> Result<Told, Memory>
+) -> Result<Explanation, Memory>
     requires reads { Reads files.now (view_project opened.now.read.project) }
     requires cut { AreCut files.now.entries (map (λ list. view_tokens list.items) opened.now.read.tokens.items) }
     requires facts { AreFacts files.now opened.now.resolved.facts }
@@ -81,7 +81,7 @@ fn done_told(
     let diffs = diffs_text(alloc, files.entries(), done.files.entries(), changed)?;
     let count = counted_differences(alloc, files, &opened.read)?;
     let facts = &opened.resolved.facts;
-    Ok(Told {
+    Ok(Explanation {
         ending: Ending::Done,
         messages: Row::new(alloc),
         text: done_text(alloc, &cuts, done, count.as_slice(), &diffs)?,

@@ -12,10 +12,10 @@ ghost use Rattle.explain.specs.Says.{AreToolPlaces, SaysFootprint, SaysShown};
 ghost use Rattle.explain.specs.Shown.{outside_line, place_lines, place_messages as place_messages_of, shown_line as shown_line_of};
 
 use crate::ending::Ending;
+use crate::explanation::Explanation;
 use crate::lines::{place_message, place_word, push_place};
 use crate::opened::{Opened, open_folder};
-use crate::refused::{is_memory, refusal_told};
-use crate::told::Told;
+use crate::refused::{explain_refusal, is_memory};
 use difference_words::counted_differences;
 use messages::{Message, format_count, join_words, spot_text};
 use refusal_words::{CutSource, cut_sources, place_spot};
@@ -26,7 +26,11 @@ use value_at::{ValuePlace, places_of};
 
 /// What is said of the footprint of the declaration that a target names: the declarations and the uses, in order; or
 /// the first refusal. The one error is want of memory.
-pub fn explain_footprint(alloc: Global, files: &Files, target: &Target) -> Result<Told, Memory>
+pub fn explain_footprint(
+    alloc: Global,
+    files: &Files,
+    target: &Target,
+) -> Result<Explanation, Memory>
     ensures { IfOk result (SaysFootprint files.now target.now) }
 {
     let opened = match open_folder(alloc, files) {
@@ -45,14 +49,14 @@ fn refused_footprint(
     files: &Files,
     target: &Target,
     refusal: &Refusal,
-) -> Result<Told, Memory>
+) -> Result<Explanation, Memory>
     requires { IsRefusedFor (λ why. Shows files.now target.now (Err why)) refusal.now }
     ensures { IfOk result (SaysFootprint files.now target.now) }
 {
     if is_memory(refusal) {
         return Err(Memory);
     }
-    refusal_told(alloc, files, target, b"", refusal)
+    explain_refusal(alloc, files, target, b"", refusal)
 }
 
 /// What is said of a footprint that is shown.
@@ -63,23 +67,23 @@ fn shown_footprint(
     opened: &Opened<'_>,
     target: &Target,
     shown: &FootReport,
-) -> Result<Told, Memory>
+) -> Result<Explanation, Memory>
     requires reads { Reads files.now (view_project opened.now.read.project) }
     requires cut { AreCut files.now.entries (map (λ list. view_tokens list.items) opened.now.read.tokens.items) }
     requires known { AreFacts files.now opened.now.resolved.facts }
     requires shown { Shows files.now target.now (Ok shown.now) }
     ensures { IfOk result (SaysFootprint files.now target.now) }
 {
-    shown_told(alloc, files, opened, shown)
+    explain_shown_footprint(alloc, files, opened, shown)
 }
 
 /// What is said of a footprint that is shown, over the facts of the folder.
-fn shown_told(
+fn explain_shown_footprint(
     alloc: Global,
     files: &Files,
     opened: &Opened<'_>,
     shown: &FootReport,
-) -> Result<Told, Memory>
+) -> Result<Explanation, Memory>
     requires reads { Reads files.now (view_project opened.now.read.project) }
     requires cut { AreCut files.now.entries (map (λ list. view_tokens list.items) opened.now.read.tokens.items) }
     requires facts { AreFacts files.now opened.now.resolved.facts }
@@ -92,7 +96,7 @@ fn shown_told(
     push_places(alloc, &mut text, &cuts, &places)?;
     push_outside(alloc, &mut text, &cuts, shown.foot.outside)?;
     text.extend_from_slice(count.as_slice())?;
-    Ok(Told {
+    Ok(Explanation {
         ending: Ending::Done,
         messages: Row::new(alloc),
         text: Row::from_vec(text),

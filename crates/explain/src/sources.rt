@@ -3,7 +3,7 @@ ghost use Rattle.std.specs.Prelude.{◌≡◌, ◌≢◌, ◌++◌, IfNone, IfOk
 ghost use Rattle.rotor_base.specs.declared.refusal.LoadError.TheVariants as load_error;
 ghost use Rattle.project_reading.specs.Reads.{IsRefused};
 ghost use Rattle.explain.specs.Sources.{IsNoProject, SaysSource, SaysSources, alone};
-ghost use Rattle.explain.specs.Told.{listed};
+ghost use Rattle.explain.specs.Explanation.{listed};
 
 use crate::refused::is_memory;
 use messages::Message;

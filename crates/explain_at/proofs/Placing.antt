@@ -6,7 +6,7 @@ use Rattle.ml_trees.specs.Tree.{UnitTree}
 use Rattle.project_reading.specs.Reads.{IsRefused}
 use Rattle.rename_files.specs.Answer.{Checks}
 use Rattle.rename_project.specs.Steps.{IsRefusedFor}
-use Rattle.explain.specs.declared.told.Told.{Told}
+use Rattle.explain.specs.declared.explanation.Explanation.{Explanation}
 use Rattle.std.specs.Prelude.{ℕ, Some, None, slice_get}
 use Rattle.report.specs.Pieces.{Word}
 use Rattle.rotor_base.specs.declared.place.Place.{Place}
@@ -24,7 +24,7 @@ use Rattle.refusal_words.specs.Cut.{Cut}
 use Rattle.refusal_words.specs.Target.{nameless}
 use Rattle.refusal_words.specs.Unnamed.{no_line, no_token_at}
 use Rattle.explain_at.specs.At.{SaysCut, SaysInside, SaysPlace, SaysSpot, at_token, between, declared, has, nothing, past_lines}
-use Rattle.explain_at.specs.At.{refused_at, target_told, valueless}
+use Rattle.explain_at.specs.At.{explanation_of_target, refused_at, valueless}
 
 pub if_ok_as : {A E : Type 0} (result : Result A E) (P Q : A → Type 0) → ((a : A) → P a → Q a) → IfOk result P → IfOk result Q
 if_ok_as (Ok a) P Q f h = f a h
@@ -38,48 +38,49 @@ unread files why (inr h) = inr h
 -- ---- a token
 
 module _ (us : List UnitTree) (cuts : List Cut) (p : Place) where
-  pub said_declared : {E : Type 0} (found : ValueAt) (d : Place) (result : Result Told E) → IsValueAt us p found → found ≡ value.Value d
-      → IfOk result (λ told. told ≡ target_told cuts d) → IfOk result (SaysPlace us cuts p)
+  pub said_declared : {E : Type 0} (found : ValueAt) (d : Place) (result : Result Explanation E) → IsValueAt us p found → found ≡ value.Value d
+      → IfOk result (λ explanation. explanation ≡ explanation_of_target cuts d) → IfOk result (SaysPlace us cuts p)
   said_declared found d (Err e) at is h = tt
-  said_declared found d (Ok told) at is h = declared d (subst (IsValueAt us p) is at) h
+  said_declared found d (Ok explanation) at is h = declared d (subst (IsValueAt us p) is at) h
 
-  pub said_nothing : {E : Type 0} (found : ValueAt) (message : Message) (result : Result Told E) → IsValueAt us p found
-      → ((d : Place) → found ≡ value.Value d → ⊥) → message ≡ valueless cuts p found → IfOk result (λ told. told ≡ refused_at message)
+  pub said_nothing : {E : Type 0} (found : ValueAt) (message : Message) (result : Result Explanation E) → IsValueAt us p found
+      → ((d : Place) → found ≡ value.Value d → ⊥) → message ≡ valueless cuts p found → IfOk result (λ explanation. explanation ≡ refused_at message)
       → IfOk result (SaysPlace us cuts p)
   said_nothing found message (Err e) at none is h = tt
-  said_nothing found message (Ok told) at none is h = nothing found at none (h ∙ ap refused_at is)
+  said_nothing found message (Ok explanation) at none is h = nothing found at none (h ∙ ap refused_at is)
 
 -- ---- a line and a column
 
 module _ (us : List UnitTree) (cuts : List Cut) (number : ℕ) (cut : Cut) (here : Position) (there : slice_get cuts number ≡ Some cut) where
-  inside : {E : Type 0} (result : Result Told E) → IfOk result (SaysInside us cuts number cut here) → IfOk result (SaysCut us cuts number here)
+  inside : {E : Type 0} (result : Result Explanation E) → IfOk result (SaysInside us cuts number cut here) → IfOk result (SaysCut us cuts number here)
   inside (Err e) h = tt
-  inside (Ok told) h = (cut, there, h)
+  inside (Ok explanation) h = (cut, there, h)
 
-  pub said_past : {E : Type 0} (sentence : Word) (message : Message) (result : Result Told E) → offset_of People here cut.bytes ≡ None
-      → sentence ≡ no_line cut.name here.line → message ≡ nameless sentence → IfOk result (λ told. told ≡ refused_at message)
+  pub said_past : {E : Type 0} (sentence : Word) (message : Message) (result : Result Explanation E) → offset_of People here cut.bytes ≡ None
+      → sentence ≡ no_line cut.name here.line → message ≡ nameless sentence → IfOk result (λ explanation. explanation ≡ refused_at message)
       → IfOk result (SaysCut us cuts number here)
   said_past sentence message result none is so h =
-      inside result (if_ok_as result (λ told. told ≡ refused_at message) (SaysInside us cuts number cut here)
-      (λ told e. past_lines none (e ∙ ap refused_at (so ∙ ap nameless is))) h)
+      inside result (if_ok_as result (λ explanation. explanation ≡ refused_at message) (SaysInside us cuts number cut here)
+      (λ explanation e. past_lines none (e ∙ ap refused_at (so ∙ ap nameless is))) h)
 
-  pub said_between : {E : Type 0} (offset : ℕ) (sentence : Word) (message : Message) (result : Result Told E)
+  pub said_between : {E : Type 0} (offset : ℕ) (sentence : Word) (message : Message) (result : Result Explanation E)
       → offset_of People here cut.bytes ≡ Some offset → token_at offset cut.lexemes ≡ None
-      → sentence ≡ no_token_at cut.name here.line here.column → message ≡ nameless sentence → IfOk result (λ told. told ≡ refused_at message)
+      → sentence ≡ no_token_at cut.name here.line here.column → message ≡ nameless sentence
+      → IfOk result (λ explanation. explanation ≡ refused_at message)
       → IfOk result (SaysCut us cuts number here)
   said_between offset sentence message result at none is so h =
-      inside result (if_ok_as result (λ told. told ≡ refused_at message) (SaysInside us cuts number cut here)
-      (λ told e. between offset at none (e ∙ ap refused_at (so ∙ ap nameless is))) h)
+      inside result (if_ok_as result (λ explanation. explanation ≡ refused_at message) (SaysInside us cuts number cut here)
+      (λ explanation e. between offset at none (e ∙ ap refused_at (so ∙ ap nameless is))) h)
 
-  pub said_token : {E : Type 0} (offset token : ℕ) (result : Result Told E) → offset_of People here cut.bytes ≡ Some offset
+  pub said_token : {E : Type 0} (offset token : ℕ) (result : Result Explanation E) → offset_of People here cut.bytes ≡ Some offset
       → token_at offset cut.lexemes ≡ Some token → IfOk result (SaysPlace us cuts (record { file = number; token = token }))
       → IfOk result (SaysCut us cuts number here)
   said_token offset token result at is h =
       inside result (if_ok_as result (SaysPlace us cuts (record { file = number; token = token })) (SaysInside us cuts number cut here)
-      (λ told says. at_token offset token at is says) h)
+      (λ explanation says. at_token offset token at is says) h)
 
 pub said_has : {E : Type 0} (files : List SourceFile) (us : List UnitTree) (cuts : List Cut) (file : Word) (here : Position) (number : ℕ)
-    (result : Result Told E) → number_of files file ≡ Some number → IfOk result (SaysCut us cuts number here)
+    (result : Result Explanation E) → number_of files file ≡ Some number → IfOk result (SaysCut us cuts number here)
     → IfOk result (SaysSpot files us cuts file here)
 said_has files us cuts file here number result at h =
-    if_ok_as result (SaysCut us cuts number here) (SaysSpot files us cuts file here) (λ told says. has number at says) h
+    if_ok_as result (SaysCut us cuts number here) (SaysSpot files us cuts file here) (λ explanation says. has number at says) h

@@ -11,9 +11,9 @@ ghost use Rattle.cli_words.specs.Target.{target_of};
 ghost use Rattle.explain_at.specs.At.{IsRejected, SaysAt, SaysOver, SaysTarget, no_place as no_place_of};
 
 use crate::place::refuse_at;
-use crate::spot::spot_told;
+use crate::spot::explain_spot;
 use cli_words::read_target;
-use explain::{Told, explain_check};
+use explain::{Explanation, explain_check};
 use messages::{Message, join_words, shown_word};
 use ml_trees::Project;
 use project_reading::read_project;
@@ -26,21 +26,25 @@ use text_places::Position;
 /// What is said of the value at a place of the files of a project. The word is `FILE:LINE:COLUMN`, with lines and
 /// columns from 1, and columns in bytes. If the token there declares or uses a value of the folder, it is the target of
 /// its declaration, `FILE#N`. The one error is want of memory.
-pub fn explain_at(alloc: Global, files: &Files, word: &str) -> Result<Told, Memory>
+pub fn explain_at(alloc: Global, files: &Files, word: &str) -> Result<Explanation, Memory>
     ensures { IfOk result (SaysAt files.now word.now) }
 {
     let read = match read_project(alloc, files) {
         Ok(read) => read,
-        Err(why) => return rejected_told(alloc, files, &why),
+        Err(why) => return explain_rejected_folder(alloc, files, &why),
     };
     match resolve(alloc, &read.project) {
-        Ok(resolved) => told_over(alloc, files, &read.project, &resolved.facts, word),
-        Err(why) => rejected_told(alloc, files, &why),
+        Ok(resolved) => explain_over(alloc, files, &read.project, &resolved.facts, word),
+        Err(why) => explain_rejected_folder(alloc, files, &why),
     }
 }
 
 /// What is said of a folder that is refused: what `check` says of it.
-fn rejected_told(alloc: Global, files: &Files, why: &Refusal) -> Result<Told, Memory>
+fn explain_rejected_folder(
+    alloc: Global,
+    files: &Files,
+    why: &Refusal,
+) -> Result<Explanation, Memory>
     requires { IsRefusedFor (λ w. Checks files.now (Err w)) why.now }
     ensures { IfOk result (IsRejected files.now) }
 {
@@ -51,13 +55,13 @@ fn rejected_told(alloc: Global, files: &Files, why: &Refusal) -> Result<Told, Me
 }
 
 /// What is said of a word over the files of a project that is accepted.
-fn told_over(
+fn explain_over(
     alloc: Global,
     files: &Files,
     project: &Project,
     facts: &Facts,
     word: &str,
-) -> Result<Told, Memory>
+) -> Result<Explanation, Memory>
     requires sound { IsSound (view_project project.now) }
     requires accepts { Accepts files.now (view_project project.now) }
     requires facts { facts.now ≡ facts_of (view_project project.now) }
@@ -65,18 +69,18 @@ fn told_over(
 {
     let sources = files.entries();
     let cuts = cut_sources(alloc, sources)?;
-    word_told(alloc, project, facts, sources, &cuts, word)
+    explain_word(alloc, project, facts, sources, &cuts, word)
 }
 
 /// What is said of a word over sources that are cut.
-fn word_told(
+fn explain_word(
     alloc: Global,
     project: &Project,
     facts: &Facts,
     sources: &[SourceFile],
     cuts: &[CutSource<'_>],
     word: &str,
-) -> Result<Told, Memory>
+) -> Result<Explanation, Memory>
     requires sound { IsSound (view_project project.now) }
     requires facts { facts.now ≡ facts_of (view_project project.now) }
     requires few { length sources.now ≤ max_sources }
@@ -87,7 +91,7 @@ fn word_told(
     match read_target(alloc, word)? {
         Target::Spot { file, line, column } => {
             let here = Position { line, column };
-            spot_told(alloc, project, facts, sources, cuts, file.as_bytes(), here)
+            explain_spot(alloc, project, facts, sources, cuts, file.as_bytes(), here)
         }
         Target::At { .. } | Target::Dotted(_) => refuse_at(alloc, no_place(alloc, word)?),
     }

@@ -8,9 +8,9 @@ ghost use Rattle.refusal_words.specs.Parts.{placed as placed_of};
 ghost use Rattle.refusal_words.specs.Stretches.{place_spot as place_spot_of};
 ghost use Rattle.explain.specs.Lines.{place_message as place_message_of, place_word as place_word_of};
 ghost use Rattle.messages.specs.declared.kinds.Kind.TheVariants as kind;
-ghost use Rattle.explain_at.specs.At.{SaysPlace, declaration_message as declaration_message_of, refused_at as refused_at_of, target_line as target_line_of, target_told as target_told_of, valueless as valueless_of, valueless_text as valueless_text_of};
+ghost use Rattle.explain_at.specs.At.{SaysPlace, declaration_message as declaration_message_of, explanation_of_target, refused_at as refused_at_of, target_line as target_line_of, valueless as valueless_of, valueless_text as valueless_text_of};
 
-use explain::{Ending, Told, maybe_told, place_message, place_word};
+use explain::{Ending, Explanation, explain_by_message, place_message, place_word};
 use messages::{Kind, Message, Severity, join_words};
 use ml_trees::Project;
 use refusal_words::{CutSource, place_spot, word_at};
@@ -20,38 +20,42 @@ use std::alloc::Global;
 use value_at::{ValueAt, value_at};
 
 /// What is said of a token: the target of the value that it declares or uses, or that there is none.
-pub(crate) fn place_told(
+pub(crate) fn explain_place(
     alloc: Global,
     project: &Project,
     facts: &Facts,
     cuts: &[CutSource<'_>],
     place: Place,
-) -> Result<Told, Memory>
+) -> Result<Explanation, Memory>
     requires sound { IsSound (view_project project.now) }
     requires facts { facts.now ≡ facts_of (view_project project.now) }
     ensures { IfOk result (SaysPlace (view_project project.now) (map view_cut cuts.now) place) }
 {
     match value_at(alloc, project, facts, place)? {
-        ValueAt::Value(declared) => target_told(alloc, cuts, declared),
+        ValueAt::Value(declared) => explain_target(alloc, cuts, declared),
         found => refuse_at(alloc, explain_valueless(alloc, cuts, place, found)?),
     }
 }
 
 /// What is said of a place that has no target.
-pub(crate) fn refuse_at(alloc: Global, message: Message) -> Result<Told, Memory>
-    ensures { IfOk result (λ told. told ≡ refused_at_of message) }
+pub(crate) fn refuse_at(alloc: Global, message: Message) -> Result<Explanation, Memory>
+    ensures { IfOk result (λ explanation. explanation ≡ refused_at_of message) }
 {
-    maybe_told(alloc, Ending::Refused, Some(message))
+    explain_by_message(alloc, Ending::Refused, Some(message))
 }
 
 /// The target of a declaration, on a line.
-fn target_told(alloc: Global, cuts: &[CutSource<'_>], declared: Place) -> Result<Told, Memory>
-    ensures { IfOk result (λ told. told ≡ target_told_of (map view_cut cuts.now) declared) }
+fn explain_target(
+    alloc: Global,
+    cuts: &[CutSource<'_>],
+    declared: Place,
+) -> Result<Explanation, Memory>
+    ensures { IfOk result (λ explanation. explanation ≡ explanation_of_target (map view_cut cuts.now) declared) }
 {
     let text = target_line(alloc, cuts, declared)?;
     let mut places = Row::new(alloc);
     places.push(declaration_message(alloc, cuts, declared)?)?;
-    Ok(Told {
+    Ok(Explanation {
         ending: Ending::Done,
         messages: Row::new(alloc),
         text,

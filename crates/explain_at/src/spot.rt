@@ -7,8 +7,8 @@ ghost use Rattle.binding_model.specs.Facts.{facts as facts_of};
 ghost use Rattle.refusal_words.specs.Cut.{view_cut};
 ghost use Rattle.explain_at.specs.At.{SaysCut, SaysSpot};
 
-use crate::place::{place_told, refuse_at};
-use explain::Told;
+use crate::place::{explain_place, refuse_at};
+use explain::Explanation;
 use ml_trees::Project;
 use refusal_words::{CutSource, explain_nameless, no_line, no_source, no_token_at};
 use rename_parts::number_of;
@@ -18,7 +18,7 @@ use text_places::{Counting, Position, offset_of};
 use value_at::token_at;
 
 /// What is said of a line and a column of the source of a name.
-pub(crate) fn spot_told(
+pub(crate) fn explain_spot(
     alloc: Global,
     project: &Project,
     facts: &Facts,
@@ -26,7 +26,7 @@ pub(crate) fn spot_told(
     cuts: &[CutSource<'_>],
     file: &[u8],
     here: Position,
-) -> Result<Told, Memory>
+) -> Result<Explanation, Memory>
     requires sound { IsSound (view_project project.now) }
     requires facts { facts.now ≡ facts_of (view_project project.now) }
     requires few { length sources.now ≤ max_sources }
@@ -35,20 +35,20 @@ pub(crate) fn spot_told(
     ensures { IfOk result (SaysSpot sources.now (view_project project.now) (map view_cut cuts.now) file.now here) }
 {
     match number_of(sources, file) {
-        Some(number) => cut_told(alloc, project, facts, cuts, number, here),
+        Some(number) => explain_spot_of_source(alloc, project, facts, cuts, number, here),
         None => refuse_at(alloc, explain_nameless(alloc, no_source(alloc, file)?)?),
     }
 }
 
 /// What is said of a line and a column of the source of a number.
-fn cut_told(
+fn explain_spot_of_source(
     alloc: Global,
     project: &Project,
     facts: &Facts,
     cuts: &[CutSource<'_>],
     number: u32,
     here: Position,
-) -> Result<Told, Memory>
+) -> Result<Explanation, Memory>
     requires sound { IsSound (view_project project.now) }
     requires facts { facts.now ≡ facts_of (view_project project.now) }
     requires small { All (λ cut. length cut.tokens.items ≤ max_file_bytes) cuts.now }
@@ -68,5 +68,5 @@ fn cut_told(
         file: number,
         token,
     };
-    place_told(alloc, project, facts, cuts, place)
+    explain_place(alloc, project, facts, cuts, place)
 }

@@ -9,8 +9,8 @@ ghost use Rattle.refusal_words.specs.Commands.{no_batch as no_batch_of};
 ghost use Rattle.refusal_words.specs.Folder.{large_file as large_file_of};
 ghost use Rattle.explain_batch.specs.File.{SaysBatch, SaysLine, batch_in, refused_with};
 
-use crate::steps::steps_told;
-use explain::{Told, unloaded_told};
+use crate::steps::explain_steps;
+use explain::{Explanation, explain_unloaded};
 use line_stretches::line_stretch;
 use project_load::is_project_file;
 use refusal_words::{batch_line, large_file, long_batch, no_batch};
@@ -33,22 +33,22 @@ pub fn explain_batch<T: Tree>(
     file: &str,
     files: &Files,
     tree: &mut T,
-) -> Result<Told, TreeError>
-    ensures said { IfOk result (λ told. IfSome (T.content tree.old) (λ held. SaysBatch file.now (batch_in held file.now) files.now told)) }
+) -> Result<Explanation, TreeError>
+    ensures said { IfOk result (λ explanation. IfSome (T.content tree.old) (λ held. SaysBatch file.now (batch_in held file.now) files.now explanation)) }
     ensures content { T.content tree.new ≡ T.content tree.old }
     ensures cause { HasCause (T.faults tree.old) (T.faults tree.new) result }
 {
     match read_batch_file(alloc, file, tree)? {
-        None => Ok(missing_told(alloc, file)?),
-        Some(bytes) => Ok(bytes_told(alloc, file, files, &bytes)?),
+        None => Ok(explain_missing_file(alloc, file)?),
+        Some(bytes) => Ok(explain_bytes(alloc, file, files, &bytes)?),
     }
 }
 
 /// What is said of a file that the folder lacks, or that is a source or the manifest.
-fn missing_told(alloc: Global, file: &str) -> Result<Told, Memory>
-    ensures { IfOk result (λ told. told ≡ refused_with (no_batch_of file.now)) }
+fn explain_missing_file(alloc: Global, file: &str) -> Result<Explanation, Memory>
+    ensures { IfOk result (λ explanation. explanation ≡ refused_with (no_batch_of file.now)) }
 {
-    unloaded_told(alloc, Some(no_batch(alloc, file.as_bytes())?))
+    explain_unloaded(alloc, Some(no_batch(alloc, file.as_bytes())?))
 }
 
 /// The first bytes of the file of a batch, as many as it may have and one more; none if the folder lacks the file, or
@@ -81,36 +81,46 @@ fn has_name(listed: &[String], name: &str) -> bool
 }
 
 /// What is said of a batch of these bytes.
-fn bytes_told(alloc: Global, file: &str, files: &Files, bytes: &[u8]) -> Result<Told, Memory>
+fn explain_bytes(
+    alloc: Global,
+    file: &str,
+    files: &Files,
+    bytes: &[u8],
+) -> Result<Explanation, Memory>
     requires { length bytes.now ≤ max_file_bytes + 1 }
     ensures { IfOk result (SaysBatch file.now (Some bytes.now) files.now) }
 {
     if bytes.len() > MAX_FILE_BYTES as usize {
-        return large_told(alloc, file);
+        return explain_large_file(alloc, file);
     }
     match read_batch(alloc, bytes) {
-        Ok(steps) => steps_told(alloc, files, &steps),
-        Err(BatchReadError::Line(number)) => line_told(alloc, file, bytes, number),
+        Ok(steps) => explain_steps(alloc, files, &steps),
+        Err(BatchReadError::Line(number)) => explain_bad_line(alloc, file, bytes, number),
         Err(BatchReadError::Memory) => Err(Memory),
     }
 }
 
 /// What is said of a file that is too large.
-fn large_told(alloc: Global, file: &str) -> Result<Told, Memory>
-    ensures { IfOk result (λ told. told ≡ refused_with (large_file_of file.now)) }
+fn explain_large_file(alloc: Global, file: &str) -> Result<Explanation, Memory>
+    ensures { IfOk result (λ explanation. explanation ≡ refused_with (large_file_of file.now)) }
 {
-    unloaded_told(alloc, Some(large_file(alloc, file.as_bytes())?))
+    explain_unloaded(alloc, Some(large_file(alloc, file.as_bytes())?))
 }
 
 /// What is said of a batch whose line of this number is bad.
-fn line_told(alloc: Global, file: &str, bytes: &[u8], number: u32) -> Result<Told, Memory>
+fn explain_bad_line(
+    alloc: Global,
+    file: &str,
+    bytes: &[u8],
+    number: u32,
+) -> Result<Explanation, Memory>
     requires { length bytes.now ≤ max_file_bytes }
-    ensures { IfOk result (λ told. 0 < number → number ≤ length (feed_lines bytes.now) → SaysLine file.now bytes.now number told) }
+    ensures { IfOk result (λ explanation. 0 < number → number ≤ length (feed_lines bytes.now) → SaysLine file.now bytes.now number explanation) }
 {
     if number > MAX_BATCH_LINES {
-        return unloaded_told(alloc, Some(long_batch(alloc, file.as_bytes())?));
+        return explain_unloaded(alloc, Some(long_batch(alloc, file.as_bytes())?));
     }
     let (start, end) = line_stretch(bytes, number);
     let message = batch_line(alloc, file.as_bytes(), bytes, start, end)?;
-    unloaded_told(alloc, Some(message))
+    explain_unloaded(alloc, Some(message))
 }

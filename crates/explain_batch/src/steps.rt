@@ -2,32 +2,38 @@
 ghost use Rattle.std.specs.Prelude.{◌≡◌, ◌<◌, ◌^◌, IfOk, length};
 ghost use Rattle.explain_batch.specs.Steps.{SaysDone, SaysSteps, done_line as done_line_of};
 
-use crate::stopped::stopped_told;
-use explain::{Ending, Told, bare_told, diffs_text};
+use crate::stopped::explain_stopped_batch;
+use explain::{Ending, Explanation, diffs_text, explain_by_text};
 use messages::{format_count, join_words};
 use rename_batch::{BatchError, Batched, Step, batch};
 use rotor_base::{Files, Memory, Row};
 use std::alloc::Global;
 
 /// What is said of a batch of these steps.
-pub(crate) fn steps_told(alloc: Global, files: &Files, steps: &[Step]) -> Result<Told, Memory>
+pub(crate) fn explain_steps(
+    alloc: Global,
+    files: &Files,
+    steps: &[Step],
+) -> Result<Explanation, Memory>
     requires { length steps.now < 2 ^ 32 }
     ensures { IfOk result (SaysSteps files.now steps.now) }
 {
     match batch(alloc, files, steps) {
-        Ok(batched) => done_told(alloc, files, steps, &batched),
-        Err(BatchError::At { step, refusal }) => stopped_told(alloc, files, steps, step, &refusal),
+        Ok(batched) => explain_done_batch(alloc, files, steps, &batched),
+        Err(BatchError::At { step, refusal }) => explain_stopped_batch(
+            alloc, files, steps, step, &refusal,
+        ),
         Err(BatchError::Memory) => Err(Memory),
     }
 }
 
 /// What is said of a batch that would be done.
-fn done_told(
+fn explain_done_batch(
     alloc: Global,
     files: &Files,
     steps: &[Step],
     batched: &Batched,
-) -> Result<Told, Memory>
+) -> Result<Explanation, Memory>
     ensures { IfOk result (SaysDone files.now steps.now batched.now) }
 {
     let line = done_line(alloc, steps, batched)?;
@@ -35,7 +41,7 @@ fn done_told(
     let changed = batched.changed.as_slice();
     let diffs = diffs_text(alloc, files.entries(), batched.files.entries(), changed)?;
     text.extend_from_slice(&diffs)?;
-    Ok(bare_told(alloc, Ending::Done, Row::from_vec(text)))
+    Ok(explain_by_text(alloc, Ending::Done, Row::from_vec(text)))
 }
 
 /// How many steps a batch has, and how many sources it would change.

@@ -3,10 +3,10 @@ ghost use Rattle.std.specs.Prelude.{◌≡◌, ◌<◌, ◌≤◌, ◌-◌, ◌^
 ghost use Rattle.rename_batch.specs.Batch.{Batches};
 ghost use Rattle.rename_batch.specs.declared.error.BatchError.{BatchError};
 ghost use Rattle.refusal_words.specs.Refused.{in_step as in_step_of};
-ghost use Rattle.explain.specs.Told.{maybe_told};
+ghost use Rattle.explain.specs.Explanation.{explanation_of_message};
 ghost use Rattle.explain_batch.specs.Steps.{IsStopped, SaysStep, SaysStepAfter, in_steps as in_steps_of};
 
-use explain::{Ending, Told, explain_rename, unloaded_told};
+use explain::{Ending, Explanation, explain_rename, explain_unloaded};
 use messages::Message;
 use refusal_places::placed_message;
 use refusal_words::{cut_sources, in_step};
@@ -15,20 +15,20 @@ use rotor_base::{Files, Memory, Refusal, Row};
 use std::alloc::Global;
 
 /// What is said of a batch whose step of this number, from 1, is the first that is refused.
-pub(crate) fn stopped_told(
+pub(crate) fn explain_stopped_batch(
     alloc: Global,
     files: &Files,
     steps: &[Step],
     number: u32,
     why: &Refusal,
-) -> Result<Told, Memory>
+) -> Result<Explanation, Memory>
     requires few { length steps.now < 2 ^ 32 }
     requires stops { Batches files.now steps.now (Err (BatchError.At number why.now)) }
     ensures { IfOk result (IsStopped files.now steps.now number why.now) }
 {
     let front = number.saturating_sub(1) as usize;
     let before = done_before(alloc, files, &steps[..front])?;
-    step_told(alloc, &before.files, &steps[front], number, why)
+    explain_step(alloc, &before.files, &steps[front], number, why)
 }
 
 /// What steps have done that are all accepted. Their one error is want of memory.
@@ -43,18 +43,18 @@ fn done_before(alloc: Global, files: &Files, steps: &[Step]) -> Result<Batched, 
 }
 
 /// What is said of the step of this number, which is refused over these files.
-fn step_told(
+fn explain_step(
     alloc: Global,
     files: &Files,
     step: &Step,
     number: u32,
     why: &Refusal,
-) -> Result<Told, Memory>
+) -> Result<Explanation, Memory>
     ensures { IfOk result (SaysStepAfter files.now step.now number why.now) }
 {
     let cuts = cut_sources(alloc, files.entries())?;
     match placed_message(alloc, &cuts, why)? {
-        Some(message) => unread_told(alloc, number, message),
+        Some(message) => explain_unread_folder(alloc, number, message),
         None => {
             let said = explain_rename(alloc, files, &step.target, step.name.as_bytes(), false)?;
             in_steps(alloc, number, said)
@@ -63,21 +63,25 @@ fn step_told(
 }
 
 /// What is said of a step over a folder that is refused.
-fn unread_told(alloc: Global, number: u32, message: Message) -> Result<Told, Memory>
-    ensures { IfOk result (λ told. told ≡ maybe_told Ending.Project (Some (in_step_of number message))) }
+fn explain_unread_folder(
+    alloc: Global,
+    number: u32,
+    message: Message,
+) -> Result<Explanation, Memory>
+    ensures { IfOk result (λ explanation. explanation ≡ explanation_of_message Ending.Project (Some (in_step_of number message))) }
 {
-    unloaded_told(alloc, Some(in_step(alloc, number, message)?))
+    explain_unloaded(alloc, Some(in_step(alloc, number, message)?))
 }
 
 /// What is said of a renaming, as that of a step.
-fn in_steps(alloc: Global, number: u32, said: Told) -> Result<Told, Memory>
-    ensures { IfOk result (λ told. told ≡ in_steps_of number said) }
+fn in_steps(alloc: Global, number: u32, said: Explanation) -> Result<Explanation, Memory>
+    ensures { IfOk result (λ explanation. explanation ≡ in_steps_of number said) }
 {
     let mut messages = Row::new(alloc);
     for message in said.messages.into_vec() {
         messages.push(in_step(alloc, number, message)?)?;
     }
-    Ok(Told {
+    Ok(Explanation {
         ending: said.ending,
         messages,
         text: Row::new(alloc),

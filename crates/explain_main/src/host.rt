@@ -5,7 +5,7 @@ ghost use Rattle.explain_main.specs.declared.code.ExitStatus.{ExitStatus};
 ghost use Rattle.explain_main.specs.Code.{code_of};
 
 use crate::code::ExitStatus;
-use crate::told::explain_words;
+use crate::explanation::explain_words;
 use std::fs::File;
 use std::process::ExitCode;
 use std::rt::{Env, Files};

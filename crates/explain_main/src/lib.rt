@@ -3,11 +3,11 @@
 #![tactic(auto)]
 
 mod code;
+mod explanation;
 mod host;
-mod told;
 mod words;
 
 pub use code::ExitStatus;
+pub use explanation::explain_words;
 pub use host::run;
-pub use told::explain_words;
 pub use words::{Asked, FilesQuestion, Question, read_asked};

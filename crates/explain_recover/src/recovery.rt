@@ -4,11 +4,11 @@ ghost use Rattle.tree_io.specs.Outside.{HasCause};
 ghost use Rattle.refusal_words.specs.Commands.{bad_plan as bad_plan_of};
 ghost use Rattle.rotor_base.specs.declared.source.SourceFile.{SourceFile};
 ghost use Rattle.apply_journal.specs.Recovered.{plan_writes};
-ghost use Rattle.explain.specs.Told.{bare_told as bare_told_of, maybe_told};
+ghost use Rattle.explain.specs.Explanation.{explanation_of_message, explanation_of_text};
 ghost use Rattle.explain_recover.specs.Recovery.{SaysRecovery, name_line, recovery_text as recovery_text_of};
 
 use apply_journal::{RecoverError, read_recovery};
-use explain::{Ending, Told, bare_told, unloaded_told};
+use explain::{Ending, Explanation, explain_by_text, explain_unloaded};
 use messages::{format_count, join_words};
 use refusal_words::bad_plan;
 use rotor_base::{Memory, Row, SourceFile};
@@ -21,42 +21,42 @@ use tree_io::{Tree, TreeError};
 /// # Errors
 ///
 /// `Failed` after a counted fault, and `Memory`.
-pub fn explain_recover<T: Tree>(alloc: Global, tree: &mut T) -> Result<Told, TreeError>
-    ensures said { IfOk result (λ told. IfSome (T.content tree.old) (λ held. SaysRecovery held told)) }
+pub fn explain_recover<T: Tree>(alloc: Global, tree: &mut T) -> Result<Explanation, TreeError>
+    ensures said { IfOk result (λ explanation. IfSome (T.content tree.old) (λ held. SaysRecovery held explanation)) }
     ensures content { T.content tree.new ≡ T.content tree.old }
     ensures cause { HasCause (T.faults tree.old) (T.faults tree.new) result }
 {
     match read_recovery(alloc, tree) {
-        Ok(None) => Ok(idle_told(alloc)?),
-        Ok(Some(writes)) => Ok(recovered_told(alloc, &writes)?),
-        Err(RecoverError::BadPlan) => Ok(lost_told(alloc)?),
+        Ok(None) => Ok(explain_idle_folder(alloc)?),
+        Ok(Some(writes)) => Ok(explain_writes(alloc, &writes)?),
+        Err(RecoverError::BadPlan) => Ok(explain_lost_plan(alloc)?),
         Err(RecoverError::Read) => Err(TreeError::Failed),
         Err(RecoverError::Write | RecoverError::Memory) => Err(TreeError::Memory),
     }
 }
 
 /// What is said of a folder in which there is nothing to recover.
-fn idle_told(alloc: Global) -> Result<Told, Memory>
-    ensures { IfOk result (λ told. told ≡ bare_told_of Ending.Done (codes "nothing to recover\n")) }
+fn explain_idle_folder(alloc: Global) -> Result<Explanation, Memory>
+    ensures { IfOk result (λ explanation. explanation ≡ explanation_of_text Ending.Done (codes "nothing to recover\n")) }
 {
     let text = Row::from_vec(b"nothing to recover\n".to_vec(alloc)?);
-    Ok(bare_told(alloc, Ending::Done, text))
+    Ok(explain_by_text(alloc, Ending::Done, text))
 }
 
 /// What is said of an open gate without a plan.
-fn lost_told(alloc: Global) -> Result<Told, Memory>
-    ensures { IfOk result (λ told. told ≡ maybe_told Ending.Project (Some bad_plan_of)) }
+fn explain_lost_plan(alloc: Global) -> Result<Explanation, Memory>
+    ensures { IfOk result (λ explanation. explanation ≡ explanation_of_message Ending.Project (Some bad_plan_of)) }
 {
-    unloaded_told(alloc, Some(bad_plan(alloc)?))
+    explain_unloaded(alloc, Some(bad_plan(alloc)?))
 }
 
 /// What is said of a recovery of these writes, the last of which closes the gate.
-fn recovered_told(alloc: Global, writes: &[SourceFile]) -> Result<Told, Memory>
-    ensures { IfOk result (λ told. (files : List SourceFile) → writes.now ≡ plan_writes files → told ≡ bare_told_of Ending.Done (recovery_text_of files)) }
+fn explain_writes(alloc: Global, writes: &[SourceFile]) -> Result<Explanation, Memory>
+    ensures { IfOk result (λ explanation. (files : List SourceFile) → writes.now ≡ plan_writes files → explanation ≡ explanation_of_text Ending.Done (recovery_text_of files)) }
 {
     let files = drop_last(writes);
     let text = recovery_text(alloc, files)?;
-    Ok(bare_told(alloc, Ending::Done, text))
+    Ok(explain_by_text(alloc, Ending::Done, text))
 }
 
 /// All files but the last.

@@ -10,15 +10,16 @@ use Rattle.rename_verify.specs.declared.verdict.Verdict.{Verdict}
 use Rattle.rename_verify.specs.Verdict.{Verdicts}
 use Rattle.refusal_words.specs.Cut.{AreCuts, view_cut}
 use Rattle.refusal_words.specs.declared.cut.CutSource.{CutSource}
-use Rattle.explain.specs.declared.told.Told.{Told}
+use Rattle.explain.specs.declared.explanation.Explanation.{Explanation}
 use Rattle.explain_verify.specs.Judged.{IsJudged, SaysAnswer, SaysRefused}
 
 module _ (old new : FileSet) (old_sources new_sources : List SourceFile) (olds news : List CutSource)
     (old_is : old_sources ≡ old.entries) (new_is : new_sources ≡ new.entries)
     (old_cut : AreCuts old_sources (map view_cut olds)) (new_cut : AreCuts new_sources (map view_cut news)) where
-  judged : (answer : Result Verdict Refusal) (told : Told) → Verdicts old new answer → SaysAnswer (map view_cut olds) (map view_cut news) answer told
-      → IsJudged old new told
-  judged answer told v s =
+  judged : (answer : Result Verdict Refusal) (explanation : Explanation) → Verdicts old new answer
+      → SaysAnswer (map view_cut olds) (map view_cut news) answer explanation
+      → IsJudged old new explanation
+  judged answer explanation v s =
       record {
         olds = map view_cut olds;
         news = map view_cut news;
@@ -29,22 +30,22 @@ module _ (old new : FileSet) (old_sources new_sources : List SourceFile) (olds n
         says = s;
       }
 
-  pub judged_ok : (these those : List CutSource) (verdict : Verdict) (result : Result Told Memory) → these ≡ olds → those ≡ news
+  pub judged_ok : (these those : List CutSource) (verdict : Verdict) (result : Result Explanation Memory) → these ≡ olds → those ≡ news
       → Verdicts old new (Ok verdict) → IfOk result (SaysAnswer (map view_cut these) (map view_cut those) (Ok verdict))
       → IfOk result (IsJudged old new)
   judged_ok these those verdict (Err m) e f v s = tt
-  judged_ok these those verdict (Ok told) e f v s =
-      judged (Ok verdict) told v
-      (subst (λ (l : List CutSource). SaysAnswer (map view_cut olds) (map view_cut l) (Ok verdict) told) f
-      (subst (λ (l : List CutSource). SaysAnswer (map view_cut l) (map view_cut those) (Ok verdict) told) e s))
+  judged_ok these those verdict (Ok explanation) e f v s =
+      judged (Ok verdict) explanation v
+      (subst (λ (l : List CutSource). SaysAnswer (map view_cut olds) (map view_cut l) (Ok verdict) explanation) f
+      (subst (λ (l : List CutSource). SaysAnswer (map view_cut l) (map view_cut those) (Ok verdict) explanation) e s))
 
-  pub judged_err : (these : List CutSource) (why : Refusal) (answer : Result Verdict Refusal) (result : Result Told Memory) → these ≡ olds
+  pub judged_err : (these : List CutSource) (why : Refusal) (answer : Result Verdict Refusal) (result : Result Explanation Memory) → these ≡ olds
       → answer ≡ Err why → IfErr answer (IsRefusedFor (λ w. Verdicts old new (Err w))) → OnOk result (why ≢ refusal.Memory)
       → IfOk result (SaysRefused (map view_cut these) why) → IfOk result (IsJudged old new)
   judged_err these why answer (Err m) e a v other s = tt
-  judged_err these why answer (Ok told) e a v other s =
+  judged_err these why answer (Ok explanation) e a v other s =
       by (subst (λ (r : Result Verdict Refusal). IfErr r (IsRefusedFor (λ w. Verdicts old new (Err w)))) a v)
     where
-      by : Verdicts old new (Err why) ⊎ (why ≡ refusal.Memory) → IsJudged old new told
-      by (inl is) = judged (Err why) told is (subst (λ (l : List CutSource). SaysRefused (map view_cut l) why told) e s)
+      by : Verdicts old new (Err why) ⊎ (why ≡ refusal.Memory) → IsJudged old new explanation
+      by (inl is) = judged (Err why) explanation is (subst (λ (l : List CutSource). SaysRefused (map view_cut l) why explanation) e s)
       by (inr m) = absurd (other m)

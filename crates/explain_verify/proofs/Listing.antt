@@ -11,7 +11,7 @@ use Rattle.tree_io.specs.Outside.{FileMap, IsFront}
 use Rattle.project_load.specs.Listed.{IsListAnswer, IsOutsideList, Lists, lacks, large, unread, refused, taken}
 use Rattle.project_load.specs.declared.error.ListError.{ListError}
 use Rattle.project_load.specs.declared.error.ListError.TheVariants as list_error
-use Rattle.explain.specs.declared.told.Told.{Told}
+use Rattle.explain.specs.declared.explanation.Explanation.{Explanation}
 use Rattle.explain_verify.specs.Lists.{IsAtLine, IsBadList, IsListed, IsRefusedList, MayBeBad, bad, has, load_message, refused_with}
 use Rattle.explain_verify.specs.Lists.{lacks as no_list_there}
 use Rattle.explain_verify.specs.declared.lists.Listed.{Listed}
@@ -46,26 +46,28 @@ is_bad held list number result e h = by (subst (IsListAnswer held list) e h) whe
   by (inl (inr is)) = cc
   by (inr is) = is
 
-pub bad_listed : (content now : Option FileMap) (list : List ℕ) (number : ℕ) (result : Result FileSet ListError) (told : Told) → now ≡ content
+pub bad_listed : (content now : Option FileMap) (list : List ℕ) (number : ℕ) (result : Result FileSet ListError) (explanation : Explanation)
+    → now ≡ content
     → result ≡ Err (list_error.BadList number) → IfSome content (λ held. IsListAnswer held list result)
-    → IfSome now (λ held. MayBeBad held list number → IsBadList held list number told)
-    → IfSome content (λ held. IsListed held list (listed.Told told))
-bad_listed content now list number result told same e h said =
-    by content h (subst (λ (o : Option FileMap). IfSome o (λ held. MayBeBad held list number → IsBadList held list number told)) same said) where
+    → IfSome now (λ held. MayBeBad held list number → IsBadList held list number explanation)
+    → IfSome content (λ held. IsListed held list (listed.Explanation explanation))
+bad_listed content now list number result explanation same e h said =
+    by content h
+    (subst (λ (o : Option FileMap). IfSome o (λ held. MayBeBad held list number → IsBadList held list number explanation)) same said) where
       by : (content : Option FileMap) → IfSome content (λ held. IsListAnswer held list result)
-          → IfSome content (λ held. MayBeBad held list number → IsBadList held list number told)
-          → IfSome content (λ held. IsListed held list (listed.Told told))
+          → IfSome content (λ held. MayBeBad held list number → IsBadList held list number explanation)
+          → IfSome content (λ held. IsListed held list (listed.Explanation explanation))
       by None h said = tt
       by (Some held) h said =
           let lists = is_bad held list number result e h in
           record { error = list_error.BadList number; refused = lists; says = said (may_be_bad held list number lists) }
 
-pub load_listed : (content : Option FileMap) (list : List ℕ) (why : LoadError) (result : Result FileSet ListError) (told : Told)
-    → result ≡ Err (list_error.Load why) → (why ≡ load.Memory → ⊥) → told ≡ refused_with (load_message why)
-    → IfSome content (λ held. IsListAnswer held list result) → IfSome content (λ held. IsListed held list (listed.Told told))
-load_listed None list why result told e other is h = tt
-load_listed (Some held) list why result told e other is h = by (subst (IsListAnswer held list) e h) where
-  by : IsOutsideList (list_error.Load why) ⊎ Lists held list (Err (list_error.Load why)) → IsListed held list (listed.Told told)
+pub load_listed : (content : Option FileMap) (list : List ℕ) (why : LoadError) (result : Result FileSet ListError) (explanation : Explanation)
+    → result ≡ Err (list_error.Load why) → (why ≡ load.Memory → ⊥) → explanation ≡ refused_with (load_message why)
+    → IfSome content (λ held. IsListAnswer held list result) → IfSome content (λ held. IsListed held list (listed.Explanation explanation))
+load_listed None list why result explanation e other is h = tt
+load_listed (Some held) list why result explanation e other is h = by (subst (IsListAnswer held list) e h) where
+  by : IsOutsideList (list_error.Load why) ⊎ Lists held list (Err (list_error.Load why)) → IsListed held list (listed.Explanation explanation)
   by (inl (inl wrong)) = cc
   by (inl (inr wrong)) = absurd (other (one wrong)) where
     one : list_error.Load why ≡ list_error.Load load.Memory → why ≡ load.Memory
@@ -73,13 +75,13 @@ load_listed (Some held) list why result told e other is h = by (subst (IsListAns
   by (inr lists) = record { error = list_error.Load why; refused = lists; says = is }
 
 -- what is read of a list is all of it
-pub bad_read : (content : Option FileMap) (list read : List ℕ) (number : ℕ) (told : Told)
+pub bad_read : (content : Option FileMap) (list read : List ℕ) (number : ℕ) (explanation : Explanation)
     → IfSome content (λ held. IsFront 1048577 (get held list) read)
-    → number ≢ 0 → (0 < number → number ≤ length (feed_lines read) → IsAtLine list read number told)
-    → IfSome content (λ held. MayBeBad held list number → IsBadList held list number told)
-bad_read None list read number told front some h = tt
-bad_read (Some held) list read number told front some h = by where
-  by : MayBeBad held list number → IsBadList held list number told
+    → number ≢ 0 → (0 < number → number ≤ length (feed_lines read) → IsAtLine list read number explanation)
+    → IfSome content (λ held. MayBeBad held list number → IsBadList held list number explanation)
+bad_read None list read number explanation front some h = tt
+bad_read (Some held) list read number explanation front some h = by where
+  by : MayBeBad held list number → IsBadList held list number explanation
   by (no_list_there none) = absurd (some none)
   by (has bytes there short low high) =
       let same : bytes ≡ read = all (subst (λ (o : Option (List ℕ)). IsFront 1048577 o read) there front) in
@@ -89,10 +91,11 @@ bad_read (Some held) list read number told front some h = by where
           one : ◌≡◌ {A = Option (List ℕ)} (Some (take 1048577 bytes)) (Some read) → take 1048577 bytes ≡ read
           one e = cc
 
-pub missing_said : (content : Option FileMap) (list : List ℕ) (number : ℕ) (told : Told) → number ≡ 0
-    → ((held : FileMap) → IsBadList held list 0 told) → IfSome content (λ held. MayBeBad held list number → IsBadList held list number told)
-missing_said None list number told e h = tt
-missing_said (Some held) list number told e h = λ may. subst (λ (n : ℕ). IsBadList held list n told) (sym e) (h held)
+pub missing_said : (content : Option FileMap) (list : List ℕ) (number : ℕ) (explanation : Explanation) → number ≡ 0
+    → ((held : FileMap) → IsBadList held list 0 explanation)
+    → IfSome content (λ held. MayBeBad held list number → IsBadList held list number explanation)
+missing_said None list number explanation e h = tt
+missing_said (Some held) list number explanation e h = λ may. subst (λ (n : ℕ). IsBadList held list n explanation) (sym e) (h held)
 
 -- ---- two lists
 
@@ -100,27 +103,29 @@ is_files : (held : FileMap) (list : List ℕ) (found : Listed) (files : FileSet)
     → Lists held list (Ok files)
 is_files held list found files e h = subst (IsListed held list) e h
 
-is_told : (held : FileMap) (list : List ℕ) (found : Listed) (told : Told) → found ≡ listed.Told told → IsListed held list found
-    → IsRefusedList held list told
-is_told held list found told e h = subst (IsListed held list) e h
+is_explanation : (held : FileMap) (list : List ℕ) (found : Listed) (explanation : Explanation) → found ≡ listed.Explanation explanation
+    → IsListed held list found
+    → IsRefusedList held list explanation
+is_explanation held list found explanation e h = subst (IsListed held list) e h
 
-pub said_no_new : (content now : Option FileMap) (old new : List ℕ) (one other : Listed) (olds : FileSet) (told : Told) → now ≡ content
-    → one ≡ listed.Files olds → other ≡ listed.Told told → IfSome content (λ held. IsListed held old one)
-    → IfSome now (λ held. IsListed held new other) → IfSome content (λ held. SaysVerify old new held told)
-said_no_new content now old new one other olds told same e f h k =
+pub said_no_new : (content now : Option FileMap) (old new : List ℕ) (one other : Listed) (olds : FileSet) (explanation : Explanation) → now ≡ content
+    → one ≡ listed.Files olds → other ≡ listed.Explanation explanation → IfSome content (λ held. IsListed held old one)
+    → IfSome now (λ held. IsListed held new other) → IfSome content (λ held. SaysVerify old new held explanation)
+said_no_new content now old new one other olds explanation same e f h k =
     by content h (subst (λ (o : Option FileMap). IfSome o (λ held. IsListed held new other)) same k) where
       by : (content : Option FileMap) → IfSome content (λ held. IsListed held old one) → IfSome content (λ held. IsListed held new other)
-          → IfSome content (λ held. SaysVerify old new held told)
+          → IfSome content (λ held. SaysVerify old new held explanation)
       by None h k = tt
-      by (Some held) h k = no_new olds (is_files held old one olds e h) (is_told held new other told f k)
+      by (Some held) h k = no_new olds (is_files held old one olds e h) (is_explanation held new other explanation f k)
 
-pub said_judged : (content now : Option FileMap) (old new : List ℕ) (one other : Listed) (olds news : FileSet) (told : Told) → now ≡ content
+pub said_judged : (content now : Option FileMap) (old new : List ℕ) (one other : Listed) (olds news : FileSet) (explanation : Explanation)
+    → now ≡ content
     → one ≡ listed.Files olds → other ≡ listed.Files news → IfSome content (λ held. IsListed held old one)
-    → IfSome now (λ held. IsListed held new other) → IsJudged olds news told → IfSome content (λ held. SaysVerify old new held told)
-said_judged content now old new one other olds news told same e f h k j =
+    → IfSome now (λ held. IsListed held new other) → IsJudged olds news explanation → IfSome content (λ held. SaysVerify old new held explanation)
+said_judged content now old new one other olds news explanation same e f h k j =
     by content h (subst (λ (o : Option FileMap). IfSome o (λ held. IsListed held new other)) same k) where
       by : (content : Option FileMap) → IfSome content (λ held. IsListed held old one) → IfSome content (λ held. IsListed held new other)
-          → IfSome content (λ held. SaysVerify old new held told)
+          → IfSome content (λ held. SaysVerify old new held explanation)
       by None h k = tt
       by (Some held) h k = judged olds news (is_files held old one olds e h) (is_files held new other news f k) j
 

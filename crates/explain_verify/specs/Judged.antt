@@ -24,8 +24,8 @@ use Rattle.refusal_places.specs.Placed.{SaysPlaced}
 use Rattle.refusal_words.specs.Refused.{renaming_message}
 use Rattle.refusal_words.specs.Stretches.{place_spot, word_at}
 use Rattle.explain.specs.declared.ending.Ending.TheVariants.{Done, Project, Refused}
-use Rattle.explain.specs.declared.told.Told.{Told}
-use Rattle.explain.specs.Told.{bare_told, maybe_told}
+use Rattle.explain.specs.declared.explanation.Explanation.{Explanation}
+use Rattle.explain.specs.Explanation.{explanation_of_message, explanation_of_text}
 
 -- a declaration that has another name: its place, the old name and the new one
 abbrev pub change_line : List Cut → Changed → Word
@@ -68,21 +68,21 @@ why_message olds news (why.Fixed at) = Some (fixed olds at)
 why_message olds news (why.Broken f) = fault_message olds news f
 
 -- what is said of an old project that is refused
-abbrev pub SaysRefused : List Cut → Refusal → Told → Type 0
-SaysRefused olds why told = (said : Option Message) × SaysPlaced olds why said × (told ≡ maybe_told Project said)
+abbrev pub SaysRefused : List Cut → Refusal → Explanation → Type 0
+SaysRefused olds why explanation = (said : Option Message) × SaysPlaced olds why said × (explanation ≡ explanation_of_message Project said)
 
 -- what is said of an answer of `verify`
-abbrev pub SaysAnswer : List Cut → List Cut → Result Verdict Refusal → Told → Type 0
-SaysAnswer olds news (Ok (Yes changes)) told = told ≡ bare_told Done (changes_text olds changes.items)
-SaysAnswer olds news (Ok (No reason)) told = told ≡ maybe_told Refused (why_message olds news reason)
-SaysAnswer olds news (Err why) told = SaysRefused olds why told
+abbrev pub SaysAnswer : List Cut → List Cut → Result Verdict Refusal → Explanation → Type 0
+SaysAnswer olds news (Ok (Yes changes)) explanation = explanation ≡ explanation_of_text Done (changes_text olds changes.items)
+SaysAnswer olds news (Ok (No reason)) explanation = explanation ≡ explanation_of_message Refused (why_message olds news reason)
+SaysAnswer olds news (Err why) explanation = SaysRefused olds why explanation
 
 -- what is said of a project and of the new version of it, whose sources have these lexemes
-pub record IsJudged (old new : FileSet) (told : Told) : Type 0 where
+pub record IsJudged (old new : FileSet) (explanation : Explanation) : Type 0 where
   pub olds : List Cut
   pub news : List Cut
   pub old_cut : AreCuts old.entries olds
   pub new_cut : AreCuts new.entries news
   pub answer : Result Verdict Refusal
   pub verdict : Verdicts old new answer
-  pub says : SaysAnswer olds news answer told
+  pub says : SaysAnswer olds news answer explanation

@@ -18,8 +18,8 @@ use Rattle.refusal_words.specs.Commands.{list_line, no_list}
 use Rattle.refusal_words.specs.Folder.{too_many}
 use Rattle.refusal_words.specs.Parts.{bare}
 use Rattle.explain.specs.declared.ending.Ending.TheVariants.{Project}
-use Rattle.explain.specs.declared.told.Told.{Told}
-use Rattle.explain.specs.Told.{maybe_told}
+use Rattle.explain.specs.declared.explanation.Explanation.{Explanation}
+use Rattle.explain.specs.Explanation.{explanation_of_message}
 use Rattle.explain_verify.specs.declared.lists.Listed.{Listed}
 use Rattle.explain_verify.specs.declared.lists.Listed.TheVariants as listed
 
@@ -49,18 +49,18 @@ load_message (load.BadManifest line) = Some (manifest_message line)
 load_message load.Read = None
 load_message load.Memory = None
 
-abbrev pub refused_with : Option Message → Told
-refused_with message = maybe_told Project message
+abbrev pub refused_with : Option Message → Explanation
+refused_with message = explanation_of_message Project message
 
 -- what is said of a line of a list that is bad, by the list's bytes
-abbrev pub IsAtLine : Word → List ℕ → ℕ → Told → Type 0
-IsAtLine list bytes number told =
-    (start : ℕ) × (end : ℕ) × IsStretch (feed_lines bytes) number start end × (told ≡ refused_with (Some (list_line list bytes start end)))
+abbrev pub IsAtLine : Word → List ℕ → ℕ → Explanation → Type 0
+IsAtLine list bytes number explanation =
+    (start : ℕ) × (end : ℕ) × IsStretch (feed_lines bytes) number start end × (explanation ≡ refused_with (Some (list_line list bytes start end)))
 
 -- what is said of a list whose line of this number is bad; of 0, the folder lacks the list
-pub data IsBadList (held : FileMap) (list : Word) (number : ℕ) (told : Told) : Type 0 where
-  missing : number ≡ 0 → told ≡ refused_with (Some (no_list list)) → IsBadList held list number told
-  bad : (bytes : List ℕ) → get held list ≡ Some bytes → IsAtLine list bytes number told → IsBadList held list number told
+pub data IsBadList (held : FileMap) (list : Word) (number : ℕ) (explanation : Explanation) : Type 0 where
+  missing : number ≡ 0 → explanation ≡ refused_with (Some (no_list list)) → IsBadList held list number explanation
+  bad : (bytes : List ℕ) → get held list ≡ Some bytes → IsAtLine list bytes number explanation → IsBadList held list number explanation
 
 -- the folder lacks the list, or the list has a line of this number
 pub data MayBeBad (held : FileMap) (list : Word) (number : ℕ) : Type 0 where
@@ -69,18 +69,18 @@ pub data MayBeBad (held : FileMap) (list : Word) (number : ℕ) : Type 0 where
       → MayBeBad held list number
 
 -- what is said of a list that is refused so
-abbrev pub RefusesList : FileMap → Word → ListError → Told → Type 0
-RefusesList held list list_error.Read told = ⊥
-RefusesList held list (list_error.BadList number) told = IsBadList held list number told
-RefusesList held list (list_error.Load why) told = told ≡ refused_with (load_message why)
+abbrev pub RefusesList : FileMap → Word → ListError → Explanation → Type 0
+RefusesList held list list_error.Read explanation = ⊥
+RefusesList held list (list_error.BadList number) explanation = IsBadList held list number explanation
+RefusesList held list (list_error.Load why) explanation = explanation ≡ refused_with (load_message why)
 
 -- the list is refused, and this is said of it
-pub record IsRefusedList (held : FileMap) (list : Word) (told : Told) : Type 0 where
+pub record IsRefusedList (held : FileMap) (list : Word) (explanation : Explanation) : Type 0 where
   pub error : ListError
   pub refused : Lists held list (Err error)
-  pub says : RefusesList held list error told
+  pub says : RefusesList held list error explanation
 
 -- the files of a list, or what is said of it
 abbrev pub IsListed : FileMap → Word → Listed → Type 0
 IsListed held list (listed.Files files) = Lists held list (Ok files)
-IsListed held list (listed.Told told) = IsRefusedList held list told
+IsListed held list (listed.Explanation explanation) = IsRefusedList held list explanation

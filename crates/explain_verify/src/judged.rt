@@ -5,7 +5,7 @@ ghost use Rattle.refusal_words.specs.Cut.{view_cut};
 ghost use Rattle.explain_verify.specs.Judged.{IsJudged, SaysAnswer, SaysRefused, changed_place, changed_places as changed_places_of, changes_text as changes_text_of, change_line as change_line_of, fault_message as fault_message_of, new_name as new_name_of, why_message as why_message_of};
 
 use capture_check::Fault;
-use explain::{Ending, Told, bare_told, maybe_told, unloaded_told};
+use explain::{Ending, Explanation, explain_by_message, explain_by_text, explain_unloaded};
 use messages::{Message, format_count, join_words, spot_text};
 use refusal_places::placed_message;
 use refusal_words::{
@@ -18,49 +18,57 @@ use rotor_base::{Files, Goal, Memory, Place, Refusal, Row};
 use std::alloc::Global;
 
 /// What is said of a project and of the new version of it. The one error is want of memory.
-pub(crate) fn judged_told(alloc: Global, old: &Files, new: &Files) -> Result<Told, Memory>
+pub(crate) fn explain_versions(
+    alloc: Global,
+    old: &Files,
+    new: &Files,
+) -> Result<Explanation, Memory>
     ensures { IfOk result (IsJudged old.now new.now) }
 {
     let olds = cut_sources(alloc, old.entries())?;
     let news = cut_sources(alloc, new.entries())?;
     match verify(alloc, old, new) {
-        Ok(verdict) => verdict_told(alloc, &olds, &news, &verdict),
-        Err(refusal) => refused_told(alloc, &olds, &refusal),
+        Ok(verdict) => explain_verdict(alloc, &olds, &news, &verdict),
+        Err(refusal) => explain_refused_project(alloc, &olds, &refusal),
     }
 }
 
 /// What is said of an old project that is refused.
-fn refused_told(alloc: Global, olds: &[CutSource<'_>], refusal: &Refusal) -> Result<Told, Memory>
+fn explain_refused_project(
+    alloc: Global,
+    olds: &[CutSource<'_>],
+    refusal: &Refusal,
+) -> Result<Explanation, Memory>
     requires { All (λ cut. length cut.tokens.items ≤ max_file_bytes) olds.now }
-    ensures told { IfOk result (SaysRefused (map view_cut olds.now) refusal.now) }
+    ensures explanation { IfOk result (SaysRefused (map view_cut olds.now) refusal.now) }
     ensures other { OnOk result (refusal.now ≢ Refusal.Memory) }
 {
     match refusal {
         Refusal::Memory => Err(Memory),
         _ => {
             let message = placed_message(alloc, olds, refusal)?;
-            unloaded_told(alloc, message)
+            explain_unloaded(alloc, message)
         }
     }
 }
 
 /// What is said of a verdict.
-fn verdict_told(
+fn explain_verdict(
     alloc: Global,
     olds: &[CutSource<'_>],
     news: &[CutSource<'_>],
     verdict: &Verdict,
-) -> Result<Told, Memory>
+) -> Result<Explanation, Memory>
     ensures { IfOk result (SaysAnswer (map view_cut olds.now) (map view_cut news.now) (Ok verdict.now)) }
 {
     match verdict {
         Verdict::Yes(changes) => {
             let text = changes_text(alloc, olds, changes)?;
-            Ok(bare_told(alloc, Ending::Done, text))
+            Ok(explain_by_text(alloc, Ending::Done, text))
         }
         Verdict::No(why) => {
             let message = why_message(alloc, olds, news, why)?;
-            maybe_told(alloc, Ending::Refused, message)
+            explain_by_message(alloc, Ending::Refused, message)
         }
     }
 }

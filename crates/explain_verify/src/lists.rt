@@ -9,7 +9,7 @@ ghost use Rattle.line_stretches.specs.Stretch.{IsStretch};
 ghost use Rattle.explain_verify.specs.Lists.{IsAtLine, IsBadList, IsListed, MayBeBad, load_message as load_message_of, refused_with};
 
 use crate::refused::load_message;
-use explain::{Told, unloaded_told};
+use explain::{Explanation, explain_unloaded};
 use line_stretches::line_stretch;
 use project_load::{ListError, load_list};
 use refusal_words::{list_line, no_list};
@@ -26,11 +26,11 @@ pub(crate) enum Listed {
     /// The files of a project.
     Files(Files),
     /// What is said of a list that gives no project.
-    Told(Told),
+    Explanation(Explanation),
 }
 
 /// The files of a list, or what is said of it.
-pub(crate) fn load_or_told<T: Tree>(
+pub(crate) fn load_or_explain<T: Tree>(
     alloc: Global,
     list: &str,
     tree: &mut T,
@@ -42,52 +42,64 @@ pub(crate) fn load_or_told<T: Tree>(
     match load_list(alloc, tree, list) {
         Ok(files) => Ok(Listed::Files(files)),
         Err(ListError::Read) => Err(TreeError::Failed),
-        Err(ListError::Load(error)) => Ok(Listed::Told(unread_told(alloc, &error)?)),
-        Err(ListError::BadList { line }) => { Ok(Listed::Told(bad_told(alloc, list, line, tree)?)) }
+        Err(ListError::Load(error)) => Ok(Listed::Explanation(explain_unread_list(alloc, &error)?)),
+        Err(ListError::BadList { line }) => {
+            Ok(Listed::Explanation(explain_bad_list(alloc, list, line, tree)?))
+        }
     }
 }
 
 /// What is said of a list whose files are not taken as a project's.
-fn unread_told(alloc: Global, error: &LoadError) -> Result<Told, Memory>
-    ensures told { IfOk result (λ told. told ≡ refused_with (load_message_of error.now)) }
+fn explain_unread_list(alloc: Global, error: &LoadError) -> Result<Explanation, Memory>
+    ensures explanation { IfOk result (λ explanation. explanation ≡ refused_with (load_message_of error.now)) }
     ensures other { OnOk result (error.now ≢ LoadError.Memory) }
 {
     match error {
         LoadError::Memory => Err(Memory),
         _ => {
             let message = load_message(alloc, error)?;
-            unloaded_told(alloc, message)
+            explain_unloaded(alloc, message)
         }
     }
 }
 
 /// What is said of a list whose line of this number, from 1, is bad; of 0, the folder lacks the list.
-fn bad_told<T: Tree>(alloc: Global, list: &str, line: u32, tree: &mut T) -> Result<Told, TreeError>
+fn explain_bad_list<T: Tree>(
+    alloc: Global,
+    list: &str,
+    line: u32,
+    tree: &mut T,
+) -> Result<Explanation, TreeError>
     requires { ForSome (T.content tree.old) (λ held. line ≢ 0 → IsSome (get held list.now)) }
-    ensures bad { IfOk result (λ told. IfSome (T.content tree.old) (λ held. MayBeBad held list.now line → IsBadList held list.now line told)) }
+    ensures bad { IfOk result (λ explanation. IfSome (T.content tree.old) (λ held. MayBeBad held list.now line → IsBadList held list.now line explanation)) }
     ensures content { T.content tree.new ≡ T.content tree.old }
     ensures cause { HasCause (T.faults tree.old) (T.faults tree.new) result }
 {
     if line == 0 {
-        return Ok(missing_told(alloc, list)?);
+        return Ok(explain_missing_list(alloc, list)?);
     }
     let bytes = tree.read(alloc, list, READ_LIMIT)?;
-    Ok(line_told(alloc, list, &bytes, line)?)
+    Ok(explain_bad_line(alloc, list, &bytes, line)?)
 }
 
 /// What is said of a list that the folder lacks.
-fn missing_told(alloc: Global, list: &str) -> Result<Told, Memory>
-    ensures { IfOk result (λ told. (held : FileMap) → IsBadList held list.now 0 told) }
+fn explain_missing_list(alloc: Global, list: &str) -> Result<Explanation, Memory>
+    ensures { IfOk result (λ explanation. (held : FileMap) → IsBadList held list.now 0 explanation) }
 {
-    unloaded_told(alloc, Some(no_list(alloc, list.as_bytes())?))
+    explain_unloaded(alloc, Some(no_list(alloc, list.as_bytes())?))
 }
 
 /// What is said of a line of a list that is bad.
-fn line_told(alloc: Global, list: &str, bytes: &[u8], line: u32) -> Result<Told, Memory>
+fn explain_bad_line(
+    alloc: Global,
+    list: &str,
+    bytes: &[u8],
+    line: u32,
+) -> Result<Explanation, Memory>
     requires { length bytes.now ≤ max_file_bytes + 1 }
-    ensures { IfOk result (λ told. 0 < line → line ≤ length (feed_lines bytes.now) → IsAtLine list.now bytes.now line told) }
+    ensures { IfOk result (λ explanation. 0 < line → line ≤ length (feed_lines bytes.now) → IsAtLine list.now bytes.now line explanation) }
 {
     let (start, end) = line_stretch(bytes, line);
     let message = list_line(alloc, list.as_bytes(), bytes, start, end)?;
-    unloaded_told(alloc, Some(message))
+    explain_unloaded(alloc, Some(message))
 }

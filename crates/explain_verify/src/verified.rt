@@ -3,9 +3,9 @@ ghost use Rattle.std.specs.Prelude.{◌≡◌, IfOk, IfSome};
 ghost use Rattle.tree_io.specs.Outside.{HasCause};
 ghost use Rattle.explain_verify.specs.Verified.{SaysVerify};
 
-use crate::judged::judged_told;
-use crate::lists::{Listed, load_or_told};
-use explain::Told;
+use crate::judged::explain_versions;
+use crate::lists::{Listed, load_or_explain};
+use explain::Explanation;
 use std::alloc::Global;
 use tree_io::{Tree, TreeError};
 
@@ -21,18 +21,18 @@ pub fn explain_verify<T: Tree>(
     old: &str,
     new: &str,
     tree: &mut T,
-) -> Result<Told, TreeError>
-    ensures said { IfOk result (λ told. IfSome (T.content tree.old) (λ held. SaysVerify old.now new.now held told)) }
+) -> Result<Explanation, TreeError>
+    ensures said { IfOk result (λ explanation. IfSome (T.content tree.old) (λ held. SaysVerify old.now new.now held explanation)) }
     ensures content { T.content tree.new ≡ T.content tree.old }
     ensures cause { HasCause (T.faults tree.old) (T.faults tree.new) result }
 {
-    let old = match load_or_told(alloc, old, tree)? {
+    let old = match load_or_explain(alloc, old, tree)? {
         Listed::Files(files) => files,
-        Listed::Told(told) => return Ok(told),
+        Listed::Explanation(explanation) => return Ok(explanation),
     };
-    let new = match load_or_told(alloc, new, tree)? {
+    let new = match load_or_explain(alloc, new, tree)? {
         Listed::Files(files) => files,
-        Listed::Told(told) => return Ok(told),
+        Listed::Explanation(explanation) => return Ok(explanation),
     };
-    Ok(judged_told(alloc, &old, &new)?)
+    Ok(explain_versions(alloc, &old, &new)?)
 }

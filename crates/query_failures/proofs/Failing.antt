@@ -1,4 +1,4 @@
--- The failures that are told, by what they are told from.
+-- The failures, by what they are explained from.
 use Rattle.std.proofs.Common.{◌≡◌, ◌∙◌, List, Option, Result, IfOk, ap, subst}
 use Rattle.std.proofs.lemmas.Result.{IfOk-weaker}
 use Rattle.serde_json.specs.Data.{Data}
@@ -13,7 +13,7 @@ use Rattle.messages.specs.declared.parts.Message.{Message}
 use Rattle.refusal_words.specs.Cut.{AreCuts, Cut}
 use Rattle.refusal_places.specs.Placed.{SaysPlaced}
 use Rattle.explain.specs.Says.{SaysRename}
-use Rattle.explain.specs.declared.told.Told.{Told}
+use Rattle.explain.specs.declared.explanation.Explanation.{Explanation}
 use Rattle.lsp_answers.specs.declared.answer.ErrorCode.{ErrorCode}
 use Rattle.lsp_answers.specs.declared.answer.Failure.{Failure}
 use Rattle.std.specs.Prelude.{false}
@@ -38,7 +38,7 @@ pub project_fails : {E : Type 0} (files : FileSet) (why : Refusal) (sources : Li
     (text : Word) (names : List Word) (object : Data) (result : Result Failure E) → sources ≡ files.entries → AreCuts sources cuts
     → SaysPlaced cuts why message → text ≡ folder_sentence message → names ≡ names_of files.entries
     → object ≡ data_of names (outcome.Refused why) → IfOk result (IsNoted text object) → IfOk result (IsProjectFailure files why)
-project_fails files why sources cuts message text names object result same cut says told named noted h =
+project_fails files why sources cuts message text names object result same cut says worded named noted h =
     IfOk-weaker result (IsNoted text object) (IsProjectFailure files why) (λ failure known. record {
       cuts = cuts;
       message = message;
@@ -46,20 +46,21 @@ project_fails files why sources cuts message text names object result same cut s
       says = says;
       noted = subst (λ (d : Data). IsNoted (folder_sentence message) d failure)
           (noted ∙ ap (λ (n : List Word). data_of n (outcome.Refused why)) named)
-          (subst (λ (w : Word). IsNoted w object failure) told known);
+          (subst (λ (w : Word). IsNoted w object failure) worded known);
     }) h
 
 -- ---- renamings
 
-pub renaming_fails : {E : Type 0} (files : FileSet) (target : Target) (new : Word) (why : Refusal) (told : Told) (text : Word) (names : List Word)
-    (object : Data) (result : Result Failure E) → SaysRename files target new false told → text ≡ first_sentence told.messages
+pub renaming_fails : {E : Type 0} (files : FileSet) (target : Target) (new : Word) (why : Refusal) (explanation : Explanation) (text : Word)
+    (names : List Word) (object : Data) (result : Result Failure E) → SaysRename files target new false explanation
+    → text ≡ first_sentence explanation.messages
     → names ≡ names_of files.entries → object ≡ data_of names (outcome.Refused why) → IfOk result (IsNoted text object)
     → IfOk result (IsRenamingFailure files target new why)
-renaming_fails files target new why told text names object result says is named noted h =
+renaming_fails files target new why explanation text names object result says is named noted h =
     IfOk-weaker result (IsNoted text object) (IsRenamingFailure files target new why) (λ failure known. record {
-      told = told;
+      explanation = explanation;
       says = says;
-      noted = subst (λ (d : Data). IsNoted (first_sentence told.messages) d failure)
+      noted = subst (λ (d : Data). IsNoted (first_sentence explanation.messages) d failure)
           (noted ∙ ap (λ (n : List Word). data_of n (outcome.Refused why)) named)
           (subst (λ (w : Word). IsNoted w object failure) is known);
     }) h

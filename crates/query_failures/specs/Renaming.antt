@@ -15,7 +15,7 @@ use Rattle.refusal_words.specs.Cut.{Cut}
 use Rattle.refusal_words.specs.Parts.{around}
 use Rattle.refusal_words.specs.Stretches.{place_spot, word_at}
 use Rattle.explain.specs.Says.{SaysRename}
-use Rattle.explain.specs.declared.told.Told.{Told}
+use Rattle.explain.specs.declared.explanation.Explanation.{Explanation}
 use Rattle.value_at.specs.declared.value.ValueAt.{ValueAt}
 use Rattle.value_at.specs.declared.value.ValueAt.TheVariants as value
 use Rattle.lsp_answers.specs.declared.answer.Failure.{Failure}
@@ -29,9 +29,9 @@ first_sentence (message ∷ messages) = message_sentence message
 
 -- a renaming is refused: what `rotor-explain` says of it, and the object that the report of the refusal has in JSON
 pub record IsRenamingFailure (files : FileSet) (target : Target) (new : Word) (why : Refusal) (failure : Failure) : Type 0 where
-  pub told : Told
-  pub says : SaysRename files target new false told
-  pub noted : IsNoted (first_sentence told.messages) (data_of (names_of files.entries) (outcome.Refused why)) failure
+  pub explanation : Explanation
+  pub says : SaysRename files target new false explanation
+  pub noted : IsNoted (first_sentence explanation.messages) (data_of (names_of files.entries) (outcome.Refused why)) failure
 
 -- ---- no value
 

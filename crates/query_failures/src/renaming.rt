@@ -26,8 +26,8 @@ pub fn renaming_failure(
 ) -> Result<Failure, Memory>
     ensures { IfOk result (IsRenamingFailure files.now target.now name.now why.now) }
 {
-    let told = explain_rename(alloc, files, target, name, false)?;
-    let text = first_sentence(alloc, told.messages.as_slice())?;
+    let explanation = explain_rename(alloc, files, target, name, false)?;
+    let text = first_sentence(alloc, explanation.messages.as_slice())?;
     let names = names_of(alloc, files.entries())?;
     noted_failure(alloc, text.as_slice(), refusal_data(alloc, &names, why)?)
 }

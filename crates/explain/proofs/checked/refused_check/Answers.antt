@@ -5,6 +5,6 @@ use Rattle.explain.proofs.checked.refused_check.Goals as goal
 
 pub returns : goal.returns
 returns c =
-    if_ok_more c.project_told.result _ _ (λ told says.
-    check_refused c.args.files.now c.args.refusal.now told c.requires (sym c.is_memory.ensures ∙ c.if-is_memory.false) says)
-    c.project_told.ensures
+    if_ok_more c.explain_project.result _ _ (λ explanation says.
+    check_refused c.args.files.now c.args.refusal.now explanation c.requires (sym c.is_memory.ensures ∙ c.if-is_memory.false) says)
+    c.explain_project.ensures

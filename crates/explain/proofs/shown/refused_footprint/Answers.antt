@@ -5,6 +5,6 @@ use Rattle.explain.proofs.shown.refused_footprint.Goals as goal
 
 pub returns : goal.returns
 returns c =
-    if_ok_more c.refusal_told.result _ _ (λ told says.
-    footprint_refused c.args.files.now c.args.target.now c.args.refusal.now told c.requires (sym c.is_memory.ensures ∙ c.if-is_memory.false) says)
-    c.refusal_told.ensures
+    if_ok_more c.explain_refusal.result _ _ (λ explanation says.
+    footprint_refused c.args.files.now c.args.target.now c.args.refusal.now explanation c.requires
+    (sym c.is_memory.ensures ∙ c.if-is_memory.false) says) c.explain_refusal.ensures

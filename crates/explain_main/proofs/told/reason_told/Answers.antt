@@ -1,7 +1,0 @@
-use Rattle.explain_main.proofs.Unloaded.{is_unloaded}
-use Rattle.explain_main.proofs.told.reason_told.Goals as goal
-
-pub returns-clause-said : goal.returns-clause-said
-returns-clause-said g c =
-    is_unloaded (g.T.Tree.content c.args.tree.now) c.args.why.now c.in_ok-message.message c.in_ok-unloaded_told.field-0
-    c.in_ok-message.ensures.message c.in_ok-unloaded_told.ensures
