@@ -36,17 +36,17 @@ no_units None line h = tt
 no_units (Some held) line h = ap (λ units. units_message units (source_names held) line) h
 
 -- the message of a line
-pub units_told : (content : Option FileMap) (bytes : List ℕ) (names : List (List ℕ)) (line : ℕ) (message : Option Message)
+pub units_explained : (content : Option FileMap) (bytes : List ℕ) (names : List (List ℕ)) (line : ℕ) (message : Option Message)
     → IfSome content (λ held. ◌≡◌ {A = Option (List ℕ)} (Some bytes) (front_of (manifest_of held)))
     → IfSome content (λ held. names ≡ source_names held) → message ≡ manifest_message bytes names line
     → IfSome content (λ held. message ≡ units_message (front_of (manifest_of held)) (source_names held) line)
-units_told None bytes names line message read listed is = tt
-units_told (Some held) bytes names line message read listed is =
+units_explained None bytes names line message read listed is = tt
+units_explained (Some held) bytes names line message read listed is =
     is ∙ ap (λ ns. manifest_message bytes ns line) listed ∙ ap (λ units. units_message units (source_names held) line) read
 
 -- the message of too many bytes
-pub large_told : (content : Option FileMap) (error : LoadError) (file : List ℕ) (message : Message) → error ≡ TooLarge file
+pub large_explained : (content : Option FileMap) (error : LoadError) (file : List ℕ) (message : Message) → error ≡ TooLarge file
     → IfSome content (λ held. message ≡ large_message file held)
     → IfSome content (λ held. ◌≡◌ {A = Option Message} (Some message) (message_of error held))
-large_told None error file message is h = tt
-large_told (Some held) error file message is h = ap (λ (m : Message). Some m) h ∙ ap (λ e. message_of e held) (sym is)
+large_explained None error file message is h = tt
+large_explained (Some held) error file message is h = ap (λ (m : Message). Some m) h ∙ ap (λ e. message_of e held) (sym is)

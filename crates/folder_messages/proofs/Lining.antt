@@ -118,17 +118,17 @@ none_there list items bytes k same mapped there =
     ap (λ ls. slice_get ls k) (sym mapped) ∙ slice_get-map (λ (line : Bor (List ℕ)). line.now) items k
     ∙ ap (option_map (λ (line : Bor (List ℕ)). line.now)) (ap (λ (l : List (Bor (List ℕ))). slice_get l k) (sym same) ∙ there)
 
-pub line_told : (bytes : List ℕ) (names : List (List ℕ)) (line before : ℕ) (word : List ℕ) (message : Message) → before ≡ line - 1
+pub line_explained : (bytes : List ℕ) (names : List (List ℕ)) (line before : ℕ) (word : List ℕ) (message : Message) → before ≡ line - 1
     → slice_get (lines bytes) before ≡ Some word → message ≡ line_message bytes names before word
     → ◌≡◌ {A = Option Message} (Some message) (manifest_message bytes names line)
-line_told bytes names line before word message same there is =
+line_explained bytes names line before word message same there is =
     ap (λ (m : Message). Some m) is ∙ ap (line_or_missing bytes names before) (sym there)
     ∙ ap (λ k. line_or_missing bytes names k (slice_get (lines bytes) k)) same
 
-pub missing_told : {E : Type 0} (result : Result (Option Message) E) (list : List (List ℕ)) (bytes : List ℕ) (names : List (List ℕ)) (line before : ℕ)
-    → before ≡ line - 1 → list ≡ lines bytes → ◌≡◌ {A = Option (List ℕ)} (slice_get (lines bytes) before) None
+pub missing_explained : {E : Type 0} (result : Result (Option Message) E) (list : List (List ℕ)) (bytes : List ℕ) (names : List (List ℕ))
+    (line before : ℕ) → before ≡ line - 1 → list ≡ lines bytes → ◌≡◌ {A = Option (List ℕ)} (slice_get (lines bytes) before) None
     → IfOk result (λ message. message ≡ missing_message list names) → IfOk result (λ message. message ≡ manifest_message bytes names line)
-missing_told (Ok message) list bytes names line before same mapped there is =
+missing_explained (Ok message) list bytes names line before same mapped there is =
     is ∙ ap (λ ls. missing_message ls names) mapped ∙ ap (line_or_missing bytes names before) (sym there)
     ∙ ap (λ k. line_or_missing bytes names k (slice_get (lines bytes) k)) same
-missing_told (Err error) list bytes names line before same mapped there is = is
+missing_explained (Err error) list bytes names line before same mapped there is = is

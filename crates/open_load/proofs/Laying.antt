@@ -19,9 +19,9 @@ below None f P h = h
 below (Some held) f P h = h
 
 -- what holds of the files under documents holds of those of the folder below, with the documents laid over them
-pub told_below : {T : Type 0} (content : T → Option FileMap) (map docs : DocumentMap) (folder there : T) (P : FileMap → Type 0) → docs ≡ map
+pub holds_below : {T : Type 0} (content : T → Option FileMap) (map docs : DocumentMap) (folder there : T) (P : FileMap → Type 0) → docs ≡ map
     → there ≡ folder → IfSome (option_map (laid docs) (content there)) P → IfSome (content folder) (λ held. P (laid map held))
-told_below content map docs folder there P same is h =
+holds_below content map docs folder there P same is h =
     below (content folder) (laid map) P
     (subst (λ t. IfSome (option_map (laid map) (content t)) P) is (subst (λ m. IfSome (option_map (laid m) (content there)) P) same h))
 

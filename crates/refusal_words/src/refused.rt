@@ -71,7 +71,7 @@ pub fn renaming_message(
 
 /// The message of a step of a batch, counted from 1. The one error is want of memory.
 pub fn in_step(alloc: Global, step: u32, message: Message) -> Result<Message, Memory>
-    ensures { IfOk result (λ told. told ≡ in_step_of step message) }
+    ensures { IfOk result (λ numbered. numbered ≡ in_step_of step message) }
 {
     let number = number_text(alloc, u64::from(step))?;
     let text = join_words(

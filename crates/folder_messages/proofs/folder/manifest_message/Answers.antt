@@ -3,7 +3,7 @@ use Rattle.std.specs.declared.alloc.Global.{Global}
 use Rattle.tree_io.specs.Outside.{FileMap}
 use Rattle.project_load.specs.Load.{manifest_of, source_names}
 use Rattle.folder_messages.specs.Folder.{front_of, manifest_message}
-use Rattle.folder_messages.proofs.Holding.{no_units, units_told}
+use Rattle.folder_messages.proofs.Holding.{no_units, units_explained}
 use Rattle.folder_messages.proofs.folder.manifest_message.Goals as goal
 
 pub returns-in-None-clause-message : goal.returns-in-None-clause-message
@@ -15,7 +15,7 @@ returns-in-None-clause-message g c =
 pub returns-in_ok-manifest_message-in-Some-clause-message : goal.returns-in_ok-manifest_message-in-Some-clause-message
 returns-in_ok-manifest_message-in-Some-clause-message g c =
     let content = g.T.Tree.content c.args.tree.now in
-    units_told content c.in-Some.bytes.items (map string_bytes c.in_ok-names-in-Some.names.items) c.args.line
+    units_explained content c.in-Some.bytes.items (map string_bytes c.in_ok-names-in-Some.names.items) c.args.line
     c.in_ok-manifest_message-in-Some.field-0
     (subst (λ (found : Option (Vec ℕ Global)). IfSome content (λ held. option_map (λ bytes. bytes.items) found ≡ front_of (manifest_of held)))
     c.in-Some.is c.in_ok-read_listed.ensures.bytes)

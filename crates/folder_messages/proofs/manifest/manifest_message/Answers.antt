@@ -1,6 +1,6 @@
 use Rattle.std.proofs.Common.{◌∙◌, Bor, List, ℕ, ap, arith, length, map, refl, string_bytes}
 use Rattle.std.proofs.lemmas.Option.{slice_get_read}
-use Rattle.folder_messages.proofs.Lining.{beyond, line_told, lines_short, missing_told, none_there, word_there}
+use Rattle.folder_messages.proofs.Lining.{beyond, line_explained, lines_short, missing_explained, none_there, word_there}
 use Rattle.folder_messages.proofs.manifest.manifest_message.Goals as goal
 
 pub line_message-requires-clause-short : goal.line_message-requires-clause-short
@@ -13,7 +13,7 @@ line_message-requires-clause-short c =
 
 pub returns-in-Some : goal.returns-in-Some
 returns-in-Some c =
-    line_told c.args.bytes.now (map string_bytes c.args.names.now) c.args.line c.saturating_sub-before.result c.in-Some.word.now.now
+    line_explained c.args.bytes.now (map string_bytes c.args.names.now) c.args.line c.saturating_sub-before.result c.in-Some.word.now.now
     c.in_ok-line_message-in-Some.field-0 c.saturating_sub-before.ensures
     (word_there c.deref.result.now c.in_ok-lines.lines.items c.args.bytes.now c.saturating_sub-before.result c.in-Some.word.now
     c.deref.ensures.value c.in_ok-lines.ensures
@@ -23,7 +23,7 @@ returns-in-Some c =
 
 pub returns : goal.returns
 returns c =
-    missing_told c.missing_message.result (map (λ (line : Bor (List ℕ)). line.now) c.deref-in-None.result.now) c.args.bytes.now
+    missing_explained c.missing_message.result (map (λ (line : Bor (List ℕ)). line.now) c.deref-in-None.result.now) c.args.bytes.now
     (map string_bytes c.args.names.now) c.args.line c.saturating_sub-before.result c.saturating_sub-before.ensures
     (ap (map (λ (line : Bor (List ℕ)). line.now)) c.deref-in-None.ensures.value ∙ c.in_ok-lines.ensures)
     (none_there c.deref.result.now c.in_ok-lines.lines.items c.args.bytes.now c.saturating_sub-before.result c.deref.ensures.value
