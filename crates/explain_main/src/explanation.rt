@@ -1,6 +1,6 @@
 //! The program over any folder and any output.
-ghost use Rattle.std.specs.Prelude.{◌≡◌, ◌⊎◌, ◌≤◌, IfOk, IfSome, IsErrOf, None, OnOk};
-ghost use Rattle.project_load.specs.Load.{IsOutside, loaded};
+ghost use Rattle.std.specs.Prelude.{◌≡◌, ◌⊎◌, ◌≤◌, IfOk, IfSome, IsErrOf, None};
+ghost use Rattle.project_load.specs.Load.{loaded};
 ghost use Rattle.tree_io.specs.Outside.{HasCause, Rose};
 ghost use Rattle.tree_io.specs.declared.outside.TreeError.TheVariants as fault;
 ghost use Rattle.explain_main.specs.Code.{status_of as status_for};
@@ -18,7 +18,7 @@ use explain_at::explain_at;
 use explain_batch::explain_batch;
 use explain_recover::explain_recover;
 use explain_verify::explain_verify;
-use folder_messages::folder_message;
+use folder_messages::{folder_message, reason_of};
 use project_load::load;
 use rotor_base::{Files, LoadError, Memory};
 use std::alloc::Global;
@@ -124,19 +124,6 @@ fn files_or_reason<T: Tree>(
     match load(alloc, tree) {
         Ok(files) => Ok(Ok(files)),
         Err(error) => Ok(Err(reason_of(error)?)),
-    }
-}
-
-/// The reason that lies in the folder. A fault and want of memory are none.
-fn reason_of(error: LoadError) -> Result<LoadError, TreeError>
-    ensures same { IfOk result (λ why. why ≡ error) }
-    ensures inside { OnOk result (IsOutside error → ⊥) }
-    ensures failed { IsErrOf result fault.Failed → error ≡ LoadError.Read }
-{
-    match error {
-        LoadError::Read => Err(TreeError::Failed),
-        LoadError::Memory => Err(TreeError::Memory),
-        _ => Ok(error),
     }
 }
 

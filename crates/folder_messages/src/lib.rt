@@ -5,6 +5,8 @@ mod doubled;
 mod folder;
 mod listed;
 mod manifest;
+mod reason;
 mod unit_lines;
 
 pub use folder::folder_message;
+pub use reason::reason_of;

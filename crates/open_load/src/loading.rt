@@ -1,10 +1,10 @@
 //! Loading a folder under documents.
-ghost use Rattle.std.specs.Prelude.{◌≡◌, IfOk, OnOk};
+ghost use Rattle.std.specs.Prelude.{IfOk};
 ghost use Rattle.open_documents.specs.Documents.{AreKnown, documents};
 ghost use Rattle.project_load.specs.Load.{IsOutside};
 ghost use Rattle.open_load.specs.Loaded.{IsOpenFolder, IsUnloaded};
 
-use folder_messages::folder_message;
+use folder_messages::{folder_message, reason_of};
 use messages::Message;
 use open_documents::{Documents, OpenTree};
 use project_load::load;
@@ -59,18 +59,6 @@ fn make_unloaded<T: Tree>(
         Ok(why) => refused_folder(alloc, why, tree),
         Err(TreeError::Failed) => Ok(OpenFolder::Unread),
         Err(TreeError::Memory) => Err(Memory),
-    }
-}
-
-/// The reason that lies in the folder. A fault and want of memory are none.
-fn reason_of(error: LoadError) -> Result<LoadError, TreeError>
-    ensures same { IfOk result (λ why. why ≡ error) }
-    ensures inside { OnOk result (IsOutside error → ⊥) }
-{
-    match error {
-        LoadError::Read => Err(TreeError::Failed),
-        LoadError::Memory => Err(TreeError::Memory),
-        _ => Ok(error),
     }
 }
 
