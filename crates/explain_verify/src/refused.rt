@@ -1,10 +1,9 @@
 //! The messages of files that are not taken as a project's.
 ghost use Rattle.std.specs.Prelude.{◌≡◌, IfOk};
-ghost use Rattle.refusal_words.specs.Parts.{bare as bare_of};
 ghost use Rattle.explain_verify.specs.Lists.{double_message as double_message_of, large_message as large_message_of, load_message as load_message_of, manifest_message as manifest_message_of};
 
-use messages::{Kind, Message, Severity, group_digits, join_words};
-use refusal_words::too_many;
+use messages::{Kind, Message, group_digits, join_words};
+use refusal_words::{make_error, too_many};
 use rotor_base::{LoadError, Memory, Row};
 use std::alloc::Global;
 
@@ -61,18 +60,4 @@ fn manifest_message(alloc: Global, line: u32) -> Result<Message, Memory>
         b"the manifest lists each unit of the folder on one line".to_vec(alloc)?,
     );
     Ok(make_error(alloc, Kind::BadManifest, text, Some(help)))
-}
-
-/// An error without a place.
-fn make_error(alloc: Global, kind: Kind, text: Row<u8>, help: Option<Row<u8>>) -> Message
-    ensures { result ≡ bare_of kind text help }
-{
-    Message {
-        severity: Severity::Error,
-        kind,
-        text,
-        at: None,
-        notes: Row::new(alloc),
-        help,
-    }
 }

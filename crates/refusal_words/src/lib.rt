@@ -29,6 +29,7 @@ pub use folder::{
     double_unit, large_file, large_sum, missing_unit, repeated_unit, too_many, unknown_unit,
 };
 pub use naming::{bad_name, same_name};
+pub use parts::make_error;
 pub use puns::pun_refused;
 pub use refused::{in_step, project_message, renaming_message};
 pub use renaming::{blurred_link, blurred_use, clash, explain_grown, explain_outside, source_name};

@@ -31,7 +31,7 @@ pub(crate) fn make_error_at(
 }
 
 /// An error without a place.
-pub(crate) fn make_error(alloc: Global, kind: Kind, text: Row<u8>, help: Option<Row<u8>>) -> Message
+pub fn make_error(alloc: Global, kind: Kind, text: Row<u8>, help: Option<Row<u8>>) -> Message
     ensures { result ≡ bare_of kind text help }
 {
     Message {
