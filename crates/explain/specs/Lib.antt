@@ -10,3 +10,4 @@ pub mod Targets
 pub mod Refused
 pub mod Shown
 pub mod Says
+pub mod Valueless

@@ -15,6 +15,7 @@ mod renamed;
 mod shown;
 mod sources;
 mod targets;
+mod valueless;
 
 pub use checked::explain_check;
 pub use diffs::diffs_text;
@@ -25,3 +26,4 @@ pub use explanation::{
 pub use lines::{place_message, place_word};
 pub use renamed::explain_rename;
 pub use shown::explain_footprint;
+pub use valueless::valueless_text;

@@ -23,7 +23,7 @@ use Rattle.messages.specs.declared.kinds.Kind.TheVariants as kind
 use Rattle.messages.specs.declared.parts.Message.{Message}
 use Rattle.messages.specs.Shown.{shown_word_of}
 use Rattle.refusal_words.specs.Cut.{AreCuts, Cut}
-use Rattle.refusal_words.specs.Parts.{around, placed}
+use Rattle.refusal_words.specs.Parts.{placed}
 use Rattle.refusal_words.specs.Stretches.{place_spot, word_at}
 use Rattle.refusal_words.specs.Target.{nameless}
 use Rattle.refusal_words.specs.Unnamed.{no_line, no_source, no_token_at}
@@ -32,6 +32,7 @@ use Rattle.explain.specs.declared.explanation.Explanation.{Explanation}
 use Rattle.explain.specs.Lines.{place_message, place_word}
 use Rattle.explain.specs.Says.{SaysCheck}
 use Rattle.explain.specs.Explanation.{explanation_of_message}
+use Rattle.explain.specs.Valueless.{valueless_text}
 
 -- of a place that has no target: its message
 abbrev pub refused_at : Message → Explanation
@@ -53,11 +54,7 @@ declaration_message cuts p = place_message cuts (place_word true) p
 abbrev pub explanation_of_target : List Cut → Place → Explanation
 explanation_of_target cuts p = record { ending = Done; messages = []; text = target_line cuts p; places = declaration_message cuts p ∷ [] }
 
--- of a token that declares and uses no value of the folder, by its word
-abbrev pub valueless_text : Word → ValueAt → Word
-valueless_text word value.NoValue = codes "no value is here"
-valueless_text word _ = around (codes "`") word (codes "` is no value that this folder declares")
-
+-- the message of a token that declares and uses no value of the folder
 abbrev pub valueless : List Cut → Place → ValueAt → Message
 valueless cuts p found = placed kind.NoTarget (valueless_text (word_at cuts p) found) (place_spot cuts p) [] None
 

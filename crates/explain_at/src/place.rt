@@ -8,9 +8,9 @@ ghost use Rattle.refusal_words.specs.Parts.{placed as placed_of};
 ghost use Rattle.refusal_words.specs.Stretches.{place_spot as place_spot_of};
 ghost use Rattle.explain.specs.Lines.{place_message as place_message_of, place_word as place_word_of};
 ghost use Rattle.messages.specs.declared.kinds.Kind.TheVariants as kind;
-ghost use Rattle.explain_at.specs.At.{SaysPlace, declaration_message as declaration_message_of, explanation_of_target, refused_at as refused_at_of, target_line as target_line_of, valueless as valueless_of, valueless_text as valueless_text_of};
+ghost use Rattle.explain_at.specs.At.{SaysPlace, declaration_message as declaration_message_of, explanation_of_target, refused_at as refused_at_of, target_line as target_line_of, valueless as valueless_of};
 
-use explain::{Ending, Explanation, explain_by_message, place_message, place_word};
+use explain::{Ending, Explanation, explain_by_message, place_message, place_word, valueless_text};
 use messages::{Kind, Message, Severity, join_words};
 use ml_trees::Project;
 use refusal_words::{CutSource, place_spot, word_at};
@@ -105,17 +105,4 @@ fn explain_valueless(
         notes: Row::new(alloc),
         help: None,
     })
-}
-
-/// The sentence of a token that declares and uses no value of the folder.
-fn valueless_text(alloc: Global, word: &[u8], found: ValueAt) -> Result<Row<u8>, Memory>
-    ensures { IfOk result (λ text. text ≡ valueless_text_of word.now found) }
-{
-    match found {
-        ValueAt::NoValue => Ok(Row::from_vec(b"no value is here".to_vec(alloc)?)),
-        ValueAt::Outside | ValueAt::Blurred | ValueAt::Value(_) => join_words(
-            alloc,
-            &[b"`", word, b"` is no value that this folder declares"],
-        ),
-    }
 }

@@ -12,12 +12,11 @@ use Rattle.messages.specs.declared.kinds.Kind.TheVariants as kind
 use Rattle.messages.specs.declared.parts.Message.{Message}
 use Rattle.messages.specs.declared.parts.Severity.TheVariants.{Error}
 use Rattle.refusal_words.specs.Cut.{Cut}
-use Rattle.refusal_words.specs.Parts.{around}
 use Rattle.refusal_words.specs.Stretches.{place_spot, word_at}
 use Rattle.explain.specs.Says.{SaysRename}
+use Rattle.explain.specs.Valueless.{valueless_text}
 use Rattle.explain.specs.declared.explanation.Explanation.{Explanation}
 use Rattle.value_at.specs.declared.value.ValueAt.{ValueAt}
-use Rattle.value_at.specs.declared.value.ValueAt.TheVariants as value
 use Rattle.lsp_answers.specs.declared.answer.Failure.{Failure}
 use Rattle.query_failures.specs.Failure.{IsNoted}
 use Rattle.query_failures.specs.Sentence.{message_sentence}
@@ -35,16 +34,12 @@ pub record IsRenamingFailure (files : FileSet) (target : Target) (new : Word) (w
 
 -- ---- no value
 
--- of a token that declares and uses no value of the folder, by its word
-abbrev pub valueless_text : Word → ValueAt → Word
-valueless_text word value.NoValue = codes "no value is here"
-valueless_text word _ = around (codes "`") word (codes "` is no value that this folder declares")
-
+-- the word of a token, if there is one
 abbrev pub word_there : List Cut → Option Place → Word
 word_there cuts None = []
 word_there cuts (Some p) = word_at cuts p
 
--- the message of such a token, or of a byte outside of all tokens
+-- the message of a token that declares and uses no value of the folder, or of a byte outside of all tokens
 abbrev pub valueless : List Cut → Option Place → ValueAt → Message
 valueless cuts p found = record {
   severity = Error;

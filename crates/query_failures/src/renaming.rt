@@ -2,12 +2,12 @@
 ghost use Rattle.std.specs.Prelude.{◌≡◌, IfOk, map, option_map};
 ghost use Rattle.refusal_words.specs.Cut.{view_cut};
 ghost use Rattle.refusal_words.specs.Stretches.{place_spot as place_spot_of};
-ghost use Rattle.query_failures.specs.Renaming.{IsRenamingFailure, IsValuelessFailure, first_sentence, valueless, valueless_text, word_there};
+ghost use Rattle.query_failures.specs.Renaming.{IsRenamingFailure, IsValuelessFailure, first_sentence, valueless, word_there};
 
 use crate::failure::noted_failure;
 use crate::folder::names_of;
 use crate::sentence::message_sentence;
-use explain::explain_rename;
+use explain::{explain_rename, valueless_text};
 use lsp_answers::Failure;
 use messages::{Kind, Message, Severity, Spot, join_words};
 use refusal_words::{CutSource, place_spot, word_at};
@@ -58,7 +58,7 @@ pub fn valueless_failure(
     noted_failure(alloc, text.as_slice(), note)
 }
 
-/// The message of such a token, or of such a byte.
+/// The message of a token that declares and uses no value of the folder, or of a byte outside of all tokens.
 fn explain_valueless(
     alloc: Global,
     cuts: &[CutSource<'_>],
@@ -99,18 +99,5 @@ fn spot_there(
     match place {
         Some(place) => Ok(Some(place_spot(alloc, cuts, place)?)),
         None => Ok(None),
-    }
-}
-
-/// The sentence of a token that declares and uses no value of the folder.
-fn valueless_text(alloc: Global, word: &[u8], found: ValueAt) -> Result<Row<u8>, Memory>
-    ensures { IfOk result (λ text. text ≡ valueless_text word.now found) }
-{
-    match found {
-        ValueAt::NoValue => join_words(alloc, &[b"no value is here"]),
-        ValueAt::Outside | ValueAt::Blurred | ValueAt::Value(_) => join_words(
-            alloc,
-            &[b"`", word, b"` is no value that this folder declares"],
-        ),
     }
 }
