@@ -31,7 +31,8 @@ pub fn explain_recover<T: Tree>(alloc: Global, tree: &mut T) -> Result<Explanati
         Ok(Some(writes)) => Ok(explain_writes(alloc, &writes)?),
         Err(RecoverError::BadPlan) => Ok(explain_lost_plan(alloc)?),
         Err(RecoverError::Read) => Err(TreeError::Failed),
-        Err(RecoverError::Write | RecoverError::Memory) => Err(TreeError::Memory),
+        Err(RecoverError::Memory) => Err(TreeError::Memory),
+        Err(RecoverError::Write) => unreachable!(),
     }
 }
 
