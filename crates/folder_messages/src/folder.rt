@@ -88,11 +88,9 @@ fn manifest_message<T: Tree>(
     ensures content { T.content tree.new ≡ T.content tree.old }
     ensures cause { HasCause (T.faults tree.old) (T.faults tree.new) result }
 {
-    match read_listed(alloc, MANIFEST, tree)? {
-        None => Ok(None),
-        Some(bytes) => {
-            let names = listed_sources(alloc, tree)?;
-            Ok(manifest::manifest_message(alloc, &bytes, &names, line)?)
-        }
-    }
+    let Some(bytes) = read_listed(alloc, MANIFEST, tree)? else {
+        return Ok(None);
+    };
+    let names = listed_sources(alloc, tree)?;
+    Ok(manifest::manifest_message(alloc, &bytes, &names, line)?)
 }

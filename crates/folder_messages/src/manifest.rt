@@ -73,10 +73,10 @@ fn missing_message(
 ) -> Result<Option<Message>, Memory>
     ensures { IfOk result (λ message. message ≡ missing_message_of (map (λ line. line.now) lines.now) (map string_bytes names.now)) }
 {
-    match least_unnamed(alloc, lines, names)? {
-        Some(unit) => Ok(Some(missing_unit(alloc, unit.as_bytes())?)),
-        None => Ok(None),
-    }
+    let Some(unit) = least_unnamed(alloc, lines, names)? else {
+        return Ok(None);
+    };
+    Ok(Some(missing_unit(alloc, unit.as_bytes())?))
 }
 
 /// The least unit of some sources that no line names, if there is one.

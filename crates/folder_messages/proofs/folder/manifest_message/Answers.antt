@@ -6,21 +6,21 @@ use Rattle.folder_messages.specs.Folder.{front_of, manifest_message}
 use Rattle.folder_messages.proofs.Holding.{no_units, units_explained}
 use Rattle.folder_messages.proofs.folder.manifest_message.Goals as goal
 
-pub returns-in-None-clause-message : goal.returns-in-None-clause-message
-returns-in-None-clause-message g c =
+pub returns-in_default-clause-message : goal.returns-in_default-clause-message
+returns-in_default-clause-message g c =
     no_units (g.T.Tree.content c.args.tree.now) c.args.line
     (subst (λ (found : Option (Vec ℕ Global)). IfSome (g.T.Tree.content c.args.tree.now)
-    (λ held. option_map (λ bytes. bytes.items) found ≡ front_of (manifest_of held))) c.in-None.is c.in_ok-read_listed.ensures.bytes)
+    (λ held. option_map (λ bytes. bytes.items) found ≡ front_of (manifest_of held))) c.in_default.is c.in_ok-bytes.ensures.bytes)
 
-pub returns-in_ok-manifest_message-in-Some-clause-message : goal.returns-in_ok-manifest_message-in-Some-clause-message
-returns-in_ok-manifest_message-in-Some-clause-message g c =
+pub returns-clause-message : goal.returns-clause-message
+returns-clause-message g c =
     let content = g.T.Tree.content c.args.tree.now in
-    units_explained content c.in-Some.bytes.items (map string_bytes c.in_ok-names-in-Some.names.items) c.args.line
-    c.in_ok-manifest_message-in-Some.field-0
+    units_explained content c.in-Some.bytes.items (map string_bytes c.in_ok-names.names.items) c.args.line
+    c.in_ok-manifest_message.field-0
     (subst (λ (found : Option (Vec ℕ Global)). IfSome content (λ held. option_map (λ bytes. bytes.items) found ≡ front_of (manifest_of held)))
-    c.in-Some.is c.in_ok-read_listed.ensures.bytes)
-    (subst (λ (o : Option FileMap). IfSome o (λ held. map string_bytes c.in_ok-names-in-Some.names.items ≡ source_names held))
-    c.in_ok-read_listed.ensures.content c.in_ok-names-in-Some.ensures.names)
-    (c.in_ok-manifest_message-in-Some.ensures
-    ∙ ap (λ (ns : List (String Global)). manifest_message c.deref.result.now (map string_bytes ns) c.args.line) c.deref-in-Some.ensures.value
-    ∙ ap (λ (bs : List ℕ). manifest_message bs (map string_bytes c.in_ok-names-in-Some.names.items) c.args.line) c.deref.ensures.value)
+    c.in-Some.is c.in_ok-bytes.ensures.bytes)
+    (subst (λ (o : Option FileMap). IfSome o (λ held. map string_bytes c.in_ok-names.names.items ≡ source_names held))
+    c.in_ok-bytes.ensures.content c.in_ok-names.ensures.names)
+    (c.in_ok-manifest_message.ensures
+    ∙ ap (λ (ns : List (String Global)). manifest_message c.deref.result.now (map string_bytes ns) c.args.line) c.deref-2.ensures.value
+    ∙ ap (λ (bs : List ℕ). manifest_message bs (map string_bytes c.in_ok-names.names.items) c.args.line) c.deref.ensures.value)
