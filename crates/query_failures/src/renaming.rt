@@ -96,8 +96,8 @@ fn spot_there(
 ) -> Result<Option<Spot>, Memory>
     ensures { IfOk result (λ spot. spot ≡ option_map (place_spot_of (map view_cut cuts.now)) place) }
 {
-    match place {
-        Some(place) => Ok(Some(place_spot(alloc, cuts, place)?)),
-        None => Ok(None),
-    }
+    let Some(place) = place else {
+        return Ok(None);
+    };
+    Ok(Some(place_spot(alloc, cuts, place)?))
 }
