@@ -21,10 +21,10 @@ pub(crate) fn blurred_message(
     if let Some(by) = blurring_use(facts.refs.as_slice(), at) {
         return Ok(Some(blurred_use(alloc, cuts, at, by)?));
     }
-    match blurring_link(facts.links.as_slice(), at) {
-        Some(by) => Ok(Some(blurred_link(alloc, cuts, at, by)?)),
-        None => Ok(None),
-    }
+    let Some(by) = blurring_link(facts.links.as_slice(), at) else {
+        return Ok(None);
+    };
+    Ok(Some(blurred_link(alloc, cuts, at, by)?))
 }
 
 /// The outside module that blurs the first reference at a place.
