@@ -39,14 +39,14 @@ fn push_said(messages: &mut Vec<Message>, said: Option<Message>) -> Result<(), M
 fn source_message(alloc: Global, source: &SourceFile) -> Result<Option<Message>, Memory>
     ensures { IfOk result (SaysSource source.now) }
 {
-    match alone_project(alloc, source)? {
-        Some(files) => alone_message(alloc, source, &files),
+    match load_source_alone(alloc, source)? {
+        Some(files) => message_of_source_alone(alloc, source, &files),
         None => Ok(None),
     }
 }
 
 /// The first reason for which the source of a project is outside the language, if there is one.
-fn alone_message(
+fn message_of_source_alone(
     alloc: Global,
     source: &SourceFile,
     files: &Files,
@@ -79,7 +79,7 @@ fn outside_message(
 }
 
 /// The project of a source alone.
-fn alone_project(alloc: Global, source: &SourceFile) -> Result<Option<Files>, Memory>
+fn load_source_alone(alloc: Global, source: &SourceFile) -> Result<Option<Files>, Memory>
     ensures project { IfOk result (λ found. IfSome found (λ files. files ≡ alone source.now)) }
     ensures none { IfOk result (λ found. IfNone found (IsNoProject source.now)) }
 {

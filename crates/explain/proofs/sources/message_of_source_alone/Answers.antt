@@ -1,7 +1,7 @@
 use Rattle.std.proofs.Common.{refl, None}
 use Rattle.ml_trees.specs.View.{view_project}
 use Rattle.explain.proofs.Saying.{source_read}
-use Rattle.explain.proofs.sources.alone_message.Goals as goal
+use Rattle.explain.proofs.sources.message_of_source_alone.Goals as goal
 
 pub returns-in-Ok : goal.returns-in-Ok
 returns-in-Ok c =

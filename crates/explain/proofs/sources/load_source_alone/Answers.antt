@@ -6,7 +6,7 @@ use Rattle.explain.specs.Sources.{IsNoProject}
 use Rattle.explain.proofs.Answered.{if_ok_both}
 use Rattle.explain.proofs.Saying.{is_refused}
 use Rattle.explain.proofs.Single.{sources_of_one}
-use Rattle.explain.proofs.sources.alone_project.Goals as goal
+use Rattle.explain.proofs.sources.load_source_alone.Goals as goal
 
 pub make_files-requires : goal.make_files-requires
 make_files-requires c =
