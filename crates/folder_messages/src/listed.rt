@@ -45,10 +45,10 @@ fn read_among<T: Tree>(
     ensures content { T.content tree.new ≡ T.content tree.old }
     ensures cause { HasCause (T.faults tree.old) (T.faults tree.new) result }
 {
-    match find_name(listed, name) {
-        None => Ok(None),
-        Some(found) => Ok(Some(tree.read(alloc, found, READ_LIMIT)?)),
-    }
+    let Some(found) = find_name(listed, name) else {
+        return Ok(None);
+    };
+    Ok(Some(tree.read(alloc, found, READ_LIMIT)?))
 }
 
 /// The name among some that has these bytes.
