@@ -129,12 +129,12 @@ seen_keys seen h =
 
 -- the folder has the file, so the look-up finds it
 pub is_found : (seen : Seen) (name : List ℕ) (result : Option (MutBor Held)) → option_copied_mut result ≡ tree.get_by_text seen.files name
-    → IsSome (get (seen_files seen) name) → result ≡ None → ⊥
-is_found seen name result value there none =
-    let lacks : get (seen_files seen) name ≡ None =
-    seen_get seen name ∙ ap bytes_of (sym value) ∙ ap (λ (r : Option (MutBor Held)). bytes_of (option_copied_mut r)) none in
+    → IsSome (get (seen_files seen) name) → IsSome result
+is_found seen name None value there =
+    let lacks : get (seen_files seen) name ≡ None = seen_get seen name ∙ ap bytes_of (sym value) in
     let bad = sym there ∙ ap is_some lacks in
     cc
+is_found seen name (Some held) value there = refl
 
 pub was_found : (seen : Seen) (name : List ℕ) (result : Option (MutBor Held)) (held : MutBor Held)
     → option_copied_mut result ≡ tree.get_by_text seen.files name → result ≡ Some held → tree.get_by_text seen.files name ≡ Some held.now

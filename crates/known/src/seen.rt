@@ -75,10 +75,7 @@ impl Seen {
         ensures files { seen_files self.new ≡ seen_files self.old }
         ensures read { (other : List ℕ) (limit : ℕ) → IsRead self.new other limit → IsRead self.old other limit }
     {
-        match self.files.get_mut(name) {
-            None => Ok(()),
-            Some(held) => held.reserve(len),
-        }
+        self.files.get_mut(name).unwrap().reserve(len)
     }
 
     /// Makes a file that the folder has hold just these bytes, for which there is room.
@@ -89,9 +86,6 @@ impl Seen {
         ensures others { (other : List ℕ) → (other ≡ name.now → ⊥) → seen_held self.new other ≡ seen_held self.old other }
         ensures room { KeepsRoom (seen_room self.old) (seen_room self.new) }
     {
-        match self.files.get_mut(name) {
-            None => {}
-            Some(held) => held.fill(bytes),
-        }
+        self.files.get_mut(name).unwrap().fill(bytes);
     }
 }

@@ -6,29 +6,28 @@ use Rattle.known.proofs.Files.{over_set, more_room, is_found, was_found}
 use Rattle.known.proofs.Fronts.{others_stay}
 use Rattle.known.proofs.seen.Seen.fill.Goals as goal
 
-pub returns-in-None-clause-files : goal.returns-in-None-clause-files
-returns-in-None-clause-files c =
-    absurd (is_found c.args.self.now c.args.name.now c.get_mut.result c.get_mut.ensures.value c.requires.there c.in-None.is)
+pub unwrap-requires : goal.unwrap-requires
+unwrap-requires c = is_found c.args.self.now c.args.name.now c.get_mut.result c.get_mut.ensures.value c.requires.there
 
-pub returns-in-Some-clause-files : goal.returns-in-Some-clause-files
-returns-in-Some-clause-files c =
-    let was = was_found c.args.self.now c.args.name.now c.get_mut.result c.in-Some.held c.get_mut.ensures.value c.in-Some.is in
+pub returns-clause-files : goal.returns-clause-files
+returns-clause-files c =
+    let was = was_found c.args.self.now c.args.name.now c.get_mut.result c.unwrap.result c.get_mut.ensures.value c.unwrap.ensures in
     let sets = btree_map_updates_text c.args.name.now c.args.self.now.files (c.get_mut.follows.lender c.fill.new.self) (Some c.fill.new.self)
     ((c.get_mut.follows.holds c.fill.new.self).3 (ap is_some was)) in
     over_set empty c.args.self.now.files.entries (c.get_mut.follows.lender c.fill.new.self).entries c.args.name.now c.fill.new.self sets
     ∙ ap (λ (bytes : List ℕ). insert (seen_files c.args.self.now) c.args.name.now bytes) c.fill.ensures.bytes
 
-pub returns-in-Some-clause-room : goal.returns-in-Some-clause-room
-returns-in-Some-clause-room c =
-    let was = was_found c.args.self.now c.args.name.now c.get_mut.result c.in-Some.held c.get_mut.ensures.value c.in-Some.is in
+pub returns-clause-room : goal.returns-clause-room
+returns-clause-room c =
+    let was = was_found c.args.self.now c.args.name.now c.get_mut.result c.unwrap.result c.get_mut.ensures.value c.unwrap.ensures in
     let sets = btree_map_updates_text c.args.name.now c.args.self.now.files (c.get_mut.follows.lender c.fill.new.self) (Some c.fill.new.self)
     ((c.get_mut.follows.holds c.fill.new.self).3 (ap is_some was)) in
     more_room empty c.args.self.now.files.entries (c.get_mut.follows.lender c.fill.new.self).entries c.args.name.now c.fill.new.self sets
-    c.in-Some.held.now was c.fill.ensures.room 0
+    c.unwrap.result.now was c.fill.ensures.room 0
 
-pub returns-in-Some-clause-others : goal.returns-in-Some-clause-others
-returns-in-Some-clause-others c =
-    let was = was_found c.args.self.now c.args.name.now c.get_mut.result c.in-Some.held c.get_mut.ensures.value c.in-Some.is in
+pub returns-clause-others : goal.returns-clause-others
+returns-clause-others c =
+    let was = was_found c.args.self.now c.args.name.now c.get_mut.result c.unwrap.result c.get_mut.ensures.value c.unwrap.ensures in
     let sets = btree_map_updates_text c.args.name.now c.args.self.now.files (c.get_mut.follows.lender c.fill.new.self) (Some c.fill.new.self)
     ((c.get_mut.follows.holds c.fill.new.self).3 (ap is_some was)) in
     others_stay c.args.self.now (record { files = c.get_mut.follows.lender c.fill.new.self }) c.args.name.now c.fill.new.self sets
