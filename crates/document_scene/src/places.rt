@@ -1,8 +1,6 @@
 //! Places, as ranges of documents.
 ghost use Rattle.std.specs.Prelude.{◌≡◌, ◌==◌, ◌<◌, ◌+◌, ◌^◌, IfOk, Some, filter, length, map, slice_get};
-ghost use Rattle.ml_lexer.specs.Lexed.{view_token};
 ghost use Rattle.refusal_words.specs.Cut.{view_cut};
-ghost use Rattle.refusal_words.specs.Stretches.{has_colon as has_colon_of, is_label as is_label_class, word_end as word_end_of, word_start as word_start_of};
 ghost use Rattle.document_scene.specs.Places.{bytes_among, highlights_of as highlights_for, is_wanted, location_at as location_at_of, location_words, locations_of as locations_for, range_at as range_at_of, span_among};
 ghost use Rattle.document_scene.specs.Scene.{view_scene};
 ghost use Rattle.source_edits.specs.Ranges.{range_of};
@@ -11,8 +9,8 @@ use crate::ranges::{ranges_of_words, span_range};
 use crate::scene::Scene;
 use crate::uri::uri_at;
 use lsp_answers::{Highlight, Location};
-use refusal_words::CutSource;
-use rotor_base::{Class, Memory, Place, Token};
+use refusal_words::{CutSource, word_end, word_start};
+use rotor_base::{Memory, Place};
 use source_edits::{Span, TextRange};
 use std::alloc::Global;
 use value_at::ValuePlace;
@@ -62,48 +60,6 @@ fn cut_span(cut: &CutSource<'_>, number: u32) -> Span
             let end = cut.bytes.len() as u32;
             Span { start: end, end }
         }
-    }
-}
-
-/// Where the word of a token begins: of a label, behind its mark.
-fn word_start(token: &Token<'_>) -> u32
-    ensures { result ≡ word_start_of (view_token token.now) }
-{
-    if is_label(token.class) && token.start < token.end {
-        token.start + 1
-    } else {
-        token.start
-    }
-}
-
-/// Where the word of a token ends: of a label with a colon, before the colon.
-fn word_end(token: &Token<'_>) -> u32
-    ensures { result ≡ word_end_of (view_token token.now) }
-{
-    if is_label(token.class) && has_colon(token.bytes) {
-        token.end.saturating_sub(1)
-    } else {
-        token.end
-    }
-}
-
-/// Whether a class is that of labels.
-fn is_label(class: Class) -> bool
-    ensures { result ≡ is_label_class class }
-{
-    match class {
-        Class::Label => true,
-        _ => false,
-    }
-}
-
-/// Whether a word ends with a colon.
-fn has_colon(word: &[u8]) -> bool
-    ensures { result ≡ has_colon_of word.now }
-{
-    match word.last() {
-        Some(byte) => *byte == b':',
-        None => false,
     }
 }
 

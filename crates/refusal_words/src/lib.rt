@@ -37,6 +37,6 @@ pub use source::{
     duplicate, explain_heavy, explain_unmatched, explain_unread, form_refused, lex_refused,
     long_name, on_cycle, too_deep,
 };
-pub use stretches::{byte_spot, place_spot, word_at};
+pub use stretches::{byte_spot, place_spot, word_at, word_end, word_start};
 pub use target::{a_use, explain_nameless, foreign_value, no_value, operator};
 pub use unnamed::{no_line, no_member, no_path, no_source, no_token, no_token_at};

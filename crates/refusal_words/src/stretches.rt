@@ -43,7 +43,7 @@ fn token_spot(alloc: Global, cut: &CutSource<'_>, token: &Token<'_>) -> Result<S
 }
 
 /// Where the word of a token begins: of a label, behind its mark.
-fn word_start(token: &Token<'_>) -> u32
+pub fn word_start(token: &Token<'_>) -> u32
     ensures { result ≡ word_start_of (view_token token.now) }
 {
     if is_label(token.class) && token.start < token.end {
@@ -54,7 +54,7 @@ fn word_start(token: &Token<'_>) -> u32
 }
 
 /// Where the word of a token ends: of a label with a colon, before the colon.
-fn word_end(token: &Token<'_>) -> u32
+pub fn word_end(token: &Token<'_>) -> u32
     ensures { result ≡ word_end_of (view_token token.now) }
 {
     if is_label(token.class) && has_colon(token.bytes) {
