@@ -1,5 +1,5 @@
 //! Renamings.
-ghost use Rattle.std.specs.Prelude.{◌≡◌, Err, IfOk};
+ghost use Rattle.std.specs.Prelude.{Err, IfOk};
 ghost use Rattle.lsp_answers.specs.Plain.{IsPlain};
 ghost use Rattle.ml_trees.specs.View.{view_project};
 ghost use Rattle.editor_renaming.specs.Asked.{name_at as name_at_of, target_of as target_for};
@@ -18,11 +18,11 @@ ghost use Rattle.document_answers.specs.Renaming.{AreChanges, RepliesRename};
 
 use crate::over::{Around, is_memory};
 use document_scene::document_edits;
-use editor_renaming::{EditorRenaming, rename_at};
+use editor_renaming::{EditorRenaming, name_at, rename_at, target_of};
 use lsp_answers::{Answer, Reply};
 use query_failures::{plain_failure, renaming_failure};
 use renaming_edits::FileEdits;
-use rotor_base::{Files, Memory, Name, Place, Refusal, SourceFile, Target};
+use rotor_base::{Files, Memory, Place, Refusal, SourceFile};
 use std::alloc::Global;
 
 /// The reply to a renaming of the value of a declaration, at a token that declares or uses it.
@@ -100,24 +100,4 @@ fn refused_renaming(
     }
     let target = target_of(alloc, files.entries(), declared)?;
     Ok(Err(renaming_failure(alloc, files, &target, name, why)?))
-}
-
-/// The target that names a place by its source and its token.
-fn target_of(alloc: Global, sources: &[SourceFile], place: Place) -> Result<Target, Memory>
-    ensures { IfOk result (λ target. target ≡ target_for sources.now place) }
-{
-    Ok(Target::At {
-        file: Name::new(alloc, name_at(sources, place.file))?,
-        token: place.token,
-    })
-}
-
-/// The name of the source of a number; if there is none, no bytes.
-fn name_at(sources: &[SourceFile], number: u32) -> &[u8]
-    ensures { result.now ≡ name_at_of sources.now number }
-{
-    match sources.get(number as usize) {
-        Some(source) => source.name.as_str().as_bytes(),
-        None => b"",
-    }
 }

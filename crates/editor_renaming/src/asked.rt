@@ -102,8 +102,8 @@ fn rename_value(
     }
 }
 
-/// The target that names a place by its source and its token.
-fn target_of(alloc: Global, sources: &[SourceFile], place: Place) -> Result<Target, Memory>
+/// The target that names a place by its source and its token. The one error is want of memory.
+pub fn target_of(alloc: Global, sources: &[SourceFile], place: Place) -> Result<Target, Memory>
     ensures { IfOk result (λ target. target ≡ target_of sources.now place) }
 {
     Ok(Target::At {
@@ -112,8 +112,8 @@ fn target_of(alloc: Global, sources: &[SourceFile], place: Place) -> Result<Targ
     })
 }
 
-/// The name of the source of a number; if there is none, no bytes.
-fn name_at(sources: &[SourceFile], number: u32) -> &[u8]
+/// The name of the source of a number; if there is none, no bytes. It takes no memory.
+pub fn name_at(sources: &[SourceFile], number: u32) -> &[u8]
     ensures { result.now ≡ name_at sources.now number }
 {
     match sources.get(number as usize) {
