@@ -14,16 +14,13 @@ use Rattle.reading_differences.specs.declared.difference.Indexed.{Indexed}
 use Rattle.reading_differences.specs.declared.difference.Indexed.TheVariants as form
 use Rattle.reading_differences.specs.declared.difference.Parting.{Parting}
 use Rattle.reading_differences.specs.declared.difference.Parting.TheVariants as how
+use Rattle.reading_differences.specs.Indexed.{module_of}
 use Rattle.refusal_words.specs.Cut.{Cut}
 use Rattle.refusal_words.specs.Stretches.{byte_spot, place_spot}
 
 -- a warning at a stretch of a source
 abbrev pub warned : Kind → Word → Spot → Option Word → Message
 warned kind text at help = record { severity = Warning; kind = kind; text = text; at = Some at; notes = []; help = help }
-
-abbrev pub module_of : Indexed → Word
-module_of form.Array = codes "Array"
-module_of form.String = codes "String"
 
 -- as it is written
 abbrev pub form_of : Indexed → Word

@@ -1,10 +1,10 @@
 //! The warning of a place.
 ghost use Rattle.std.specs.Prelude.{◌≡◌, IfOk, map};
 ghost use Rattle.refusal_words.specs.Cut.{view_cut};
-ghost use Rattle.difference_words.specs.Warning.{applied as applied_of, commented as commented_of, index_help as index_help_of, index_text as index_text_of, indexed as indexed_of, late as late_of, module_of, form_of, opened as opened_of, opened_note as opened_note_of, opened_text as opened_text_of, standard as standard_of, warned, warning_of as warning_for};
+ghost use Rattle.difference_words.specs.Warning.{applied as applied_of, commented as commented_of, index_help as index_help_of, index_text as index_text_of, indexed as indexed_of, late as late_of, form_of, opened as opened_of, opened_note as opened_note_of, opened_text as opened_text_of, standard as standard_of, warned, warning_of as warning_for};
 
 use messages::{Kind, Message, Note, Severity, Spot, join_words, spot_text};
-use reading_differences::{Difference, Indexed, Parting};
+use reading_differences::{Difference, Indexed, Parting, module_name};
 use refusal_words::{CutSource, byte_spot, place_spot};
 use rotor_base::{Memory, Place, Row};
 use std::alloc::Global;
@@ -85,16 +85,6 @@ fn index_help(alloc: Global, name: &[u8]) -> Result<Row<u8>, Memory>
         alloc,
         &[b"do not rename `get` or `set` of that `", name, b"`"],
     )
-}
-
-/// The module that a form reads.
-fn module_name(form: Indexed) -> &'static [u8]
-    ensures { result.now ≡ module_of form }
-{
-    match form {
-        Indexed::Array => b"Array",
-        Indexed::String => b"String",
-    }
 }
 
 /// A form, as it is written.

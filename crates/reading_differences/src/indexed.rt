@@ -218,7 +218,7 @@ fn declares(form: Indexed, token: &Token<'_>, behind: &[Token<'_>]) -> bool
 }
 
 /// The name of the module that the form reads.
-fn module_name(form: Indexed) -> &'static [u8]
+pub fn module_name(form: Indexed) -> &'static [u8]
     ensures { result.now ≡ module_of form }
 {
     match form {

@@ -10,4 +10,5 @@ mod project;
 mod standard;
 
 pub use difference::{Difference, Indexed, Parting};
+pub use indexed::module_name;
 pub use project::differences;
