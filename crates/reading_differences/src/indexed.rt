@@ -91,10 +91,8 @@ fn index_of_source(
     requires { All (λ list. length list.items ≤ max_file_bytes) sources.now }
     ensures { result ≡ first_index_of form nested known false 1 (lexemes_of (map (λ list. view_tokens list.items) sources.now) file) }
 {
-    match sources.get(file as usize) {
-        Some(tokens) => first_index(form, nested, known, tokens),
-        None => None,
-    }
+    let tokens = sources.get(file as usize)?;
+    first_index(form, nested, known, tokens)
 }
 
 /// Whether a unit declares a module of the form's name.
@@ -141,11 +139,10 @@ fn is_declared_in(form: Indexed, tokens: &[Token<'_>]) -> bool
 }
 
 /// The number, from 1, of the first token at which the form begins and a module of its name may be in scope.
-fn first_index(form: Indexed, nested: bool, known: bool, tokens: &[Token<'_>]) -> Option<u32>
+fn first_index(form: Indexed, nested: bool, mut known: bool, tokens: &[Token<'_>]) -> Option<u32>
     requires { length tokens.now ≤ max_file_bytes }
     ensures { result ≡ first_index_of form nested known false 1 (view_tokens tokens.now) }
 {
-    let mut known = known;
     let mut behind_path = false;
     let mut number: u32 = 1;
     let mut rest = tokens;

@@ -123,16 +123,9 @@ fn head_in(sources: &[Vec<Token<'_>>], file: &Option<FileTree>, name: &[u8]) -> 
     requires { All (λ list. length list.items ≤ max_file_bytes) sources.now }
     ensures { result ≡ head_in_of (map (λ list. view_tokens list.items) sources.now) (view_part_of file.now) name.now }
 {
-    match file {
-        Some(tree) => {
-            let file = file_number(tree);
-            match head_of_source(sources, file, name) {
-                Some(token) => Some(Place { file, token }),
-                None => None,
-            }
-        }
-        None => None,
-    }
+    let file = file_number(file.as_ref()?);
+    let token = head_of_source(sources, file, name)?;
+    Some(Place { file, token })
 }
 
 /// The number, from 1, of the first head of this name in the source of a number.
@@ -140,10 +133,8 @@ fn head_of_source(sources: &[Vec<Token<'_>>], file: u32, name: &[u8]) -> Option<
     requires { All (λ list. length list.items ≤ max_file_bytes) sources.now }
     ensures { result ≡ first_head_of name.now false false 1 (lexemes_of (map (λ list. view_tokens list.items) sources.now) file) }
 {
-    match sources.get(file as usize) {
-        Some(tokens) => first_head(tokens, name),
-        None => None,
-    }
+    let tokens = sources.get(file as usize)?;
+    first_head(tokens, name)
 }
 
 /// The number, from 1, of the first token that is this name and no later step of a path.

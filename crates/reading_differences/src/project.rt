@@ -43,10 +43,7 @@ pub fn differences(alloc: Global, files: &Files, read: &Read<'_>) -> Result<Row<
 fn is_listed(files: &Files) -> bool
     ensures { result ≡ is_some files.now.manifest }
 {
-    match files.manifest() {
-        Some(_) => true,
-        None => false,
-    }
+    files.manifest().is_some()
 }
 
 /// The places of all kinds, over the files, their tokens and the units in link order.
@@ -175,10 +172,9 @@ fn add_source_comments(
 }
 
 /// The differences in the order of their places.
-fn sort_differences(found: Vec<Difference>) -> Result<Row<Difference>, Memory>
+fn sort_differences(mut found: Vec<Difference>) -> Result<Row<Difference>, Memory>
     ensures { IfOk result (λ list. list ≡ in_order (λ difference. difference.at) found.items) }
 {
-    let mut list = found;
-    list.sort_by_key(|difference| difference.at)?;
-    Ok(Row::from_vec(list))
+    found.sort_by_key(|difference| difference.at)?;
+    Ok(Row::from_vec(found))
 }

@@ -72,10 +72,7 @@ fn unit_first(sources: &[Vec<Token<'_>>], unit: &UnitTree) -> Option<Place>
 fn first_in(sources: &[Vec<Token<'_>>], file: &Option<FileTree>) -> Option<Place>
     ensures { result ≡ first_in_of (map (λ list. view_tokens list.items) sources.now) (view_part_of file.now) }
 {
-    match file {
-        Some(tree) => first_of_source(sources, file_number(tree)),
-        None => None,
-    }
+    first_of_source(sources, file_number(file.as_ref()?))
 }
 
 /// The first token of the source of a number, if it has one.
