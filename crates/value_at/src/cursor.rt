@@ -16,10 +16,8 @@ pub fn token_at(tokens: &[Token], offset: u32) -> Option<u32>
     requires { length tokens.now ≤ max_file_bytes }
     ensures { result ≡ token_at offset (view_tokens tokens.now) }
 {
-    match cursor_position(tokens, offset) {
-        Some(at) => Some(at as u32 + 1),
-        None => None,
-    }
+    let at = cursor_position(tokens, offset)?;
+    Some(at as u32 + 1)
 }
 
 /// The position of the token that a cursor at a byte means.

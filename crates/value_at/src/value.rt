@@ -62,13 +62,7 @@ fn used_value(goal: Option<Goal>) -> ValueAt
     match goal {
         None => ValueAt::NoValue,
         Some(Goal::Decl(place)) => ValueAt::Value(place),
-        Some(
-            Goal::Blur {
-                by: _,
-                passed: _,
-                behind: _,
-            },
-        ) => ValueAt::Blurred,
+        Some(Goal::Blur { .. }) => ValueAt::Blurred,
         Some(Goal::Outside | Goal::Missing | Goal::Hidden) => ValueAt::Outside,
     }
 }
