@@ -96,10 +96,8 @@ fn fill<R: Read>(reader: &mut R, buffer: &mut [u8]) -> Result<(), FrameError>
         if at >= buffer.len() {
             return Ok(());
         }
-        match read_some(reader, &mut buffer[at..]) {
-            Ok(count) => at += count,
-            Err(error) => return Err(error),
-        }
+        let count = read_some(reader, &mut buffer[at..])?;
+        at += count;
     }
     Err(FrameError::Io(ErrorKind::TimedOut.into()))
 }

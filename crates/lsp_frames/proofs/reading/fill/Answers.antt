@@ -24,11 +24,11 @@ loop-preserved g c =
     let from = c.loop.at in
     let room = length c.loop.buffer - from in
     let within = c.loop.invariant.1 in
-    let part = slice_range-put_mid from room c.in-Ok.count c.loop.buffer c.read_some.new.buffer within c.in-Ok.ensures.bound in
-    let joined = take_split from (from + c.in-Ok.count) c.loop.buffer (put_mid from room c.loop.buffer c.read_some.new.buffer)
+    let part = slice_range-put_mid from room c.in_ok-count.count c.loop.buffer c.read_some.new.buffer within c.in_ok-count.ensures.bound in
+    let joined = take_split from (from + c.in_ok-count.count) c.loop.buffer (put_mid from room c.loop.buffer c.read_some.new.buffer)
     (omega arith) (take-put_mid_below _ _ _ _ _ (le_refl _) within) in (
       search rules,
       search rules,
       subst (Consumes _ _) (ap (λ l. take from c.loop.buffer ++ l) (sym part) ∙ joined)
-          (Consumes-trans _ _ _ _ _ c.loop.invariant.2 c.in-Ok.ensures.bytes),
+          (Consumes-trans _ _ _ _ _ c.loop.invariant.2 c.in_ok-count.ensures.bytes),
     )
