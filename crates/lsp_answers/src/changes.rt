@@ -21,6 +21,7 @@ pub(crate) fn word_value(alloc: Global, range: TextRange, word: &[u8]) -> Result
     Ok(word_object(alloc, placeholder, range)?)
 }
 
+/// The object of the text of a word and of its range.
 fn word_object(alloc: Global, placeholder: Value, range: Value) -> Result<Value, AllocError>
     ensures { IfOk result (λ value. view value ≡ word_of (view placeholder) (view range)) }
 {
@@ -39,6 +40,7 @@ pub(crate) fn changes_value(alloc: Global, documents: &[DocumentEdits]) -> Resul
     Ok(changes_object(alloc, Value::Object(members))?)
 }
 
+/// The object with the edits of each document.
 fn changes_object(alloc: Global, changes: Value) -> Result<Value, AllocError>
     ensures { IfOk result (λ value. view value ≡ changes_of (view changes)) }
 {
@@ -56,6 +58,7 @@ pub(crate) fn versioned_value(alloc: Global, documents: &[DocumentEdits]) -> Res
     Ok(versioned_object(alloc, Value::Array(items))?)
 }
 
+/// The object with the list of the documents' edits.
 fn versioned_object(alloc: Global, documents: Value) -> Result<Value, AllocError>
     ensures { IfOk result (λ value. view value ≡ versioned_of (view documents)) }
 {
@@ -72,6 +75,7 @@ fn document_value(alloc: Global, document: &DocumentEdits) -> Result<Value, Memo
     Ok(document_object(alloc, edits, identified)?)
 }
 
+/// The object of some edits and of the document that they change.
 fn document_object(alloc: Global, edits: Value, document: Value) -> Result<Value, AllocError>
     ensures { IfOk result (λ value. view value ≡ document_of (view edits) (view document)) }
 {
@@ -115,6 +119,7 @@ fn edit_value(alloc: Global, edit: &TextEdit) -> Result<Value, Memory>
     Ok(edit_object(alloc, text, range)?)
 }
 
+/// The object of a new text and of the range that it replaces.
 fn edit_object(alloc: Global, text: Value, range: Value) -> Result<Value, AllocError>
     ensures { IfOk result (λ value. view value ≡ edit_of (view text) (view range)) }
 {

@@ -13,6 +13,12 @@ use source_edits::TextRange;
 use std::alloc::{AllocError, Global};
 use text_places::Position;
 
+/// The kind of a highlight that is read (Language Server Protocol 3.17, "DocumentHighlightKind").
+const READ: u64 = 2;
+
+/// The kind of a highlight that is written.
+const WRITE: u64 = 3;
+
 /// The array of locations.
 pub(crate) fn locations_value(alloc: Global, locations: &[Location]) -> Result<Value, Memory>
     ensures { IfOk result (λ value. view value ≡ array (items_of (map location_data locations.now))) }
@@ -33,6 +39,7 @@ pub(crate) fn location_value(alloc: Global, location: &Location) -> Result<Value
     Ok(location_object(alloc, range, uri)?)
 }
 
+/// The object of a range and of the URI of its document.
 fn location_object(alloc: Global, range: Value, uri: Value) -> Result<Value, AllocError>
     ensures { IfOk result (λ value. view value ≡ location_of (view range) (view uri)) }
 {
@@ -58,13 +65,18 @@ fn highlight_value(alloc: Global, highlight: Highlight) -> Result<Value, Memory>
     Ok(highlight_object(alloc, kind_of(highlight), range)?)
 }
 
-/// The number of the kind of a highlight: 3 for a place that is written, and 2 for one that is read.
+/// The number of the kind of a highlight: a declaration is written, and other places are read.
 fn kind_of(highlight: Highlight) -> u64
     ensures { result ≡ kind_of highlight }
 {
-    if highlight.is_declaration { 3 } else { 2 }
+    if highlight.is_declaration {
+        WRITE
+    } else {
+        READ
+    }
 }
 
+/// The object of the number of a kind and of a range.
 fn highlight_object(alloc: Global, kind: u64, range: Value) -> Result<Value, AllocError>
     ensures { IfOk result (λ value. view value ≡ highlight_of kind (view range)) }
 {
@@ -80,6 +92,7 @@ pub(crate) fn range_value(alloc: Global, range: TextRange) -> Result<Value, Memo
     Ok(range_object(alloc, end, start)?)
 }
 
+/// The object of an end and of a start.
 fn range_object(alloc: Global, end: Value, start: Value) -> Result<Value, AllocError>
     ensures { IfOk result (λ value. view value ≡ range_of (view end) (view start)) }
 {

@@ -41,12 +41,14 @@ fn response_value(alloc: Global, id: Option<&Id>, reply: &Reply) -> Result<Value
     }
 }
 
+/// The object of a response with an answer.
 fn succeeded_object(alloc: Global, id: Value, answer: Value) -> Result<Value, AllocError>
     ensures { IfOk result (λ value. view value ≡ succeeded_of (view id) (view answer)) }
 {
     json!(in alloc; { "id": id, "jsonrpc": "2.0", "result": answer })
 }
 
+/// The object of a response with an error.
 fn failed_object(alloc: Global, error: Value, id: Value) -> Result<Value, AllocError>
     ensures { IfOk result (λ value. view value ≡ failed_of (view error) (view id)) }
 {
@@ -63,6 +65,7 @@ fn optional_id_value(alloc: Global, id: Option<&Id>) -> Result<Value, Memory>
     }
 }
 
+/// The JSON of an id: a number or a string.
 fn id_value(alloc: Global, id: &Id) -> Result<Value, Memory>
     ensures { IfOk result (λ value. view value ≡ id_data id.now) }
 {
@@ -103,12 +106,14 @@ fn failure_value(alloc: Global, failure: &Failure) -> Result<Value, Memory>
     }
 }
 
+/// The object of an error with data.
 fn noted_object(alloc: Global, code: i64, noted: Value, message: Value) -> Result<Value, AllocError>
     ensures { IfOk result (λ value. view value ≡ noted_of code (view noted) (view message)) }
 {
     json!(in alloc; { "code": code, "data": noted, "message": message })
 }
 
+/// The object of an error without data.
 fn failure_object(alloc: Global, code: i64, message: Value) -> Result<Value, AllocError>
     ensures { IfOk result (λ value. view value ≡ failure_of code (view message)) }
 {

@@ -10,7 +10,7 @@ use rotor_base::Memory;
 use serde_json::{Value, json};
 use std::alloc::{AllocError, Global};
 
-/// The object of what the server can do, and of its name.
+/// The answer to `initialize`: what the server can do in this encoding, and its name.
 pub(crate) fn started_value(
     alloc: Global,
     encoding: Encoding,
@@ -54,6 +54,7 @@ fn sync_object(alloc: Global) -> Result<Value, AllocError>
     json!(in alloc; { "change": 1, "openClose": true })
 }
 
+/// The object of what the server can do.
 fn capabilities_object(
     alloc: Global,
     encoding: Value,
@@ -79,6 +80,7 @@ fn server_object(alloc: Global) -> Result<Value, AllocError>
     json!(in alloc; { "name": "rotor_lsp", "version": "1" })
 }
 
+/// The object of what the server can do and of its name.
 fn started_object(alloc: Global, capabilities: Value, server: Value) -> Result<Value, AllocError>
     ensures { IfOk result (λ value. view value ≡ started_of (view capabilities) (view server)) }
 {
