@@ -75,12 +75,12 @@ pub(crate) fn answer_over_files(
 {
     match number_of(files.entries(), asked.file.name.as_bytes()) {
         Some(number) => answer_over_source(alloc, last, asked, files, number),
-        None => lacking_reply(alloc, asked.file.name.as_bytes(), asked.query),
+        None => reply_without_source(alloc, asked.file.name.as_bytes(), asked.query),
     }
 }
 
 /// The reply to a query in a source that its folder lacks.
-fn lacking_reply(alloc: Global, name: &[u8], query: Query<&str>) -> Result<Reply, Memory>
+fn reply_without_source(alloc: Global, name: &[u8], query: Query<&str>) -> Result<Reply, Memory>
     ensures reply { IfOk result (IsRefusedAs (query_words query.entry) (lacking_text name.now)) }
     ensures plain { IfOk result IsPlain }
 {

@@ -25,9 +25,9 @@ answer_over_source-requires-clause-within c =
 
 pub returns-in-None-clause-reply : goal.returns-in-None-clause-reply
 returns-in-None-clause-reply c =
-    IfOk-weaker c.lacking_reply.result _ _ (λ reply h.
+    IfOk-weaker c.reply_without_source.result _ _ (λ reply h.
     lacking
     (found_among c.entries.result.now c.args.files.entries c.as_bytes.result.now (string_bytes c.args.asked.file.now.name) c.number_of.result None
     c.entries.ensures.entries c.as_bytes.ensures.value c.number_of.ensures.found c.in-None.is)
     (subst (λ (w : Word). IsRefusedAs (query_words c.args.asked.query) (lacking_text w) reply) c.as_bytes-in-None.ensures.value h))
-    c.lacking_reply.ensures.reply
+    c.reply_without_source.ensures.reply

@@ -3,7 +3,7 @@ use Rattle.query_failures.specs.Failure.{IsSaid}
 use Rattle.requests.specs.Asked.{query_words}
 use Rattle.document_answers.specs.Refused.{lacking_text}
 use Rattle.document_answers.proofs.Refusing.{refused_as}
-use Rattle.document_answers.proofs.over.lacking_reply.Goals as goal
+use Rattle.document_answers.proofs.over.reply_without_source.Goals as goal
 
 pub returns-clause-reply : goal.returns-clause-reply
 returns-clause-reply c =
