@@ -32,8 +32,8 @@ sentence true = codes "the file ends inside an item"
 sentence false = codes "this is no OCaml, or OCaml that rotor does not read; the reading stops at or just before this place"
 
 -- a note on the place where the item begins, if it is another one
-abbrev pub begun_notes : Cut → ℕ → ℕ → List Note
-begun_notes cut front at =
+abbrev pub item_start_notes : Cut → ℕ → ℕ → List Note
+item_start_notes cut front at =
     if front == at then [] else record { at = lexeme_spot cut front; text = codes "in the item that begins here" } ∷ []
 
 abbrev pub advice : Option Word → Word
@@ -43,7 +43,7 @@ advice None = codes "if OCaml accepts this file, it uses a form that rotor does 
 -- of a source whose item at the front is not read: the reading stops there, and the file may end inside the item
 abbrev pub unread_at : Cut → ℕ → ℕ → Bool → Message
 unread_at cut front stop ends =
-    placed kind.Syntax (sentence ends) (lexeme_spot cut (told_at cut stop ends)) (begun_notes cut front (told_at cut stop ends))
+    placed kind.Syntax (sentence ends) (lexeme_spot cut (told_at cut stop ends)) (item_start_notes cut front (told_at cut stop ends))
     (Some (advice (form_near cut.lexemes front stop)))
 
 -- The message of a source that is not read. The item begins at the front, and the reading stops at one of the lexemes

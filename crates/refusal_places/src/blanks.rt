@@ -152,6 +152,7 @@ fn is_name(token: &Token<'_>, name: &[u8]) -> bool
     is_upper(token.class) && token.bytes == name
 }
 
+/// Whether a class is that of upper-case words.
 fn is_upper(class: Class) -> bool
     ensures { result ≡ is_upper_class class }
 {

@@ -4,7 +4,7 @@ ghost use Rattle.rotor_base.specs.Limits.{max_file_bytes};
 ghost use Rattle.project_reading.specs.Source.{kind_of_source};
 ghost use Rattle.refusal_words.specs.Cut.{view_cut};
 ghost use Rattle.refusal_places.specs.Forms.{form_near as form_near_of};
-ghost use Rattle.refusal_places.specs.Unread.{SaysUnread, advice as advice_of, begun_notes as begun_notes_of, lexeme_spot as lexeme_spot_of, sentence as sentence_of, told_at as told_at_of, unread_at as unread_at_of};
+ghost use Rattle.refusal_places.specs.Unread.{SaysUnread, advice as advice_of, item_start_notes as item_start_notes_of, lexeme_spot as lexeme_spot_of, sentence as sentence_of, told_at as told_at_of, unread_at as unread_at_of};
 
 use crate::forms::form_near;
 use crate::front::front_of;
@@ -53,7 +53,7 @@ fn explain_stop(
     let at = choose_place(cut, stop, ends);
     let text = Row::from_vec(sentence(ends).as_bytes().to_vec(alloc)?);
     let spot = lexeme_spot(alloc, cut, at)?;
-    let notes = begun_notes(alloc, cut, front, at)?;
+    let notes = item_start_notes(alloc, cut, front, at)?;
     let help = advice(alloc, cut, front, stop)?;
     Ok(Message {
         severity: Severity::Error,
@@ -101,13 +101,13 @@ pub(crate) fn lexeme_spot(alloc: Global, cut: &CutSource<'_>, at: usize) -> Resu
 }
 
 /// The note on the place where the item begins, if it is another one.
-fn begun_notes(
+fn item_start_notes(
     alloc: Global,
     cut: &CutSource<'_>,
     front: usize,
     at: usize,
 ) -> Result<Row<Note>, Memory>
-    ensures { IfOk result (λ notes. notes ≡ begun_notes_of (view_cut cut.now) front at) }
+    ensures { IfOk result (λ notes. notes ≡ item_start_notes_of (view_cut cut.now) front at) }
 {
     let mut notes = Row::new(alloc);
     if front != at {
