@@ -27,8 +27,8 @@ abbrev pub unit_first : List (List Lexeme) → UnitTree → Option Place
 unit_first lists u = or_else (first_in lists u.face) (first_in lists u.body)
 
 -- the same, if the unit has that name
-abbrev pub standard_first : List (List Lexeme) → UnitTree → Option Place
-standard_first lists u = cond (is_standard u) (unit_first lists u) None
+abbrev pub standard_start : List (List Lexeme) → UnitTree → Option Place
+standard_start lists u = cond (is_standard u) (unit_first lists u) None
 
 abbrev pub opened_first : Option Place → List Difference
 opened_first None = []
@@ -37,4 +37,4 @@ opened_first (Some at) = record { at = at; how = Standard } ∷ []
 -- of all units
 abbrev pub standard_units : List (List Lexeme) → List UnitTree → List Difference
 standard_units lists [] = []
-standard_units lists (u ∷ us) = opened_first (standard_first lists u) ++ standard_units lists us
+standard_units lists (u ∷ us) = opened_first (standard_start lists u) ++ standard_units lists us

@@ -3,7 +3,7 @@ ghost use Rattle.std.specs.Prelude.{◌≡◌, ◌++◌, OnOk, map};
 ghost use Rattle.ml_lexer.specs.Lexed.{view_tokens};
 ghost use Rattle.ml_trees.specs.View.{view_part_of, view_unit};
 ghost use Rattle.module_openings.specs.Sources.{lexemes_of};
-ghost use Rattle.reading_differences.specs.Standard.{first_in as first_in_of, first_of, is_standard as is_standard_of, opened_first, standard_first as standard_first_of, standard_units, unit_first as unit_first_of};
+ghost use Rattle.reading_differences.specs.Standard.{first_in as first_in_of, first_of, is_standard as is_standard_of, opened_first, standard_start as standard_start_of, standard_units, unit_first as unit_first_of};
 
 use crate::difference::{Difference, Parting};
 use ml_trees::{FileTree, UnitTree};
@@ -22,7 +22,7 @@ pub(crate) fn add_standard(
     ensures { OnOk result (found.new.items ≡ found.old.items ++ standard_units (map (λ list. view_tokens list.items) sources.now) (map view_unit units.now)) }
 {
     for unit in units {
-        push_opened(found, standard_first(sources, unit))?;
+        push_opened(found, standard_start(sources, unit))?;
     }
     Ok(())
 }
@@ -41,8 +41,8 @@ fn push_opened(found: &mut Vec<Difference>, at: Option<Place>) -> Result<(), Mem
 }
 
 /// The first token of a unit, if it has the name of OCaml's standard library.
-fn standard_first(sources: &[Vec<Token<'_>>], unit: &UnitTree) -> Option<Place>
-    ensures { result ≡ standard_first_of (map (λ list. view_tokens list.items) sources.now) (view_unit unit.now) }
+fn standard_start(sources: &[Vec<Token<'_>>], unit: &UnitTree) -> Option<Place>
+    ensures { result ≡ standard_start_of (map (λ list. view_tokens list.items) sources.now) (view_unit unit.now) }
 {
     if is_standard(unit) {
         unit_first(sources, unit)
