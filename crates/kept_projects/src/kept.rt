@@ -48,7 +48,7 @@ impl KeptProject {
         (self.files, self.project, self.resolved)
     }
 
-    /// The files.
+    /// The files whose project is kept.
     pub fn files(&self) -> &Files
         ensures { result.now ≡ self.now }
     {
