@@ -83,6 +83,7 @@ fn trim(bytes: &[u8]) -> &[u8]
     trim_end(trim_start(bytes))
 }
 
+/// The bytes without the spaces and tabs at the start.
 fn trim_start(mut bytes: &[u8]) -> &[u8]
     ensures { result.now ≡ skip_blanks bytes.now }
 {
@@ -92,6 +93,7 @@ fn trim_start(mut bytes: &[u8]) -> &[u8]
     bytes
 }
 
+/// The bytes without the spaces and tabs at the end.
 fn trim_end(mut bytes: &[u8]) -> &[u8]
     ensures { result.now ≡ reverse (skip_blanks (reverse bytes.now)) }
 {
