@@ -7,4 +7,3 @@ mod warning;
 
 pub use counted::counted_differences;
 pub use folder::warnings;
-pub use warning::warning_of;

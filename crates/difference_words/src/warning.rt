@@ -10,7 +10,7 @@ use rotor_base::{Memory, Place, Row};
 use std::alloc::Global;
 
 /// The warning of a place at which OCaml may read a folder otherwise. The one error is want of memory.
-pub fn warning_of(
+pub(crate) fn warning_of(
     alloc: Global,
     cuts: &[CutSource<'_>],
     difference: &Difference,
