@@ -21,7 +21,11 @@ use std::alloc::Global;
 
 /// The message of a unit that needs itself through others: the shortest chain of needs back to it, with the place of
 /// each need. The one error is want of memory.
-pub fn cycle_message(alloc: Global, cuts: &[CutSource<'_>], unit: &[u8]) -> Result<Message, Memory>
+pub(crate) fn cycle_message(
+    alloc: Global,
+    cuts: &[CutSource<'_>],
+    unit: &[u8],
+) -> Result<Message, Memory>
     requires { All (λ cut. length cut.tokens.items ≤ max_file_bytes) cuts.now }
     ensures { IfOk result (SaysCircle (map view_cut cuts.now) unit.now) }
 {

@@ -11,7 +11,7 @@ use std::alloc::Global;
 
 /// The place, from 0, where the item begins that is not read: the first token that none of the items covers with which
 /// a file begins; if it is an `in`, the `let` of that. The one error is want of memory.
-pub fn front_of(alloc: Global, tokens: &[Token<'_>], kind: FileKind) -> Result<usize, Memory>
+pub(crate) fn front_of(alloc: Global, tokens: &[Token<'_>], kind: FileKind) -> Result<usize, Memory>
     requires few { length tokens.now ≤ max_file_bytes }
     ensures front { IfOk result (λ front. front ≡ front_for kind (view_tokens tokens.now)) }
     ensures within { IfOk result (λ front. front ≤ length tokens.now) }

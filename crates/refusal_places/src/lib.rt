@@ -11,8 +11,5 @@ mod laws;
 mod placed;
 mod unread;
 
-pub use cycle::cycle_message;
-pub use front::front_of;
 pub use laws::{fronts_determine_reading, fronts_end_items};
 pub use placed::placed_message;
-pub use unread::unread_message;

@@ -17,7 +17,7 @@ use std::alloc::Global;
 
 /// The message of a source that is not read: where the reading stops, and where the item begins that is not read. The
 /// one error is want of memory.
-pub fn unread_message(alloc: Global, cut: &CutSource<'_>) -> Result<Message, Memory>
+pub(crate) fn unread_message(alloc: Global, cut: &CutSource<'_>) -> Result<Message, Memory>
     requires { length cut.now.tokens.items ≤ max_file_bytes }
     ensures { IfOk result (SaysUnread (view_cut cut.now)) }
 {
