@@ -10,4 +10,3 @@ mod uri;
 pub use changes::document_edits;
 pub use places::{highlights_of, location_at, locations_of, range_at};
 pub use scene::Scene;
-pub use uri::uri_at;

@@ -28,7 +28,7 @@ fn name_at(sources: &[SourceFile], file: u32) -> &str
 
 /// The URI of the document of the source of a number: of one that the editor holds its own, of another the one that is
 /// written for the file. The one error is want of memory.
-pub fn uri_at(alloc: Global, scene: Scene<'_>, file: u32) -> Result<String, Memory>
+pub(crate) fn uri_at(alloc: Global, scene: Scene<'_>, file: u32) -> Result<String, Memory>
     ensures { IfOk result (λ uri. string_bytes uri ≡ uri_at_of (view_scene scene.entry) file) }
 {
     match document_at(scene, file) {
