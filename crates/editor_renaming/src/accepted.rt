@@ -19,7 +19,7 @@ use text_places::Counting;
 /// # Errors
 ///
 /// `NotText` with a source that changed and is no text in UTF-8. `Memory`.
-pub fn accepted_edits(
+pub(crate) fn accepted_edits(
     alloc: Global,
     counting: Counting,
     files: &Files,

@@ -4,5 +4,4 @@
 mod accepted;
 mod asked;
 
-pub use accepted::accepted_edits;
 pub use asked::{EditorRenaming, name_at, rename_at, target_of};
