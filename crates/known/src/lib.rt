@@ -10,5 +10,5 @@ mod seen;
 
 pub use known::Known;
 pub use outer::Outer;
-pub use seeing::{Seeing, see_file, see_names};
+pub use seeing::{Seeing, see_names};
 pub use seen::Seen;

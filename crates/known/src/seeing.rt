@@ -46,7 +46,7 @@ fn list_unread(alloc: Global, names: Vec<String>) -> Result<Seen, Memory>
 /// # Errors
 ///
 /// `Failed` if the folder failed or has no file of this name, and `Memory`. Then no other file is known than before.
-pub fn see_file<T: Outer>(
+pub(crate) fn see_file<T: Outer>(
     alloc: Global,
     name: &str,
     limit: u32,
