@@ -1,9 +1,9 @@
 -- The length that some lines say, one line after another.
 use Rattle.std.proofs.Common.{◌≡◌, ℕ, suc, ◌+◌, ◌<◌, ◌≤◌, nat_lt, Bool, true, false, not, eqb, cond, ◌&&◌, List, [], ◌∷◌, ◌++◌, length, take, drop}
 use Rattle.std.proofs.Common.{Some, None, sym, refl, ap, ◌∙◌, arith}
-use Rattle.std.specs.Prelude.{Option, flat_map, is_some}
+use Rattle.std.specs.Prelude.{Option, is_some}
 use Rattle.std.specs.Borrow.{Bor}
-use Rattle.std.specs.List.{list_all, position, position_or_len}
+use Rattle.std.specs.List.{position, position_or_len}
 use Rattle.std.proofs.lemmas.List.Sums.{prefix_len-le-length}
 use Rattle.lsp_frames.specs.Lines.{lines_of, onto_first}
 use Rattle.lsp_frames.specs.Header.{are_fields, texts_in, Field, field_of, is_field, is_length_name, length_texts, one_number}
