@@ -83,8 +83,7 @@ fn may_write<T: Tree>(alloc: Global, writes: bool, tree: &mut T) -> Result<bool,
     match gate_open(alloc, tree) {
         Ok(is_open) => Ok(!is_open),
         Err(RecoverError::Read) => Err(TreeError::Failed),
-        Err(RecoverError::Write | RecoverError::BadPlan | RecoverError::Memory) => {
-            Err(TreeError::Memory)
-        }
+        Err(RecoverError::Memory) => Err(TreeError::Memory),
+        Err(RecoverError::Write | RecoverError::BadPlan) => unreachable!(),
     }
 }

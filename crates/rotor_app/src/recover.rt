@@ -27,7 +27,8 @@ pub fn reply_to_recover<T: Tree>(alloc: Global, tree: &mut T) -> Result<Reply, T
         Ok(Some(writes)) => Ok(recovered_reply(alloc, writes)?),
         Err(RecoverError::BadPlan) => Ok(reply_of(alloc, Status::Project, bad_plan_text(alloc)?)),
         Err(RecoverError::Read) => Err(TreeError::Failed),
-        Err(RecoverError::Write | RecoverError::Memory) => Err(TreeError::Memory),
+        Err(RecoverError::Memory) => Err(TreeError::Memory),
+        Err(RecoverError::Write) => unreachable!(),
     }
 }
 
