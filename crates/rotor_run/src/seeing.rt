@@ -20,10 +20,10 @@ const BATCH_LIMIT: u32 = MAX_FILE_BYTES + 1;
 /// The folder with what a command may ask of it. The files that its calls loaded are added to `loaded`: a large file
 /// that is freed before the command runs makes the memory that follows slower. If the folder failed or there was no
 /// memory, the run ends so, with the folder as it was.
-pub(crate) fn see<T: Outer + Drop>(
+pub(crate) fn read_for_command<T: Outer + Drop>(
     alloc: Global,
     command: &Command,
-    tree: T,
+    mut tree: T,
     loaded: &mut Vec<Files>,
 ) -> Result<Known<T>, Ended<T>>
     ensures content { IfOk result (λ known. T.content (known_tree known) ≡ T.content tree) }
@@ -31,7 +31,6 @@ pub(crate) fn see<T: Outer + Drop>(
     ensures stopped { IfErr result (λ ended. IsUnseen ended.status) }
     ensures folder { IfErr result (λ ended. T.content ended.folder ≡ T.content tree) }
 {
-    let mut tree = tree;
     let seen = match see_names(alloc, &mut tree) {
         Ok(seen) => seen,
         Err(error) => return Err(Ended::make_unseen(error, tree)),
@@ -91,22 +90,20 @@ fn see_project<T: Outer + Drop>(
 {
     match load(alloc, seeing) {
         Ok(files) => {
-            keep(files, loaded)?;
+            loaded.push(files)?;
             if asks_gate {
                 return see_gate(alloc, seeing);
             }
             Ok(true)
         }
         Err(LoadError::Read) => Err(TreeError::Failed),
-        Err(_) => Ok(false),
-    }
-}
-
-/// Adds files to those that are kept.
-fn keep(files: Files, loaded: &mut Vec<Files>) -> Result<(), TreeError> {
-    match loaded.push(files) {
-        Ok(()) => Ok(()),
-        Err(_) => Err(TreeError::Memory),
+        Err(
+            LoadError::TooMany { .. }
+            | LoadError::TooLarge { .. }
+            | LoadError::DoubleUnit { .. }
+            | LoadError::BadManifest { .. }
+            | LoadError::Memory,
+        ) => Ok(false),
     }
 }
 
@@ -117,7 +114,8 @@ fn see_gate<T: Outer + Drop>(alloc: Global, seeing: &mut Seeing<T>) -> Result<bo
     match gate_open(alloc, seeing) {
         Ok(is_open) => Ok(!is_open),
         Err(RecoverError::Read) => Err(TreeError::Failed),
-        Err(_) => Ok(false),
+        Err(RecoverError::Memory) => Ok(false),
+        Err(RecoverError::Write | RecoverError::BadPlan) => unreachable!(),
     }
 }
 
@@ -149,11 +147,11 @@ fn see_list<T: Outer + Drop>(
 {
     match load_list(alloc, seeing, list) {
         Ok(files) => {
-            keep(files, loaded)?;
+            loaded.push(files)?;
             Ok(true)
         }
         Err(ListError::Read) => Err(TreeError::Failed),
-        Err(_) => Ok(false),
+        Err(ListError::BadList { .. } | ListError::Load(_)) => Ok(false),
     }
 }
 
@@ -163,6 +161,7 @@ fn see_recovery<T: Outer + Drop>(alloc: Global, seeing: &mut Seeing<T>) -> Resul
 {
     match read_recovery(alloc, seeing) {
         Err(RecoverError::Read) => Err(TreeError::Failed),
-        Ok(_) | Err(_) => Ok(()),
+        Ok(_) | Err(RecoverError::BadPlan | RecoverError::Memory) => Ok(()),
+        Err(RecoverError::Write) => unreachable!(),
     }
 }

@@ -8,7 +8,7 @@ ghost use Rattle.rotor_app.specs.Table.{IsRefusal, TreeStopped};
 ghost use Rattle.rotor_run.specs.Run.{IsRun, IsRunOver};
 
 use crate::ended::Ended;
-use crate::seeing::see;
+use crate::seeing::read_for_command;
 use cli_words::{Command, WordsError, read_words};
 use known::{Known, Outer};
 use rotor_app::{Status, rotor};
@@ -45,7 +45,7 @@ pub fn run_command<T: Outer + Drop, S: Sink>(
     match read_asking(alloc, words) {
         Err(Memory) => Ended::make_unseen(TreeError::Memory, tree),
         Ok(None) => run_alone(alloc, words, tree, out),
-        Ok(Some(command)) => match see(alloc, &command, tree, &mut loaded) {
+        Ok(Some(command)) => match read_for_command(alloc, &command, tree, &mut loaded) {
             Err(ended) => ended,
             Ok(known) => run_known(alloc, words, known, out),
         },
@@ -56,7 +56,7 @@ pub fn run_command<T: Outer + Drop, S: Sink>(
 fn run_known<T: Outer + Drop, S: Sink>(
     alloc: Global,
     words: &[String],
-    known: Known<T>,
+    mut known: Known<T>,
     out: &mut S,
 ) -> Ended<T>
     requires known { known_faults known ≡ 0 }
@@ -66,7 +66,6 @@ fn run_known<T: Outer + Drop, S: Sink>(
     ensures stopped { (result.status ≡ Status.TreeFault) → ForSome (T.content (known_tree known)) (λ files. TreeStopped (command_of (map string_bytes words.now)) files (T.content result.folder)) }
     ensures quiet { (result.status ≡ Status.TreeFault) ⊎ (result.status ≡ Status.Memory) → out.new ≡ out.old }
 {
-    let mut known = known;
     let status = run_over(alloc, words, &mut known, out);
     Ended {
         status,
@@ -89,7 +88,7 @@ fn read_asking(alloc: Global, words: &[String]) -> Result<Option<Command>, Memor
 fn run_alone<T: Outer + Drop, S: Sink>(
     alloc: Global,
     words: &[String],
-    tree: T,
+    mut tree: T,
     out: &mut S,
 ) -> Ended<T>
     requires asks { AsksNothing (command_of (map string_bytes words.now)) }
@@ -98,7 +97,6 @@ fn run_alone<T: Outer + Drop, S: Sink>(
     ensures folder { result.folder ≡ tree }
     ensures quiet { (result.status ≡ Status.TreeFault) ⊎ (result.status ≡ Status.Memory) → out.new ≡ out.old }
 {
-    let mut tree = tree;
     let status = rotor(alloc, words, &mut tree, out);
     Ended {
         status,
