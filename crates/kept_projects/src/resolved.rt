@@ -24,12 +24,7 @@ pub(crate) fn resolved_project(
     ensures kept { IfOk result (λ found. IsKept files.now (view_project found.0) found.1) }
     ensures refused { IfErr result (IsRefusedFor (Rejects files.now)) }
 {
-    let read = match read_rest(alloc, files, known) {
-        Ok(read) => read,
-        Err(why) => return Err(why),
-    };
-    match resolve(alloc, &read.project) {
-        Ok(resolved) => Ok((read.project, resolved)),
-        Err(why) => Err(why),
-    }
+    let read = read_rest(alloc, files, known)?;
+    let resolved = resolve(alloc, &read.project)?;
+    Ok((read.project, resolved))
 }

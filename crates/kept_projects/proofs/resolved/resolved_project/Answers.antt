@@ -1,19 +1,22 @@
 use Rattle.ml_trees.specs.View.{view_project}
-use Rattle.rename_files.proofs.Refusals.{rejects, unread}
+use Rattle.rename_files.specs.Answer.{Rejects}
+use Rattle.rename_project.specs.Steps.{IsRefusedFor}
+use Rattle.rename_project.proofs.Refusals.{stopped}
+use Rattle.rename_files.proofs.Refusals.{rejects}
 use Rattle.kept_projects.proofs.resolved.resolved_project.Goals as goal
 
-pub returns-in-Err-clause-refused : goal.returns-in-Err-clause-refused
-returns-in-Err-clause-refused c = unread c.args.files.now c.in-Err.why c.in-Err.ensures.refused
+pub returns-in_err-resolved-clause-refused : goal.returns-in_err-resolved-clause-refused
+returns-in_err-resolved-clause-refused c =
+    let files = c.args.files.now in
+    let e = c.in_err-resolved.field-0.0 in
+    stopped c.from_residual-in_err-resolved.result e (IsRefusedFor (Rejects files)) c.from_residual-in_err-resolved.ensures
+    (rejects files (view_project c.in_ok-read.read.project) e c.in_ok-read.ensures.project c.in_err-resolved.ensures.refused)
 
-pub returns-in-Ok-resolve-clause-kept : goal.returns-in-Ok-resolve-clause-kept
-returns-in-Ok-resolve-clause-kept c = record {
-  accepts = record { reads = c.in-Ok.ensures.project; none = c.in-Ok-resolve.ensures.passed };
-  sound = c.in-Ok.ensures.sound;
-  light = c.in-Ok-resolve.ensures.light;
-  facts = c.in-Ok-resolve.ensures.facts;
-  top = c.in-Ok-resolve.ensures.top;
+pub returns-clause-kept : goal.returns-clause-kept
+returns-clause-kept c = record {
+  accepts = record { reads = c.in_ok-read.ensures.project; none = c.in_ok-resolved.ensures.passed };
+  sound = c.in_ok-read.ensures.sound;
+  light = c.in_ok-resolved.ensures.light;
+  facts = c.in_ok-resolved.ensures.facts;
+  top = c.in_ok-resolved.ensures.top;
 }
-
-pub returns-in-Err-resolve-clause-refused : goal.returns-in-Err-resolve-clause-refused
-returns-in-Err-resolve-clause-refused c =
-    rejects c.args.files.now (view_project c.in-Ok.read.project) c.in-Err-resolve.why c.in-Ok.ensures.project c.in-Err-resolve.ensures.refused
