@@ -47,20 +47,20 @@ pub fn files_at(
 fn file_at(alloc: Global, files: &[SourceFile], number: u32) -> Result<Option<SourceFile>, Memory>
     ensures { IfOk result (λ found. found ≡ slice_get files.now number) }
 {
-    match files.get(number as usize) {
-        Some(file) => Ok(Some(copy_of(alloc, file)?)),
-        None => Ok(None),
-    }
+    let Some(file) = files.get(number as usize) else {
+        return Ok(None);
+    };
+    Ok(Some(copy_of(alloc, file)?))
 }
 
 /// Adds a file, if there is one.
 fn push_if_some(found: &mut Row<SourceFile>, file: Option<SourceFile>) -> Result<(), Memory>
     ensures { OnOk result (found.new ≡ found.old ++ cons_option file []) }
 {
-    match file {
-        Some(file) => Ok(found.push(file)?),
-        None => Ok(()),
+    if let Some(file) = file {
+        found.push(file)?;
     }
+    Ok(())
 }
 
 /// A copy of a file.
