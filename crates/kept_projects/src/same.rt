@@ -16,15 +16,11 @@ pub(crate) fn are_same(one: &Files, other: &Files) -> bool
 fn are_same_sources(some: &[SourceFile], others: &[SourceFile]) -> bool
     ensures { result ≡ true ↔ some.now ≡ others.now }
 {
-    if some.len() != others.len() {
-        return false;
-    }
-    for i in 0..some.len() {
-        if !is_same_source(&some[i], &others[i]) {
-            return false;
-        }
-    }
-    true
+    some.len() == others.len()
+        && some
+            .iter()
+            .zip(others)
+            .all(|(one, other)| is_same_source(one, other))
 }
 
 /// Whether this is the same source.
