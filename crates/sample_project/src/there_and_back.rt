@@ -90,15 +90,11 @@ fn undo_target(alloc: Global, entries: &[SourceFile], done: &Renamed) -> Result<
 fn are_same(some: &[SourceFile], others: &[SourceFile]) -> bool
     ensures { result ≡ true ↔ some.now ≡ others.now }
 {
-    if some.len() != others.len() {
-        return false;
-    }
-    for i in 0..some.len() {
-        if !is_same(&some[i], &others[i]) {
-            return false;
-        }
-    }
-    true
+    some.len() == others.len()
+        && some
+            .iter()
+            .zip(others)
+            .all(|(one, other)| is_same(one, other))
 }
 
 /// Whether this is the same source.
