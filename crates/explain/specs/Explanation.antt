@@ -6,6 +6,7 @@ use Rattle.messages.specs.Printed.{message_text}
 use Rattle.explain.specs.declared.ending.Ending.{Ending}
 use Rattle.explain.specs.declared.explanation.Explanation.{Explanation}
 
+-- the message, if there is one
 abbrev pub listed : Option Message → List Message
 listed None = []
 listed (Some message) = message ∷ []
@@ -26,6 +27,7 @@ explanation_of_text ending text = record { ending = ending; messages = []; text 
 abbrev pub lines_text : List Message → List ℕ → List ℕ
 lines_text messages behind = flat_map message_text messages ++ behind
 
+-- what is printed: an array of JSON with the places behind the messages; or lines
 abbrev pub explanation_text : Bool → Explanation → List ℕ
 explanation_text true explanation = json_of (explanation.messages ++ explanation.places)
 explanation_text false explanation = lines_text explanation.messages explanation.text

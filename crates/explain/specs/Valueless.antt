@@ -7,5 +7,5 @@ use Rattle.value_at.specs.declared.value.ValueAt.TheVariants as value
 
 -- by the word of the token
 abbrev pub valueless_text : Word → ValueAt → Word
-valueless_text word value.NoValue = codes "no value is here"
+valueless_text word value.NoValue = codes "no value stands here"
 valueless_text word _ = around (codes "`") word (codes "` is no value that this folder declares")

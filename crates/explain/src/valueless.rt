@@ -12,7 +12,7 @@ pub fn valueless_text(alloc: Global, word: &[u8], found: ValueAt) -> Result<Row<
     ensures { IfOk result (λ text. text ≡ valueless_text_of word.now found) }
 {
     match found {
-        ValueAt::NoValue => Ok(Row::from_vec(b"no value is here".to_vec(alloc)?)),
+        ValueAt::NoValue => Ok(Row::from_vec(b"no value stands here".to_vec(alloc)?)),
         ValueAt::Outside | ValueAt::Blurred | ValueAt::Value(_) => join_words(
             alloc,
             &[b"`", word, b"` is no value that this folder declares"],

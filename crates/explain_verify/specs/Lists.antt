@@ -38,7 +38,7 @@ abbrev pub manifest_message : ℕ → Message
 manifest_message line =
     bare kind.BadManifest
     (join (codes "line " ∷ grouped line ∷ codes " of rotor.units names no unit or one of an earlier line, or a unit has no line" ∷ []))
-    (Some (codes "the manifest lists each unit of the folder on one line"))
+    (Some (codes "each unit of the folder stands on one line"))
 
 -- of files that are not taken as a project's
 abbrev pub load_message : LoadError → Option Message

@@ -56,8 +56,6 @@ fn manifest_message(alloc: Global, line: u32) -> Result<Message, Memory>
             b" of rotor.units names no unit or one of an earlier line, or a unit has no line",
         ],
     )?;
-    let help = Row::from_vec(
-        b"the manifest lists each unit of the folder on one line".to_vec(alloc)?,
-    );
+    let help = Row::from_vec(b"each unit of the folder stands on one line".to_vec(alloc)?);
     Ok(make_error(alloc, Kind::BadManifest, text, Some(help)))
 }

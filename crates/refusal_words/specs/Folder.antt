@@ -27,7 +27,7 @@ double_unit first second unit =
 abbrev pub line_message : Spot → Word → Message
 line_message line rest =
     placed kind.BadManifest (around (codes "`") (shown_word_of line.behind) rest) line []
-    (Some (codes "the manifest lists each unit of the folder on one line"))
+    (Some (codes "each unit of the folder stands on one line"))
 
 abbrev pub named_line : Word → ℕ → ℕ → Word → Message
 named_line units start end rest = line_message (spot_of (codes "rotor.units") units start end) rest
@@ -41,4 +41,4 @@ repeated_unit units start end = named_line units start end (codes "` is named by
 abbrev pub missing_unit : Word → Message
 missing_unit unit =
     bare kind.BadManifest (around (codes "rotor.units has no line for the unit `") unit (codes "`"))
-    (Some (codes "the manifest lists each unit of the folder on one line"))
+    (Some (codes "each unit of the folder stands on one line"))

@@ -23,4 +23,4 @@ abbrev pub no_token : Word → ℕ → ℕ → Word
 no_token file token count = join (file ∷ codes " has no token " ∷ grouped token ∷ codes "; it has " ∷ grouped count ∷ [])
 
 abbrev pub no_token_at : Word → ℕ → ℕ → Word
-no_token_at file line column = join (codes "there is no token at " ∷ file ∷ codes ":" ∷ decimal line ∷ codes ":" ∷ decimal column ∷ [])
+no_token_at file line column = join (codes "no token stands at " ∷ file ∷ codes ":" ∷ decimal line ∷ codes ":" ∷ decimal column ∷ [])

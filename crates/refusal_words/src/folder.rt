@@ -8,7 +8,7 @@ use rotor_base::{Memory, Row};
 use std::alloc::Global;
 
 /// What can be done about a line of `rotor.units`.
-const ONE_LINE: &str = "the manifest lists each unit of the folder on one line";
+const ONE_LINE: &str = "each unit of the folder stands on one line";
 
 /// The message of a folder that has so many sources. The one error is want of memory.
 pub fn too_many(alloc: Global, count: u64) -> Result<Message, Memory>

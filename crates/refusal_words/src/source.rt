@@ -47,8 +47,10 @@ fn lex_text(fault: LexFault) -> &'static str
         LexFault::Attribute => "this attribute does not end",
         LexFault::String => "this string does not end",
         LexFault::QuotedString => "this quoted string does not end",
-        LexFault::ByteOrderMark => "this is a byte order mark; save the file without it",
-        LexFault::OutsideAscii => { "this character is outside ASCII; names are written in ASCII" }
+        LexFault::ByteOrderMark => "a byte order mark stands here; save the file without it",
+        LexFault::OutsideAscii => {
+            "a character outside ASCII stands here; names are written in ASCII"
+        }
         LexFault::Number => "a letter, digit or quote follows this number directly",
         LexFault::Label => "this label's name is a keyword or `_`",
         LexFault::Quote => "this quote begins neither a character nor a type variable",

@@ -77,7 +77,7 @@ pub fn no_token_at(alloc: Global, file: &[u8], line: u32, column: u32) -> Result
     join_words(
         alloc,
         &[
-            b"there is no token at ",
+            b"no token stands at ",
             file,
             b":",
             line.as_slice(),
