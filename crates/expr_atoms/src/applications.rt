@@ -19,7 +19,7 @@ use ml_trees::{Argument, Expr, Fixed, Part};
 use rotor_base::Class;
 use std::alloc::Global;
 use token_reading::{
-    Kind, ReadError, TokenTable, expect, kind_at, lower_word, number, qualifiers, take_path,
+    Kind, ReadError, TokenTable, boxed, expect, kind_at, lower_word, number, qualifiers, take_path,
     take_word, text, word,
 };
 
@@ -63,7 +63,7 @@ impl<
                 let (path, at) = qualifiers(self.grammar.alloc, tokens, self.grammar.depth, at)?;
                 let (label, at) = lower_word(self.grammar.alloc, tokens, at)?;
                 let part = Part::Select { path, label };
-                Ok((Box::new(self.grammar.alloc, part)?, at))
+                Ok((boxed(self.grammar.alloc, part)?, at))
             }
         }
     }
@@ -271,7 +271,7 @@ impl<
         let (argument, after) = self.postfix(tokens, at + 1)?;
         let at = number(at);
         Ok((
-            Box::new(self.grammar.alloc, Expr::Assert { at, argument })?,
+            boxed(self.grammar.alloc, Expr::Assert { at, argument })?,
             after,
         ))
     }
@@ -292,7 +292,7 @@ impl<
         let (argument, after) = self.postfix(tokens, at + 1)?;
         let at = number(at);
         Ok((
-            Box::new(self.grammar.alloc, Expr::Lazy { at, argument })?,
+            boxed(self.grammar.alloc, Expr::Lazy { at, argument })?,
             after,
         ))
     }
@@ -312,11 +312,11 @@ fn with_argument(
     match &mut *head {
         Expr::Constr(path) => {
             let path = take_path(alloc, path);
-            Ok(Box::new(alloc, Expr::ConstrApply { path, argument })?)
+            boxed(alloc, Expr::ConstrApply { path, argument })
         }
         Expr::Tag(tag) => {
             let tag = take_word(tag);
-            Ok(Box::new(alloc, Expr::TagApply { tag, argument })?)
+            boxed(alloc, Expr::TagApply { tag, argument })
         }
         _ => Ok(head),
     }
@@ -329,7 +329,7 @@ fn index_part(alloc: Global, paren: u32, index: Box<Expr>) -> Result<Box<Part>, 
     ensures { Gives (λ p. view_part p.value) result (Some (pure.IndexPart paren (view index.value))) }
 {
     let index = Box::into_inner(index);
-    Ok(Box::new(alloc, Part::Index { open: paren, index })?)
+    boxed(alloc, Part::Index { open: paren, index })
 }
 
 /// An expression in brackets behind a `.`.
@@ -339,5 +339,5 @@ fn char_part(alloc: Global, paren: u32, index: Box<Expr>) -> Result<Box<Part>, R
     ensures { Gives (λ p. view_part p.value) result (Some (pure.CharPart paren (view index.value))) }
 {
     let index = Box::into_inner(index);
-    Ok(Box::new(alloc, Part::CharIndex { open: paren, index })?)
+    boxed(alloc, Part::CharIndex { open: paren, index })
 }

@@ -20,7 +20,7 @@ use expr_reading::Wanted;
 use ml_trees::{Bracket, Expr, Fixed, Path, ValueName};
 use rotor_base::Class;
 use std::alloc::Global;
-use token_reading::{Kind, ReadError, TokenTable, expect, kind_at, number, take_name, word};
+use token_reading::{Kind, ReadError, TokenTable, boxed, expect, kind_at, number, take_name, word};
 
 impl<
     F: Copy
@@ -86,7 +86,7 @@ impl<
         let (path, at) = path_from(self.grammar.alloc, tokens, self.grammar.depth, at)?;
         match self.read_behind_dot(tokens, at) {
             Ok((inner, after)) => qualify(self.grammar.alloc, tokens, path, at, inner, after),
-            Err(ReadError::Syntax) => Ok((Box::new(self.grammar.alloc, Expr::Constr(path))?, at)),
+            Err(ReadError::Syntax) => Ok((boxed(self.grammar.alloc, Expr::Constr(path))?, at)),
             Err(ReadError::Memory) => Err(ReadError::Memory),
         }
     }
@@ -137,7 +137,7 @@ impl<
         let operator = word(self.grammar.alloc, tokens, Class::Prefix, at)?;
         let (operand, after) = self.grammar.sub(tokens, Wanted::Prefixed, at + 1)?;
         Ok((
-            Box::new(self.grammar.alloc, Expr::Prefixed { operator, operand })?,
+            boxed(self.grammar.alloc, Expr::Prefixed { operator, operand })?,
             after,
         ))
     }
@@ -176,7 +176,7 @@ fn boolean(
 {
     let after = at + 1;
     let at = number(at);
-    Ok((Box::new(alloc, Expr::Bool { at, value })?, after))
+    Ok((boxed(alloc, Expr::Bool { at, value })?, after))
 }
 
 /// The number, character or text at a place.
@@ -193,7 +193,7 @@ fn literal(
     ensures { Gives {A = pure.Expr × List Tok} (λ x. (view x.0.value, from tokens.now x.1)) result (Some (pure.Literal class (name_at tokens.now at), from tokens.now (at + 1))) }
 {
     let literal = Expr::Literal(word(alloc, tokens, class, at)?);
-    Ok((Box::new(alloc, literal)?, at + 1))
+    Ok((boxed(alloc, literal)?, at + 1))
 }
 
 /// The tag at a place.
@@ -205,7 +205,7 @@ fn tag(alloc: Global, tokens: &TokenTable<'_>, at: usize) -> Result<(Box<Expr>, 
     ensures { Gives {A = pure.Expr × List Tok} (λ x. (view x.0.value, from tokens.now x.1)) result (Some (pure.Tag (name_at tokens.now at), from tokens.now (at + 1))) }
 {
     let tag = Expr::Tag(word(alloc, tokens, Class::Tag, at)?);
-    Ok((Box::new(alloc, tag)?, at + 1))
+    Ok((boxed(alloc, tag)?, at + 1))
 }
 
 /// The name of a value.
@@ -218,7 +218,7 @@ fn value(alloc: Global, tokens: &TokenTable<'_>, at: usize) -> Result<(Box<Expr>
 {
     let path = Vec::new(alloc);
     let name = ValueName::Lower(word(alloc, tokens, Class::Lower, at)?);
-    Ok((Box::new(alloc, Expr::Value { path, name })?, at + 1))
+    Ok((boxed(alloc, Expr::Value { path, name })?, at + 1))
 }
 
 /// A module path, a `.` and the expression behind it, if that may follow them; else the path, as a constructor.
@@ -242,14 +242,14 @@ fn qualify(
                 let name = take_name(name);
                 return Ok((value_of(alloc, path, name)?, after));
             }
-            Ok((Box::new(alloc, Expr::Constr(path))?, at))
+            Ok((boxed(alloc, Expr::Constr(path))?, at))
         }
         _ => {
             if !is_bracketed(&inner) {
-                return Ok((Box::new(alloc, Expr::Constr(path))?, at));
+                return Ok((boxed(alloc, Expr::Constr(path))?, at));
             }
             let body = inner;
-            Ok((Box::new(alloc, Expr::Opened { path, body })?, after))
+            Ok((boxed(alloc, Expr::Opened { path, body })?, after))
         }
     }
 }
@@ -261,7 +261,7 @@ fn value_of(alloc: Global, path: Path, name: ValueName) -> Result<Box<Expr>, Rea
     ensures { Gives (λ e. view e.value) result (Some (pure.Value (view_path path) (view_name name))) }
 {
     let path = path.words;
-    Ok(Box::new(alloc, Expr::Value { path, name })?)
+    boxed(alloc, Expr::Value { path, name })
 }
 
 /// Whether the expression may follow a module path and a `.`.

@@ -19,7 +19,7 @@ use expr_parts::{
 use expr_reading::Wanted;
 use ml_trees::{Bracket, Expr, Fixed, ValueName};
 use std::alloc::Global;
-use token_reading::{ReadError, TokenTable, expect, expect_at, has_fixed, number, operator};
+use token_reading::{ReadError, TokenTable, boxed, expect, expect_at, has_fixed, number, operator};
 
 impl<
     F: Copy
@@ -117,7 +117,7 @@ impl<
         let ((rest, last), at) = self.rest_of_items(tokens, &first, at)?;
         let at = expect(tokens, find_closing(bracket), at)?;
         Ok((
-            Box::new(
+            boxed(
                 self.grammar.alloc,
                 Expr::List {
                     at: number(start),
@@ -147,7 +147,7 @@ impl<
     {
         if has_fixed(tokens, find_closing(bracket), at + 1) {
             return Ok((
-                Box::new(
+                boxed(
                     self.grammar.alloc,
                     Expr::Empty {
                         at: number(at),
@@ -191,7 +191,7 @@ impl<
     {
         if has_fixed(tokens, Fixed::RightParen, at + 1) {
             return Ok((
-                Box::new(self.grammar.alloc, Expr::Unit { at: number(at) })?,
+                boxed(self.grammar.alloc, Expr::Unit { at: number(at) })?,
                 at + 2,
             ));
         }
@@ -217,14 +217,14 @@ impl<
     {
         if has_fixed(tokens, Fixed::End, at + 1) {
             return Ok((
-                Box::new(self.grammar.alloc, Expr::EmptyBegin { at: number(at) })?,
+                boxed(self.grammar.alloc, Expr::EmptyBegin { at: number(at) })?,
                 at + 2,
             ));
         }
         let (body, after) = self.grammar.sub(tokens, Wanted::Sequence, at + 1)?;
         let after = expect(tokens, Fixed::End, after)?;
         Ok((
-            Box::new(
+            boxed(
                 self.grammar.alloc,
                 Expr::Begin {
                     at: number(at),
@@ -277,7 +277,7 @@ impl<
         let (body, after) = self.grammar.sub(tokens, Wanted::Sequence, after)?;
         let after = expect(tokens, Fixed::Done, after)?;
         Ok((
-            Box::new(
+            boxed(
                 self.grammar.alloc,
                 Expr::For {
                     at: number(at),
@@ -301,7 +301,7 @@ fn operator_value(alloc: Global, name: ValueName) -> Result<Box<Expr>, ReadError
     ensures { Gives (λ e. view e.value) result (Some (pure.Value [] (view_name name))) }
 {
     let path = Vec::new(alloc);
-    Ok(Box::new(alloc, Expr::Value { path, name })?)
+    boxed(alloc, Expr::Value { path, name })
 }
 
 /// A `while` with its condition and its body.
@@ -315,5 +315,5 @@ fn while_do(
 ) -> Result<Box<Expr>, ReadError>
     ensures { Gives (λ e. view e.value) result (Some (pure.While at (view test.value) (view body.value))) }
 {
-    Ok(Box::new(alloc, Expr::While { at, test, body })?)
+    boxed(alloc, Expr::While { at, test, body })
 }

@@ -17,7 +17,9 @@ use expr_parts::{ends_field, fields_end, push_boxed, semicolon_if};
 use expr_reading::Wanted;
 use ml_trees::{Expr, Field, Fixed, Run, Word};
 use std::alloc::Global;
-use token_reading::{ReadError, TokenTable, expect, lower_word, number, optional_type, qualifiers};
+use token_reading::{
+    ReadError, TokenTable, boxed, expect, lower_word, number, optional_type, qualifiers,
+};
 
 impl<
     F: Copy
@@ -194,7 +196,7 @@ fn make_assigned(
     ensures { Gives (λ f. view_field f.value) result (Some (pure.AssignedField (view_words path.items) (view_word label) (view_type run) equals (view value.value))) }
 {
     let value = Box::into_inner(value);
-    Ok(Box::new(
+    boxed(
         alloc,
         Field::Assigned {
             path,
@@ -203,7 +205,7 @@ fn make_assigned(
             equals,
             value,
         },
-    )?)
+    )
 }
 
 /// A field without a value.
@@ -217,7 +219,7 @@ fn field_pun(
 ) -> Result<Box<Field>, ReadError>
     ensures { Gives (λ f. view_field f.value) result (Some (pure.FieldPun (view_words path.items) (view_word label) (view_type run))) }
 {
-    Ok(Box::new(alloc, Field::FieldPun { path, label, run })?)
+    boxed(alloc, Field::FieldPun { path, label, run })
 }
 
 /// A record.
@@ -233,7 +235,7 @@ fn record_of(
 ) -> Result<Box<Expr>, ReadError>
     ensures { Gives (λ e. view e.value) result (Some (pure.Record at (maybe base) (view_field first.value) (fields rest.items) last)) }
 {
-    Ok(Box::new(
+    boxed(
         alloc,
         Expr::Record {
             at,
@@ -242,5 +244,5 @@ fn record_of(
             rest,
             last,
         },
-    )?)
+    )
 }

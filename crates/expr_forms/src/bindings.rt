@@ -15,7 +15,7 @@ use expr_parts::push_boxed;
 use expr_reading::Wanted;
 use ml_trees::{Binding, Expr, Fixed, Param, Pat, Run, ValueName};
 use std::alloc::Global;
-use token_reading::{ReadError, TokenTable, expect, expect_at, optional_type, value_name};
+use token_reading::{ReadError, TokenTable, boxed, expect, expect_at, optional_type, value_name};
 
 impl<
     F: Copy
@@ -184,7 +184,7 @@ fn make_plain(
 {
     let pat = Box::into_inner(pat);
     let value = Box::into_inner(value);
-    Ok(Box::new(
+    boxed(
         alloc,
         Binding::Plain {
             pat,
@@ -192,7 +192,7 @@ fn make_plain(
             equals,
             value,
         },
-    )?)
+    )
 }
 
 /// A name with parameters and what it is bound to.
@@ -209,7 +209,7 @@ fn make_named(
     ensures { Gives (λ b. view_binding b.value) result (Some (pure.AppliedBinding (view_name name) (params given.items) (view_type run) equals (view value.value))) }
 {
     let value = Box::into_inner(value);
-    Ok(Box::new(
+    boxed(
         alloc,
         Binding::Applied {
             name,
@@ -218,5 +218,5 @@ fn make_named(
             equals,
             value,
         },
-    )?)
+    )
 }

@@ -15,7 +15,7 @@ use expr_parts::{Edge, on_edge};
 use expr_reading::Wanted;
 use ml_trees::{Branch, Expr, Fixed};
 use std::alloc::Global;
-use token_reading::{ReadError, TokenTable, expect, has_fixed, number};
+use token_reading::{ReadError, TokenTable, boxed, expect, has_fixed, number};
 
 /// What follows an `else`.
 #[derive(Drop)]
@@ -148,7 +148,7 @@ impl<
         let ((test, then), after) = self.then_branch(tokens, at + 1)?;
         let ((more, otherwise), after) = self.rest_branches(tokens, &then, after)?;
         Ok((
-            Box::new(
+            boxed(
                 self.grammar.alloc,
                 Expr::If {
                     at: number(at),

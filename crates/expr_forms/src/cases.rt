@@ -16,7 +16,7 @@ use expr_parts::{Edge, first_bar, on_edge, push_boxed};
 use expr_reading::Wanted;
 use ml_trees::{Case, Expr, Fixed, Pat};
 use std::alloc::Global;
-use token_reading::{Kind, ReadError, TokenTable, expect, kind_at, number};
+use token_reading::{Kind, ReadError, TokenTable, boxed, expect, kind_at, number};
 
 impl<
     F: Copy
@@ -161,7 +161,7 @@ impl<
     {
         let ((bar, first, rest), after) = self.all_cases(tokens, at + 1)?;
         Ok((
-            Box::new(
+            boxed(
                 self.grammar.alloc,
                 Expr::Function {
                     at: number(at),
@@ -191,7 +191,7 @@ impl<
         let after = expect(tokens, Fixed::With, after)?;
         let ((bar, first, rest), after) = self.all_cases(tokens, after)?;
         Ok((
-            Box::new(
+            boxed(
                 self.grammar.alloc,
                 Expr::Match {
                     at: number(at),
@@ -222,7 +222,7 @@ impl<
         let after = expect(tokens, Fixed::With, after)?;
         let ((bar, first, rest), after) = self.all_cases(tokens, after)?;
         Ok((
-            Box::new(
+            boxed(
                 self.grammar.alloc,
                 Expr::Try {
                     at: number(at),
@@ -249,7 +249,7 @@ fn case_of(
 {
     let pat = Box::into_inner(pat);
     let body = Box::into_inner(body);
-    Ok(Box::new(alloc, Case { pat, guard, body })?)
+    boxed(alloc, Case { pat, guard, body })
 }
 
 /// Whether a further case may follow.

@@ -15,7 +15,7 @@ use expr_parts::{bang, local_module, path, upper_word};
 use expr_reading::Wanted;
 use ml_trees::{Expr, Fixed, Param, Word};
 use std::alloc::Global;
-use token_reading::{Kind, ReadError, TokenTable, expect, kind_at, number};
+use token_reading::{Kind, ReadError, TokenTable, boxed, expect, kind_at, number};
 
 impl<
     F: Copy
@@ -54,7 +54,7 @@ impl<
             rest,
             body,
         };
-        Ok((Box::new(self.grammar.alloc, whole)?, at))
+        Ok((boxed(self.grammar.alloc, whole)?, at))
     }
 
     /// After the `let open` at `start`. The errors are `Syntax` and `Memory`.
@@ -76,7 +76,7 @@ impl<
         let at = expect(tokens, Fixed::In, at)?;
         let (body, at) = self.grammar.sub(tokens, Wanted::Sequence, at)?;
         Ok((
-            Box::new(
+            boxed(
                 self.grammar.alloc,
                 Expr::LetOpen {
                     at: number(start),
@@ -125,7 +125,7 @@ impl<
             value,
             body,
         };
-        Ok((Box::new(self.grammar.alloc, whole)?, at))
+        Ok((boxed(self.grammar.alloc, whole)?, at))
     }
 
     /// After the name of a module that is bound at `start`.
@@ -213,7 +213,7 @@ impl<
             params: given,
             body,
         };
-        Ok((Box::new(self.grammar.alloc, whole)?, at))
+        Ok((boxed(self.grammar.alloc, whole)?, at))
     }
 
     /// After the `fun` at a place. The errors are `Syntax` and `Memory`.

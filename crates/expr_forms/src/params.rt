@@ -22,7 +22,7 @@ use pattern_reading::{pattern, simple_pattern};
 use rotor_base::Class;
 use std::alloc::Global;
 use token_reading::{
-    Kind, ReadError, TokenTable, expect, expect_at, has_fixed, kind_at, lower_word, number,
+    Kind, ReadError, TokenTable, boxed, expect, expect_at, has_fixed, kind_at, lower_word, number,
     optional_type, text, word,
 };
 
@@ -63,7 +63,7 @@ impl<
         ensures { Gives (λ x. (view_pat x.0.value, from tokens.now x.1)) result (read_pat self.now.grammar.depth (from tokens.now at)) }
     {
         let (pat, at) = self.pattern(tokens, at)?;
-        Ok((Box::new(self.grammar.alloc, pat)?, at))
+        Ok((boxed(self.grammar.alloc, pat)?, at))
     }
 
     /// A Simple pattern. The errors are `Syntax` and `Memory`.
@@ -83,7 +83,7 @@ impl<
             self.grammar.levels / 2,
             at,
         )?;
-        Ok((Box::new(self.grammar.alloc, pat)?, at))
+        Ok((boxed(self.grammar.alloc, pat)?, at))
     }
 
     /// After the pattern of a default value and its type.
@@ -146,7 +146,7 @@ impl<
     {
         let label = word(self.grammar.alloc, tokens, Class::Label, at)?;
         if !has_colon(text(tokens, at)) {
-            return Ok((Box::new(self.grammar.alloc, Param::Label(label))?, at + 1));
+            return Ok((boxed(self.grammar.alloc, Param::Label(label))?, at + 1));
         }
         match self.read_simple(tokens, at + 1) {
             Ok((pat, after)) => Ok((with_label(self.grammar.alloc, label, pat)?, after)),
@@ -310,7 +310,7 @@ impl<
     {
         let (names, after) = self.more_types(tokens, at + 2)?;
         let (param, after) = self.types_end(tokens, at, names, after)?;
-        Ok((Box::new(self.grammar.alloc, param)?, after))
+        Ok((boxed(self.grammar.alloc, param)?, after))
     }
 
     /// A parameter. The errors are `Syntax` and `Memory`.
@@ -376,7 +376,7 @@ impl<
 fn pattern_param(alloc: Global, pat: Box<Pat>) -> Result<Box<Param>, ReadError>
     ensures { Gives (λ p. view_param p.value) result (Some (pure.PatternParam (view_pat pat.value))) }
 {
-    Ok(Box::new(alloc, Param::Pattern(Box::into_inner(pat)))?)
+    boxed(alloc, Param::Pattern(Box::into_inner(pat)))
 }
 
 /// A label and a pattern.
@@ -386,7 +386,7 @@ fn with_label(alloc: Global, label: Word, pat: Box<Pat>) -> Result<Box<Param>, R
     ensures { Gives (λ p. view_param p.value) result (Some (pure.LabelPattern (view_word label) (view_pat pat.value))) }
 {
     let pat = Box::into_inner(pat);
-    Ok(Box::new(alloc, Param::LabelPattern { label, pat })?)
+    boxed(alloc, Param::LabelPattern { label, pat })
 }
 
 /// A label, a pattern, its type or none, and a default value.
@@ -405,7 +405,7 @@ fn with_default(
 {
     let pat = Box::into_inner(pat);
     let value = Box::into_inner(value);
-    Ok(Box::new(
+    boxed(
         alloc,
         Param::Default {
             label,
@@ -415,7 +415,7 @@ fn with_default(
             equals,
             value,
         },
-    )?)
+    )
 }
 
 /// A label in parentheses, and its type or none.
@@ -431,7 +431,7 @@ fn make_wrapped(
 ) -> Result<Box<Param>, ReadError>
     ensures { Gives (λ p. view_param p.value) result (Some (pure.WrappedParam at optional paren (view_word name) (view_type run))) }
 {
-    Ok(Box::new(
+    boxed(
         alloc,
         Param::Wrapped {
             at,
@@ -440,7 +440,7 @@ fn make_wrapped(
             name,
             run,
         },
-    )?)
+    )
 }
 
 /// The same with a default value.
@@ -458,7 +458,7 @@ fn make_wrapped_default(
     ensures { Gives (λ p. view_param p.value) result (Some (pure.WrappedDefault at paren (view_word name) (view_type run) equals (view value.value))) }
 {
     let value = Box::into_inner(value);
-    Ok(Box::new(
+    boxed(
         alloc,
         Param::WrappedDefault {
             at,
@@ -468,5 +468,5 @@ fn make_wrapped_default(
             equals,
             value,
         },
-    )?)
+    )
 }

@@ -9,7 +9,7 @@ ghost use Rattle.token_reading.specs.declared.error.ReadError.TheVariants as unr
 
 use ml_trees::{Argument, Expr, Part, Word};
 use std::alloc::Global;
-use token_reading::ReadError;
+use token_reading::{ReadError, boxed};
 
 /// Adds to a row what a box holds. `Memory` is the only error.
 #[inline(never)]
@@ -35,7 +35,7 @@ pub fn grown_seq(
     if !last && rest.len() == 0 {
         return Ok(first);
     }
-    Ok(Box::new(alloc, Expr::Seq { first, rest, last })?)
+    boxed(alloc, Expr::Seq { first, rest, last })
 }
 
 /// Operands between `:=` or `<-`. `Memory` is the only error.
@@ -51,7 +51,7 @@ pub fn grown_assign(
     if rest.len() == 0 {
         return Ok(first);
     }
-    Ok(Box::new(alloc, Expr::Assign { first, rest })?)
+    boxed(alloc, Expr::Assign { first, rest })
 }
 
 /// Operands between `,`. `Memory` is the only error.
@@ -63,7 +63,7 @@ pub fn grown_tuple(alloc: Global, first: Box<Expr>, rest: Vec<Expr>) -> Result<B
     if rest.len() == 0 {
         return Ok(first);
     }
-    Ok(Box::new(alloc, Expr::Tuple { first, rest })?)
+    boxed(alloc, Expr::Tuple { first, rest })
 }
 
 /// Operands between operators of one level. `Memory` is the only error.
@@ -80,7 +80,7 @@ pub fn grown_chain(
     if rest.len() == 0 {
         return Ok(first);
     }
-    Ok(Box::new(alloc, Expr::Chain { level, first, rest })?)
+    boxed(alloc, Expr::Chain { level, first, rest })
 }
 
 /// A function and its arguments. `Memory` is the only error.
@@ -96,13 +96,13 @@ pub fn grown_apply(
     if rest.len() == 0 {
         return Ok(first);
     }
-    Ok(Box::new(
+    boxed(
         alloc,
         Expr::Apply {
             function: first,
             arguments: rest,
         },
-    )?)
+    )
 }
 
 /// An expression and the parts behind it. `Memory` is the only error.
@@ -118,11 +118,11 @@ pub fn grown_postfix(
     if rest.len() == 0 {
         return Ok(first);
     }
-    Ok(Box::new(
+    boxed(
         alloc,
         Expr::Postfix {
             base: first,
             parts: rest,
         },
-    )?)
+    )
 }

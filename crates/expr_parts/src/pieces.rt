@@ -17,7 +17,7 @@ use ml_trees::{Bracket, Expr, Fixed, Path, Run, Variable, Word};
 use rotor_base::Class;
 use std::alloc::Global;
 use token_reading::{
-    Kind, ReadError, TokenTable, expect, kind_at, more_uppers, number, text, type_run, word,
+    Kind, ReadError, TokenTable, boxed, expect, kind_at, more_uppers, number, text, type_run, word,
 };
 
 /// A last `;`, if it may follow, and the place after it.
@@ -170,7 +170,7 @@ pub fn read_typed(
 {
     match kind_at(tokens, at) {
         Kind::Fixed(Fixed::RightParen) => Ok((
-            Box::new(
+            boxed(
                 alloc,
                 Expr::Typed {
                     at: number(paren),
@@ -184,7 +184,7 @@ pub fn read_typed(
             let (to, at) = type_run(alloc, tokens, at + 1)?;
             let at = expect(tokens, Fixed::RightParen, at)?;
             Ok((
-                Box::new(
+                boxed(
                     alloc,
                     Expr::Coerced {
                         at: number(paren),
@@ -217,7 +217,7 @@ pub fn read_closed(
 {
     match kind_at(tokens, at) {
         Kind::Fixed(Fixed::RightParen) => Ok((
-            Box::new(
+            boxed(
                 alloc,
                 Expr::Paren {
                     at: number(paren),
@@ -234,7 +234,7 @@ pub fn read_closed(
             let (to, at) = type_run(alloc, tokens, at + 1)?;
             let at = expect(tokens, Fixed::RightParen, at)?;
             Ok((
-                Box::new(
+                boxed(
                     alloc,
                     Expr::Coerced {
                         at: number(paren),

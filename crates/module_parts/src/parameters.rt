@@ -13,7 +13,7 @@ use crate::modules::Modules;
 use crate::names::module_name;
 use ml_trees::{Fixed, FunctorParam, ModExpr, ModType};
 use std::alloc::Global;
-use token_reading::{Kind, ReadError, TokenTable, expect, has_fixed, kind_at, number};
+use token_reading::{Kind, ReadError, TokenTable, boxed, expect, has_fixed, kind_at, number};
 
 impl<
     F: Copy
@@ -115,7 +115,7 @@ impl<
         match kind_at(tokens, at) {
             Kind::Fixed(Fixed::Colon) => {
                 let (signature, at) = self.sub_type(tokens, at + 1)?;
-                Ok((Some(Box::new(self.alloc, signature)?), at))
+                Ok((Some(boxed(self.alloc, signature)?), at))
             }
             _ => Ok((None, at)),
         }

@@ -27,7 +27,7 @@ use ml_trees::{Expr, Fixed, Word};
 use rotor_base::Class;
 use std::alloc::Global;
 use token_reading::{
-    Kind, ReadError, TokenTable, expect, is_minus, kind_at, lacks_in, text, token_word, word,
+    Kind, ReadError, TokenTable, boxed, expect, is_minus, kind_at, lacks_in, text, token_word, word,
 };
 
 impl<
@@ -57,7 +57,7 @@ impl<
         let sign = word(self.grammar.alloc, tokens, Class::Infix, at)?;
         let (operand, after) = self.grammar.sub(tokens, Wanted::Operand, at + 1)?;
         Ok((
-            Box::new(self.grammar.alloc, Expr::Minus { sign, operand })?,
+            boxed(self.grammar.alloc, Expr::Minus { sign, operand })?,
             after,
         ))
     }

@@ -14,7 +14,7 @@ use expr_parts::path;
 use ml_trees::{Fixed, FunctorParam, ModArgument, ModExpr, ModType};
 use rotor_base::Class;
 use std::alloc::Global;
-use token_reading::{Kind, ReadError, TokenTable, expect, has_fixed, kind_at, number};
+use token_reading::{Kind, ReadError, TokenTable, boxed, expect, has_fixed, kind_at, number};
 
 /// A module and what is given to it, if anything is.
 #[tactic(auto, using(crate::proofs::Rows::applications, ml_trees::proofs::Variants::mod_expr_views))]
@@ -29,7 +29,7 @@ fn make_application(
     if arguments.len() == 0 {
         return Ok(function);
     }
-    let function = Box::new(alloc, function)?;
+    let function = boxed(alloc, function)?;
     Ok(ModExpr::Apply {
         function,
         arguments,
@@ -60,15 +60,15 @@ impl<
     {
         match kind_at(tokens, at) {
             Kind::Fixed(Fixed::RightParen) => {
-                let body = Box::new(self.parts.alloc, body)?;
+                let body = boxed(self.parts.alloc, body)?;
                 let start = number(start);
                 Ok((ModExpr::Paren { at: start, body }, at + 1))
             }
             Kind::Fixed(Fixed::Colon) => {
                 let (signature, at) = self.parts.sub_type(tokens, at + 1)?;
                 let at = expect(tokens, Fixed::RightParen, at)?;
-                let body = Box::new(self.parts.alloc, body)?;
-                let signature = Box::new(self.parts.alloc, signature)?;
+                let body = boxed(self.parts.alloc, body)?;
+                let signature = boxed(self.parts.alloc, signature)?;
                 let sealed = ModExpr::Sealed {
                     at: number(start),
                     body,
@@ -238,7 +238,7 @@ impl<
         }
         let at = expect(tokens, Fixed::Arrow, at)?;
         let (body, at) = self.parts.sub_module(tokens, at)?;
-        let body = Box::new(self.parts.alloc, body)?;
+        let body = boxed(self.parts.alloc, body)?;
         let start = number(start);
         Ok((
             ModExpr::Functor {

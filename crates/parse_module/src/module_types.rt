@@ -19,7 +19,7 @@ use ml_trees::{Fixed, FunctorParam, ModExpr, ModType, WithClause};
 use module_parts::{Domain, Step, with_clauses};
 use rotor_base::Class;
 use std::alloc::Global;
-use token_reading::{Kind, ReadError, TokenTable, expect, has_fixed, kind_at, number};
+use token_reading::{Kind, ReadError, TokenTable, boxed, expect, has_fixed, kind_at, number};
 
 impl<
     F: Copy
@@ -44,7 +44,7 @@ impl<
     {
         let at = expect(tokens, Fixed::Of, at)?;
         let (module, at) = self.application(tokens, at)?;
-        let module = Box::new(self.parts.alloc, module)?;
+        let module = boxed(self.parts.alloc, module)?;
         let start = number(start);
         Ok((ModType::TypeOf { at: start, module }, at))
     }
@@ -93,7 +93,7 @@ impl<
             Kind::Fixed(Fixed::LeftParen) => {
                 let (body, after) = self.parts.sub_type(tokens, at + 1)?;
                 let after = expect(tokens, Fixed::RightParen, after)?;
-                let body = Box::new(self.parts.alloc, body)?;
+                let body = boxed(self.parts.alloc, body)?;
                 let at = number(at);
                 Ok((ModType::TypeParen { at, body }, after))
             }
@@ -116,7 +116,7 @@ impl<
         ensures { Steps self.now.parts.depth tokens.now result (Some (p.with_or self.now.parts.depth (v.view_mod_type body) (from tokens.now at) (map v.view_with clauses.items, from tokens.now after))) }
     {
         if clauses.len() > 0 {
-            let body = Box::new(self.parts.alloc, body)?;
+            let body = boxed(self.parts.alloc, body)?;
             return Ok((Step::Whole(ModType::With { body, clauses }), after));
         }
         if has_fixed(tokens, Fixed::Arrow, at) {

@@ -7,7 +7,7 @@ ghost use Rattle.token_reading.specs.Gives.{Gives};
 
 use ml_trees::{Pat, ValueName};
 use std::alloc::Global;
-use token_reading::ReadError;
+use token_reading::{ReadError, boxed};
 
 /// A pattern and the names behind it, as one pattern. `Memory` is the only error.
 #[tactic(auto, using(crate::proofs::Lone::grown, ml_trees::proofs::Variants::pat_views))]
@@ -18,7 +18,7 @@ pub fn grown_as(alloc: Global, first: Pat, names: Vec<ValueName>) -> Result<Pat,
     if names.len() == 0 {
         return Ok(first);
     }
-    let pat = Box::new(alloc, first)?;
+    let pat = boxed(alloc, first)?;
     Ok(Pat::As { pat, names })
 }
 
@@ -31,7 +31,7 @@ pub fn grown_or(alloc: Global, first: Pat, rest: Vec<Pat>) -> Result<Pat, ReadEr
     if rest.len() == 0 {
         return Ok(first);
     }
-    let first = Box::new(alloc, first)?;
+    let first = boxed(alloc, first)?;
     Ok(Pat::Or { first, rest })
 }
 
@@ -44,7 +44,7 @@ pub fn grown_tuple(alloc: Global, first: Pat, rest: Vec<Pat>) -> Result<Pat, Rea
     if rest.len() == 0 {
         return Ok(first);
     }
-    let first = Box::new(alloc, first)?;
+    let first = boxed(alloc, first)?;
     Ok(Pat::Tuple { first, rest })
 }
 
@@ -57,6 +57,6 @@ pub fn grown_cons(alloc: Global, first: Pat, rest: Vec<Pat>) -> Result<Pat, Read
     if rest.len() == 0 {
         return Ok(first);
     }
-    let first = Box::new(alloc, first)?;
+    let first = boxed(alloc, first)?;
     Ok(Pat::Cons { first, rest })
 }

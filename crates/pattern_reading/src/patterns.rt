@@ -27,9 +27,9 @@ use ml_trees::{Bracket, Fixed, Pat, PatField, Path, ValueName, Word};
 use rotor_base::Class;
 use std::alloc::Global;
 use token_reading::{
-    Kind, ReadError, TokenTable, expect, expect_at, has_fixed, is_minus, kind_at, lower_word,
-    more_uppers, number, operator, optional_type, qualifiers, take_path, take_word, text, type_run,
-    value_name, word,
+    Kind, ReadError, TokenTable, boxed, expect, expect_at, has_fixed, is_minus, kind_at,
+    lower_word, more_uppers, number, operator, optional_type, qualifiers, take_path, take_word,
+    text, type_run, value_name, word,
 };
 
 /// The context of the readers of patterns.
@@ -72,7 +72,7 @@ impl<
             Kind::Fixed(Fixed::RightParen) => Ok((
                 Pat::Paren {
                     at: number(paren),
-                    pat: Box::new(self.alloc, inner)?,
+                    pat: boxed(self.alloc, inner)?,
                 },
                 at + 1,
             )),
@@ -82,7 +82,7 @@ impl<
                 Ok((
                     Pat::Typed {
                         at: number(paren),
-                        pat: Box::new(self.alloc, inner)?,
+                        pat: boxed(self.alloc, inner)?,
                         run,
                     },
                     at,
@@ -162,7 +162,7 @@ impl<
                 Pat::Opened {
                     path,
                     at: paren,
-                    pat: Box::new(self.alloc, inner)?,
+                    pat: boxed(self.alloc, inner)?,
                 },
                 after,
             )),
@@ -244,7 +244,7 @@ impl<
         let (rest, after) = self.more_items(tokens, after)?;
         let (last, after) = last_semicolon(tokens, after);
         let after = expect(tokens, close, after)?;
-        let first = Box::new(self.alloc, first)?;
+        let first = boxed(self.alloc, first)?;
         Ok((
             Pat::List {
                 at: number(at),
@@ -346,7 +346,7 @@ impl<
         let (others, after) = open_end(tokens, after);
         let (last, after) = last_semicolon(tokens, after);
         let after = expect(tokens, Fixed::RightBrace, after)?;
-        let first = Box::new(self.alloc, first)?;
+        let first = boxed(self.alloc, first)?;
         Ok((
             Pat::Record {
                 at: number(at),
@@ -485,7 +485,7 @@ impl<
             Pat::Constr(path) => match self.read_simple(tokens, at) {
                 Ok((argument, after)) => {
                     let path = take_path(self.alloc, path);
-                    let argument = Box::new(self.alloc, argument)?;
+                    let argument = boxed(self.alloc, argument)?;
                     Ok((Pat::ConstrApply { path, argument }, after))
                 }
                 Err(ReadError::Syntax) => Ok((head, at)),
@@ -494,7 +494,7 @@ impl<
             Pat::Tag(tag) => match self.read_simple(tokens, at) {
                 Ok((argument, after)) => {
                     let tag = take_word(tag);
-                    let argument = Box::new(self.alloc, argument)?;
+                    let argument = boxed(self.alloc, argument)?;
                     Ok((Pat::TagApply { tag, argument }, after))
                 }
                 Err(ReadError::Syntax) => Ok((head, at)),
@@ -514,7 +514,7 @@ impl<
         match kind_at(tokens, at) {
             Kind::Fixed(Fixed::Lazy) => {
                 let (pat, after) = self.read_simple(tokens, at + 1)?;
-                let pat = Box::new(self.alloc, pat)?;
+                let pat = boxed(self.alloc, pat)?;
                 Ok((
                     Pat::Lazy {
                         at: number(at),
@@ -540,7 +540,7 @@ impl<
         match kind_at(tokens, at) {
             Kind::Fixed(Fixed::Exception) => {
                 let (pat, after) = self.read_plain(tokens, at + 1)?;
-                let pat = Box::new(self.alloc, pat)?;
+                let pat = boxed(self.alloc, pat)?;
                 Ok((
                     Pat::Exception {
                         at: number(at),

@@ -7,6 +7,7 @@
 //! gives want of memory.
 #![tactic(auto)]
 
+mod boxes;
 mod error;
 mod names;
 mod runs;
@@ -14,6 +15,7 @@ mod table;
 mod taking;
 mod tokens;
 
+pub use boxes::boxed;
 pub use error::ReadError;
 pub use names::{is_minus, is_operator, lower_word, more_uppers, operator, qualifiers, value_name};
 pub use runs::{declaration_run, optional_type, type_run};

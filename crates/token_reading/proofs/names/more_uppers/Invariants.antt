@@ -1,10 +1,7 @@
 use Rattle.std.proofs.Common.{◌-◌, ◌∷◌, [], map}
-use Rattle.ml_trees.specs.Tree as pure
-use Rattle.ml_trees.specs.declared.fixed.Fixed.TheVariants as key
 use Rattle.ml_trees.specs.View.{view_word}
 use Rattle.token_reading.specs.Steps.{many, always}
 use Rattle.token_reading.specs.Pieces.{dot_upper}
-use Rattle.token_reading.specs.PatReading as r
 use Rattle.token_reading.specs.Tokens.{from}
 use Rattle.token_reading.proofs.Turns.{Left}
 use Rattle.token_reading.proofs.names.more_uppers.Given as goal

@@ -1,11 +1,8 @@
-use Rattle.std.proofs.Common.{◌≡◌, ◌-◌, ◌∷◌, [], List, Some, None, map, refl, ap, ◌∙◌}
+use Rattle.std.proofs.Common.{◌≡◌, ◌∷◌, [], List, Some, None, map, refl, ap, ◌∙◌}
 use Rattle.ml_trees.specs.Tok.{Name}
-use Rattle.ml_trees.specs.Tree as pure
-use Rattle.ml_trees.specs.declared.fixed.Fixed.TheVariants as key
 use Rattle.ml_trees.specs.View.{view_word}
 use Rattle.token_reading.specs.Steps.{always}
 use Rattle.token_reading.specs.Pieces.{upper_dot}
-use Rattle.token_reading.specs.PatReading as r
 use Rattle.token_reading.specs.Tokens.{from}
 use Rattle.token_reading.proofs.Turns.{turn_none, turn_end, pushed, list_before}
 use Rattle.token_reading.proofs.names.qualifiers.Goals as goal

@@ -1,7 +1,7 @@
 use Rattle.std.proofs.Common.{◌≡◌, ◌+◌, ◌-◌, List, reverse, Some, sym, ap, ◌∙◌, arith}
 use Rattle.ml_trees.specs.declared.fixed.Fixed.{Fixed}
 use Rattle.token_reading.specs.Pieces.{longest}
-use Rattle.token_reading.specs.RunRows.{is_inside, is_beside, is_first, first_after, run_length, counted, count_after}
+use Rattle.token_reading.specs.RunRows.{is_inside, is_beside, is_first, first_after, run_length, count_after}
 use Rattle.token_reading.specs.Tokens.{from}
 use Rattle.token_reading.proofs.Places.{from_end, from_next}
 use Rattle.token_reading.proofs.RunTurns.{or_later, run_ends, run_stops, run_goes_on, run_begins, run_begins_not, count_at_once, count_least}

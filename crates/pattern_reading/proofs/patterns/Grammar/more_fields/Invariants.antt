@@ -1,6 +1,5 @@
 use Rattle.std.proofs.Common.{◌-◌, map}
 use Rattle.ml_trees.specs.Tree as pure
-use Rattle.ml_trees.specs.declared.fixed.Fixed.TheVariants as key
 use Rattle.ml_trees.specs.View.{view_pat_field}
 use Rattle.token_reading.specs.Steps.{many, always}
 use Rattle.token_reading.specs.PatReading as r
