@@ -15,3 +15,6 @@ pub mod Noted
 pub mod Declaring
 pub mod Lasts
 pub mod Others
+pub mod Both
+pub mod Opening
+pub mod Split

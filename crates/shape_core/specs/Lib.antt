@@ -11,3 +11,6 @@ pub mod Respell
 pub mod Members
 pub mod Declarations
 pub mod Contents
+pub mod Items
+pub mod Parts
+pub mod Accepted

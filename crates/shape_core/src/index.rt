@@ -299,6 +299,13 @@ impl Index {
         }
     }
 
+    /// What a look-up of a value sees.
+    pub fn seen(&self, name: &[u8]) -> Seen
+        ensures { (list : List SharedEntry) → IsIndexOf self.now list → Sees (entries_of list) name.now result }
+    {
+        self.tables.find_seen(name)
+    }
+
     /// What a look-up of a value gives.
     pub fn val(&self, name: &[u8]) -> Option<Goal>
         ensures { (list : List SharedEntry) → IsIndexOf self.now list → result ≡ pure.find_val (entries_of list) name.now }

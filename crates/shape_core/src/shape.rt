@@ -100,16 +100,25 @@ fn see(seen: Seen, entry: &Entry, name: &[u8]) -> Seen
     }
 }
 
+/// What a look-up of a value sees of no entries.
+pub fn see_nothing() -> Seen
+    ensures found { result.found ≡ None }
+    ensures by { result.by ≡ None }
+    ensures passed { result.passed ≡ 0 }
+{
+    Seen {
+        found: None,
+        by: None,
+        passed: 0,
+    }
+}
+
 /// The goal that a look-up of a value gives: that of the last value of that name if no Dark entry follows it. `None` if
 /// there is no such value and no Dark entry, and otherwise Blur. It takes no memory.
 pub fn find_val(list: &[Entry], name: &[u8]) -> Option<Goal>
     ensures { result ≡ pure.find_val (entries list.now) name.now }
 {
-    let mut seen = Seen {
-        found: None,
-        by: None,
-        passed: 0,
-    };
+    let mut seen = see_nothing();
     for entry in list {
         seen = see(seen, entry, name);
     }

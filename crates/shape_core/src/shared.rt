@@ -8,11 +8,12 @@ ghost use Rattle.shape_core.specs.Node.{entries_of, and_then, shape_of, kind_of}
 ghost use Rattle.shape_core.specs.Contents.{IsIndexed};
 ghost use Rattle.rotor_base.specs.declared.looks.Watch.{Watch};
 ghost use Rattle.shape_core.specs.Places.{HasPlaces};
+ghost use Rattle.shape_core.specs.View.{Sees};
 
 use crate::contents::Contents;
 use crate::index::LookSpot;
 use crate::kinds::Kind;
-use crate::shape::add_capped;
+use crate::shape::{Seen, add_capped, see_nothing};
 use rotor_base::{Goal, MAX_LEVELS, Memory, Name, Place};
 use std::alloc::{AllocError, Global};
 use std::collections::BTreeSet;
@@ -299,6 +300,18 @@ pub fn val_of(shape: &Shared, name: &[u8]) -> Option<Goal>
         Form::Functor(_, _) => None,
         Form::Unitary(_) => None,
         Form::Opaque => None,
+    }
+}
+
+/// What a look-up of a value sees of a structure; nothing of another shape. It takes no memory.
+pub fn seen_of(shape: &Shared, name: &[u8]) -> Seen
+    ensures { Sees (pure.entries_in shape.now) name.now result }
+{
+    match &shape.node.form {
+        Form::Struct(_, contents) => contents.index.seen(name),
+        Form::Functor(_, _) => see_nothing(),
+        Form::Unitary(_) => see_nothing(),
+        Form::Opaque => see_nothing(),
     }
 }
 
