@@ -312,11 +312,11 @@ fn with_argument(
     match &mut *head {
         Expr::Constr(path) => {
             let path = take_path(alloc, path);
-            boxed(alloc, Expr::ConstrApply { path, argument })
+            Ok(boxed(alloc, Expr::ConstrApply { path, argument })?)
         }
         Expr::Tag(tag) => {
             let tag = take_word(tag);
-            boxed(alloc, Expr::TagApply { tag, argument })
+            Ok(boxed(alloc, Expr::TagApply { tag, argument })?)
         }
         _ => Ok(head),
     }
