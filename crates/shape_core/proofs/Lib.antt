@@ -17,4 +17,5 @@ pub mod Lasts
 pub mod Others
 pub mod Both
 pub mod Opening
+pub mod Positions
 pub mod Split

@@ -1,6 +1,7 @@
 //! Shapes: what modules and module types are to the names in them.
 #![tactic(auto)]
 
+mod all;
 mod contents;
 mod declarations;
 mod error;
@@ -18,6 +19,7 @@ mod shape;
 mod shared;
 mod sharing;
 
+pub use all::AllEntries;
 pub use error::FactError;
 pub use index::{LookSpot, place_of};
 pub use kinds::Kind;
