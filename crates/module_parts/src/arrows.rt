@@ -9,7 +9,7 @@ ghost use Rattle.module_parts.specs.Arrows.{read_so, before_arrow, before_arrows
 use ml_trees::{FunctorParam, ModType};
 use rotor_base::Memory;
 use std::alloc::Global;
-use token_reading::{ReadError, boxed};
+use token_reading::ReadError;
 
 /// The part before an arrow.
 #[derive(Drop)]
@@ -37,7 +37,7 @@ pub enum Step {
 fn arrow(alloc: Global, domain: Domain, behind: ModType) -> Result<ModType, Memory>
     ensures { IfOk result (λ whole. (end : ℕ → List Tok) (at : ℕ) → read_so end (Some (whole, at)) ≡ before_arrow end domain (read_so end (Some (behind, at)))) }
 {
-    let behind = boxed(alloc, behind)?;
+    let behind = Box::new(alloc, behind)?;
     match domain {
         Domain::Functor { at, params } => Ok(ModType::FunctorType {
             at,
@@ -45,14 +45,14 @@ fn arrow(alloc: Global, domain: Domain, behind: ModType) -> Result<ModType, Memo
             result: behind,
         }),
         Domain::Param(param) => {
-            let param = boxed(alloc, param)?;
+            let param = Box::new(alloc, param)?;
             Ok(ModType::ParamArrow {
                 param,
                 result: behind,
             })
         }
         Domain::Plain { body, .. } => {
-            let param = boxed(alloc, body)?;
+            let param = Box::new(alloc, body)?;
             Ok(ModType::Arrow {
                 param,
                 result: behind,
