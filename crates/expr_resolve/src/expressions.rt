@@ -20,7 +20,7 @@ ghost use Rattle.expr_resolve.specs.Opened.{opened_steps};
 use binding_model::Found;
 use ml_trees::{Argument, Binding, Branch, Case, Expr, Field, Param, Part, Word};
 use name_resolve::{
-    end_weighed_site, go_on_with, group, resolve_opening, start_of, use_label, use_minus,
+    end_weighed_site, go_on_with, group, open_in, resolve_opening, start_of, use_label, use_minus,
     use_name_in, use_operator, use_word,
 };
 use pattern_resolve::{
@@ -264,7 +264,7 @@ fn resolve_under(
     ensures scope { scope.new ≡ scope.old }
 {
     let len = scope.len();
-    go_on_with(alloc, scope, new)?;
+    go_on_with(scope, new)?;
     let done = expression(alloc, found, file, e, scope);
     scope.cut(len);
     done
@@ -496,7 +496,7 @@ fn case(
 {
     let values = pattern_group(alloc, found, file, &part.pat)?;
     let len = scope.len();
-    go_on_with(alloc, scope, &values)?;
+    go_on_with(scope, &values)?;
     let done = resolve_guarded(alloc, found, file, part, scope);
     scope.cut(len);
     done
@@ -574,7 +574,7 @@ fn parameters(
 {
     for part in list {
         let values = parameter(alloc, found, file, part, scope)?;
-        go_on_with(alloc, scope, &values)?;
+        go_on_with(scope, &values)?;
     }
     Ok(())
 }
@@ -619,7 +619,7 @@ fn parameter(
 
 /// An expression in the scope that an opening of a module gives. The site ends before the expression.
 #[cycle(expressions)]
-#[tactic(auto, using(binding_model::proofs::Takings::heavy_stays))]
+#[tactic(auto, using(crate::proofs::Fronts::front_of_front, binding_model::proofs::Takings::heavy_stays))]
 fn resolve_opened(
     alloc: Global,
     found: &mut Found,
@@ -634,8 +634,12 @@ fn resolve_opened(
     ensures scope { scope.new ≡ scope.old }
 {
     let at = Place { file, token };
-    let entries = resolve_opening(alloc, found, path, at, scope)?;
-    resolve_under(alloc, found, file, e, &entries, scope)
+    let opened = resolve_opening(found, path, at, scope)?;
+    let len = scope.len();
+    open_in(scope, opened)?;
+    let done = expression(alloc, found, file, e, scope);
+    scope.cut(len);
+    done
 }
 
 /// The guard and the body of a case.
@@ -675,7 +679,7 @@ pub fn let_part(
 {
     if recursive {
         let len = scope.len();
-        go_on_with(alloc, scope, new)?;
+        go_on_with(scope, new)?;
         let done = resolve_binding(alloc, found, file, part, scope);
         scope.cut(len);
         done
@@ -703,7 +707,7 @@ pub fn let_parts(
 {
     if recursive {
         let len = scope.len();
-        go_on_with(alloc, scope, new)?;
+        go_on_with(scope, new)?;
         let done = more_bindings(alloc, found, file, list, scope);
         scope.cut(len);
         done

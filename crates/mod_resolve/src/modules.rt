@@ -10,6 +10,7 @@ ghost use Rattle.shape_core.specs.Node.{entries_of};
 ghost use Rattle.binding_model.specs.Scopes.{mod_shape, type_shape, applied as applied_shape, applied_all, params_in, adds, opens, entries, sig_adds, sig_opens, sig_entries};
 ghost use Rattle.binding_model.specs.Taken.{HasTaken, HasStopped};
 ghost use Rattle.binding_model.specs.Walk.{mod_steps, mod_argument_steps, mod_arguments_steps, functor_param_steps, functor_steps, type_steps, item_steps, items_steps, sig_item_steps, sig_items_steps};
+ghost use Rattle.name_resolve.specs.Opened.{brings_any};
 ghost use Rattle.module_entries.specs.Given.{given_shape, given_shapes, optional_shape, optional_type_steps};
 
 use binding_model::Found;
@@ -20,7 +21,7 @@ use module_entries::{
     functor_from, functor_of, module_site, named_module, param_entries, token_of, type_at,
     type_entry, type_start,
 };
-use name_resolve::{end_weighed_site, go_on_with, group, match_target, resolve_opening};
+use name_resolve::{end_weighed_site, go_on_with, group, match_target, open_any, resolve_opening};
 use pattern_resolve::{apply, apply_to_nothing, let_values, module_entry, shape_at, share_result};
 use rotor_base::Place;
 use shape_core::{FactError, Scope, Shared, SharedEntry, bring, make_functor, make_struct};
@@ -156,7 +157,7 @@ fn functor_params(
     for part in list {
         let shape = functor_param(alloc, found, file, part, scope)?;
         let entries = param_entries(alloc, part, &shape)?;
-        go_on_with(alloc, scope, &entries)?;
+        go_on_with(scope, &entries)?;
         given.push(shape)?;
     }
     Ok(given)
@@ -234,7 +235,7 @@ pub fn module_type(
             let len = scope.len();
             let given = functor_param(alloc, found, file, param, scope)?;
             let entries = param_entries(alloc, param, &given)?;
-            go_on_with(alloc, scope, &entries)?;
+            go_on_with(scope, &entries)?;
             let shape = module_type(alloc, found, file, result, scope)?;
             scope.cut(len);
             Ok(functor_of(alloc, given, shape)?)
@@ -314,8 +315,8 @@ fn all_items(
     let mut made = Vec::new(alloc);
     for part in list {
         let added = item(alloc, found, file, part, scope)?;
-        go_on_with(alloc, scope, &added.shown)?;
-        go_on_with(alloc, scope, &added.opened)?;
+        go_on_with(scope, &added.shown)?;
+        open_any(scope, added.opened)?;
         append(&mut made, added.shown)?;
     }
     Ok(made)
@@ -362,8 +363,8 @@ fn all_sig_items(
     let mut made = Vec::new(alloc);
     for part in list {
         let added = sig_item(alloc, found, file, part, scope)?;
-        go_on_with(alloc, scope, &added.shown)?;
-        go_on_with(alloc, scope, &added.opened)?;
+        go_on_with(scope, &added.shown)?;
+        open_any(scope, added.opened)?;
         append(&mut made, added.shown)?;
     }
     Ok(made)
@@ -382,7 +383,7 @@ fn item(
     ensures taken { HasTaken result found.old found.new (item_steps file (entries_of scope.old) (view_item part.now)) }
     ensures heavy { HasStopped result found.old (item_steps file (entries_of scope.old) (view_item part.now)) }
     ensures shown { IfOk result (λ a. entries_of a.shown.items ≡ adds file (entries_of scope.old) (view_item part.now)) }
-    ensures opened { IfOk result (λ a. entries_of a.opened.items ≡ opens file (entries_of scope.old) (view_item part.now)) }
+    ensures opened { IfOk result (λ a. brings_any a.opened ≡ opens file (entries_of scope.old) (view_item part.now)) }
     ensures scope { IfOk result (λ _. scope.new ≡ scope.old) }
 {
     match part {
@@ -401,12 +402,9 @@ fn item(
             group(alloc, found, &values)?;
             let_part(alloc, found, file, first, *recursive, &values, scope)?;
             let_parts(alloc, found, file, rest, *recursive, &values, scope)?;
-            Ok(add_shown(alloc, values))
+            Ok(add_shown(values))
         }
-        Item::External(external) => Ok(add_shown(
-            alloc,
-            declare_value(alloc, file, &external.name)?,
-        )),
+        Item::External(external) => Ok(add_shown(declare_value(alloc, file, &external.name)?)),
         Item::Type(_) => Ok(add_nothing(alloc)),
         Item::Exception { .. } => Ok(add_nothing(alloc)),
         Item::Module {
@@ -424,7 +422,7 @@ fn item(
             scope.cut(len);
             let at = Place { file, token: *at };
             let shape = module_site(alloc, found, at, given, source, target)?;
-            Ok(add_shown(alloc, named_module(alloc, name, shape)?))
+            Ok(add_shown(named_module(alloc, name, shape)?))
         }
         Item::ModuleType {
             at,
@@ -434,21 +432,21 @@ fn item(
         } => {
             let shape = module_type(alloc, found, file, signature, scope)?;
             end_weighed_site(found, Place { file, token: *at }, &shape)?;
-            Ok(add_shown(alloc, type_entry(alloc, name, shape)?))
+            Ok(add_shown(type_entry(alloc, name, shape)?))
         }
         Item::Open(open) => {
             let at = Place {
                 file,
                 token: open.at,
             };
-            let entries = resolve_opening(alloc, found, &open.path.words, at, scope)?;
-            Ok(add_opened(alloc, entries))
+            let opened = resolve_opening(found, &open.path.words, at, scope)?;
+            Ok(add_opened(alloc, opened))
         }
         Item::Include { at, module: m } => {
             let shape = module(alloc, found, file, m, scope)?;
             let at = Place { file, token: *at };
             end_weighed_site(found, at, &shape)?;
-            Ok(add_shown(alloc, bring(alloc, Some(&shape), at)?))
+            Ok(add_shown(bring(alloc, Some(&shape), at)?))
         }
     }
 }
@@ -466,16 +464,17 @@ fn sig_item(
     ensures taken { HasTaken result found.old found.new (sig_item_steps file (entries_of scope.old) (view_sig_item part.now)) }
     ensures heavy { HasStopped result found.old (sig_item_steps file (entries_of scope.old) (view_sig_item part.now)) }
     ensures shown { IfOk result (λ a. entries_of a.shown.items ≡ sig_adds file (entries_of scope.old) (view_sig_item part.now)) }
-    ensures opened { IfOk result (λ a. entries_of a.opened.items ≡ sig_opens file (entries_of scope.old) (view_sig_item part.now)) }
+    ensures opened { IfOk result (λ a. brings_any a.opened ≡ sig_opens file (entries_of scope.old) (view_sig_item part.now)) }
     ensures scope { IfOk result (λ _. scope.new ≡ scope.old) }
 {
     match part {
         SigItem::SigSeparator => Ok(add_nothing(alloc)),
-        SigItem::Val { name, .. } => Ok(add_shown(alloc, declare_value(alloc, file, name)?)),
-        SigItem::SigExternal(external) => Ok(add_shown(
+        SigItem::Val { name, .. } => Ok(add_shown(declare_value(alloc, file, name)?)),
+        SigItem::SigExternal(external) => Ok(add_shown(declare_value(
             alloc,
-            declare_value(alloc, file, &external.name)?,
-        )),
+            file,
+            &external.name,
+        )?)),
         SigItem::SigType(_) => Ok(add_nothing(alloc)),
         SigItem::SigException { .. } => Ok(add_nothing(alloc)),
         SigItem::SigModule {
@@ -490,12 +489,12 @@ fn sig_item(
             scope.cut(len);
             let shape = functor_from(alloc, given, shape)?;
             end_weighed_site(found, Place { file, token: *at }, &shape)?;
-            Ok(add_shown(alloc, named_module(alloc, name, shape)?))
+            Ok(add_shown(named_module(alloc, name, shape)?))
         }
         SigItem::Alias { at, name, path, .. } => {
             let shape = shape_at(alloc, &path.words, scope)?;
             end_weighed_site(found, Place { file, token: *at }, &shape)?;
-            Ok(add_shown(alloc, module_entry(alloc, name, shape)?))
+            Ok(add_shown(module_entry(alloc, name, shape)?))
         }
         SigItem::SigModuleType {
             at,
@@ -505,21 +504,21 @@ fn sig_item(
         } => {
             let shape = module_type(alloc, found, file, signature, scope)?;
             end_weighed_site(found, Place { file, token: *at }, &shape)?;
-            Ok(add_shown(alloc, type_entry(alloc, name, shape)?))
+            Ok(add_shown(type_entry(alloc, name, shape)?))
         }
         SigItem::SigOpen(open) => {
             let at = Place {
                 file,
                 token: open.at,
             };
-            let entries = resolve_opening(alloc, found, &open.path.words, at, scope)?;
-            Ok(add_opened(alloc, entries))
+            let opened = resolve_opening(found, &open.path.words, at, scope)?;
+            Ok(add_opened(alloc, opened))
         }
         SigItem::SigInclude { at, signature } => {
             let shape = module_type(alloc, found, file, signature, scope)?;
             let at = Place { file, token: *at };
             end_weighed_site(found, at, &shape)?;
-            Ok(add_shown(alloc, bring(alloc, Some(&shape), at)?))
+            Ok(add_shown(bring(alloc, Some(&shape), at)?))
         }
     }
 }

@@ -1,6 +1,6 @@
 //! What items add and open.
 
-ghost use Rattle.std.specs.Prelude.{◌≡◌, ◌++◌, [], true, IfOk, OnOk};
+ghost use Rattle.std.specs.Prelude.{◌≡◌, ◌++◌, [], true, IfOk, None, OnOk, Some};
 ghost use Rattle.ml_trees.specs.View.{view_name, view_module_name};
 ghost use Rattle.value_sites.specs.Places.{name_sites};
 ghost use Rattle.shape_core.specs.Shape.{a_mty, none};
@@ -9,7 +9,7 @@ ghost use Rattle.binding_model.specs.Scopes.{bound, named};
 ghost use Rattle.binding_model.specs.Walk.{name_at};
 
 use ml_trees::{ModuleName, ValueName, Word};
-use name_resolve::bind_name;
+use name_resolve::{Opened, bind_name};
 use rotor_base::{Memory, Name};
 use shape_core::{Shared, SharedEntry};
 use std::alloc::Global;
@@ -18,39 +18,39 @@ use std::alloc::Global;
 #[derive(Drop)]
 pub struct Added {
     pub shown: Vec<SharedEntry>,
-    pub opened: Vec<SharedEntry>,
+    pub opened: Option<Opened>,
 }
 
 /// An item that adds nothing.
 pub fn add_nothing(alloc: Global) -> Added
     ensures shown { result.shown.items ≡ [] }
-    ensures opened { result.opened.items ≡ [] }
+    ensures opened { result.opened ≡ None }
 {
     Added {
         shown: Vec::new(alloc),
-        opened: Vec::new(alloc),
+        opened: None,
     }
 }
 
 /// An item that adds these entries.
-pub fn add_shown(alloc: Global, entries: Vec<SharedEntry>) -> Added
+pub fn add_shown(entries: Vec<SharedEntry>) -> Added
     ensures shown { result.shown.items ≡ entries.items }
-    ensures opened { result.opened.items ≡ [] }
+    ensures opened { result.opened ≡ None }
 {
     Added {
         shown: entries,
-        opened: Vec::new(alloc),
+        opened: None,
     }
 }
 
-/// An item that opens these entries.
-pub fn add_opened(alloc: Global, entries: Vec<SharedEntry>) -> Added
+/// An item that opens a module.
+pub fn add_opened(alloc: Global, opened: Opened) -> Added
     ensures shown { result.shown.items ≡ [] }
-    ensures opened { result.opened.items ≡ entries.items }
+    ensures opened { result.opened ≡ Some opened }
 {
     Added {
         shown: Vec::new(alloc),
-        opened: entries,
+        opened: Some(opened),
     }
 }
 

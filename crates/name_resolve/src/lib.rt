@@ -4,6 +4,7 @@
 mod binders;
 mod found;
 mod linked;
+mod opened;
 mod paths;
 mod recording;
 mod scopes;
@@ -15,6 +16,7 @@ pub use found::{
     use_under,
 };
 pub use linked::{match_target, pin_outside, tie_parts};
+pub use opened::{Opened, open_any, open_in, opened_at};
 pub use paths::{path_in, resolve_opening, start_of};
 pub use scopes::go_on_with;
 pub use uses::{use_label, use_minus, use_name, use_name_in, use_operator, use_word};

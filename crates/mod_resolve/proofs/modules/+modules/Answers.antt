@@ -14,6 +14,7 @@ use Rattle.binding_model.specs.Steps.{◌⨾◌}
 use Rattle.binding_model.specs.Taken.{taken, Going}
 use Rattle.binding_model.specs.Walk.{mod_steps, mod_arguments_steps, functor_steps, item_steps, items_steps, sig_items_steps}
 use Rattle.binding_model.proofs.Takings.{heavy_stays}
+use Rattle.name_resolve.specs.Opened.{brings_any}
 use Rattle.name_resolve.proofs.Lemmas.{entries_appended, joined, joined_none}
 use Rattle.expr_resolve.proofs.Fronts.{front_of_front}
 use Rattle.expr_resolve.proofs.Forms.{passed}
@@ -46,16 +47,16 @@ all_items-loop-part-preserved t c =
     let A = adds file sc i in
     let O = opens file sc i in
     let a = c.deref.result.now in
-    let b = c.deref-in-loop-part.result.now in
+    let b = c.in_ok-added.added.opened in
     let s1 = c.item.new.scope in
     let s2 = c.go_on_with.new.scope in
-    let s3 = c.go_on_with-in-loop-part.new.scope in
+    let s3 = c.open_any.new.scope in
     let hA : entries_of a ≡ A = ap entries_of c.deref.ensures.value ∙ c.in_ok-added.ensures.shown in
-    let hO : entries_of b ≡ O = ap entries_of c.deref-in-loop-part.ensures.value ∙ c.in_ok-added.ensures.opened in
+    let hO : brings_any b ≡ O = c.in_ok-added.ensures.opened in
     let e : entries_of s3 ≡ sc ⊕ A ⊕ O =
-    c.in_ok-go_on_with-2.ensures.added ∙ ap (λ x. x ⊕ entries_of b) c.in_ok-go_on_with.ensures.added
-    ∙ ap (λ s. entries_of s ⊕ entries_of a ⊕ entries_of b) c.in_ok-added.ensures.scope
-    ∙ ap (λ x. sc ⊕ x ⊕ entries_of b) hA ∙ ap (λ x. sc ⊕ A ⊕ x) hO in
+    c.in_ok-open_any.ensures.added ∙ ap (λ x. x ⊕ brings_any b) c.in_ok-go_on_with.ensures.added
+    ∙ ap (λ s. entries_of s ⊕ entries_of a ⊕ brings_any b) c.in_ok-added.ensures.scope
+    ∙ ap (λ x. sc ⊕ x ⊕ brings_any b) hA ∙ ap (λ x. sc ⊕ A ⊕ x) hO in
     let M = entries_of c.loop-part.made.items in
     let m : entries_of c.append.new.made.items ≡ M ⊕ A =
     ap entries_of c.in_ok-append.ensures ∙ entries_appended c.loop-part.made.items c.in_ok-added.added.shown.items
@@ -65,7 +66,7 @@ all_items-loop-part-preserved t c =
     let long = c.loop-part.invariant.3 in
     let same = c.in_ok-added.ensures.scope in
     let first = c.in_ok-go_on_with.ensures.long in
-    let second = c.in_ok-go_on_with-2.ensures.long in
+    let second = c.in_ok-open_any.ensures.long in
     let less : length c.args.scope.now ≤ length s2 = omega (arith, long, first, ap length same) in (
       ap (λ x. taken (Going c.item.new.found) (items_steps file x (items rest))) e
           ∙ ap (λ k. taken k (items_steps file (sc ⊕ A ⊕ O) (items rest))) (sym c.in_ok-added.ensures.taken)
@@ -75,7 +76,7 @@ all_items-loop-part-preserved t c =
       front_of_front c.args.scope.now s2 s3
           (front_of_front c.args.scope.now s1 s2 (ap (take (length c.args.scope.now)) same ∙ front)
           (omega (arith, long, ap length same)) c.in_ok-go_on_with.ensures.front)
-          less c.in_ok-go_on_with-2.ensures.front,
+          less c.in_ok-open_any.ensures.front,
       omega (arith, less, second),
     )
 
@@ -112,16 +113,16 @@ all_sig_items-loop-part-preserved t c =
     let A = sig_adds file sc i in
     let O = sig_opens file sc i in
     let a = c.deref.result.now in
-    let b = c.deref-in-loop-part.result.now in
+    let b = c.in_ok-added.added.opened in
     let s1 = c.sig_item.new.scope in
     let s2 = c.go_on_with.new.scope in
-    let s3 = c.go_on_with-in-loop-part.new.scope in
+    let s3 = c.open_any.new.scope in
     let hA : entries_of a ≡ A = ap entries_of c.deref.ensures.value ∙ c.in_ok-added.ensures.shown in
-    let hO : entries_of b ≡ O = ap entries_of c.deref-in-loop-part.ensures.value ∙ c.in_ok-added.ensures.opened in
+    let hO : brings_any b ≡ O = c.in_ok-added.ensures.opened in
     let e : entries_of s3 ≡ sc ⊕ A ⊕ O =
-    c.in_ok-go_on_with-2.ensures.added ∙ ap (λ x. x ⊕ entries_of b) c.in_ok-go_on_with.ensures.added
-    ∙ ap (λ s. entries_of s ⊕ entries_of a ⊕ entries_of b) c.in_ok-added.ensures.scope
-    ∙ ap (λ x. sc ⊕ x ⊕ entries_of b) hA ∙ ap (λ x. sc ⊕ A ⊕ x) hO in
+    c.in_ok-open_any.ensures.added ∙ ap (λ x. x ⊕ brings_any b) c.in_ok-go_on_with.ensures.added
+    ∙ ap (λ s. entries_of s ⊕ entries_of a ⊕ brings_any b) c.in_ok-added.ensures.scope
+    ∙ ap (λ x. sc ⊕ x ⊕ brings_any b) hA ∙ ap (λ x. sc ⊕ A ⊕ x) hO in
     let M = entries_of c.loop-part.made.items in
     let m : entries_of c.append.new.made.items ≡ M ⊕ A =
     ap entries_of c.in_ok-append.ensures ∙ entries_appended c.loop-part.made.items c.in_ok-added.added.shown.items
@@ -131,7 +132,7 @@ all_sig_items-loop-part-preserved t c =
     let long = c.loop-part.invariant.3 in
     let same = c.in_ok-added.ensures.scope in
     let first = c.in_ok-go_on_with.ensures.long in
-    let second = c.in_ok-go_on_with-2.ensures.long in
+    let second = c.in_ok-open_any.ensures.long in
     let less : length c.args.scope.now ≤ length s2 = omega (arith, long, first, ap length same) in (
       ap (λ x. taken (Going c.sig_item.new.found) (sig_items_steps file x (sig_items rest))) e
           ∙ ap (λ k. taken k (sig_items_steps file (sc ⊕ A ⊕ O) (sig_items rest))) (sym c.in_ok-added.ensures.taken)
@@ -141,7 +142,7 @@ all_sig_items-loop-part-preserved t c =
       front_of_front c.args.scope.now s2 s3
           (front_of_front c.args.scope.now s1 s2 (ap (take (length c.args.scope.now)) same ∙ front)
           (omega (arith, long, ap length same)) c.in_ok-go_on_with.ensures.front)
-          less c.in_ok-go_on_with-2.ensures.front,
+          less c.in_ok-open_any.ensures.front,
       omega (arith, less, second),
     )
 
