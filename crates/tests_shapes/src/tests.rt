@@ -3,4 +3,5 @@ mod looks;
 mod lookups;
 mod making;
 mod nested;
+mod openings;
 mod plain_form;
