@@ -134,3 +134,22 @@ fn more_openings_than_are_shared(rt: HostRuntime) -> Result<(), Fail> {
     assert_eq!(rt; val_in(&scope, b"y"), None);
     Ok(())
 }
+
+#[test]
+fn all_entries_in_order(rt: HostRuntime) -> Result<(), Fail> {
+    let alloc = rt.alloc();
+    let scope = opened(alloc)?;
+    let mut values = 0;
+    let mut darks = 0;
+    for entry in scope.all() {
+        match entry {
+            SharedEntry::Val(_, _) => values += 1,
+            SharedEntry::Dark(_) => darks += 1,
+            _ => {}
+        }
+    }
+    assert_eq!(rt; values, FILLERS + 4);
+    assert_eq!(rt; darks, 2);
+    assert_eq!(rt; scope.get(NUMBER + 3).is_none(), true);
+    Ok(())
+}
