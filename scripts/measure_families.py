@@ -147,9 +147,19 @@ def _(count):
     return one("let (A x" + "|A x" * count + ") = e")
 
 
-@family("k units that open 60,000 values 60 times", [1, 2, 4])
+@family("k units that open 60,000 values 60 times", [1, 2, 4, 64])
 def _(count):
     return {"a.ml": values(60_000)} | {f"b{number}.ml": "open A\n" * 60 for number in range(count)}
+
+
+@family("64 openings of 1,000 values, and n uses", [4_000, 16_000, 64_000])
+def _(count):
+    return {"a.ml": values(1_000), "b.ml": "open A\n" * 64 + "".join(f"let _ = {name_of(number % 1_000)}\n" for number in range(count))}
+
+
+@family("k openings of 1,000 values", [64, 256, 1_024, 4_096])
+def _(count):
+    return {"a.ml": values(1_000), "b.ml": "open A\n" * count}
 
 
 @family("a signature of n values, matched once: rename", [4_000, 8_000, 16_000], ("rename", "A.S.x", "fresh"))
