@@ -154,7 +154,8 @@ def _(count):
 
 @family("64 openings of 1,000 values, and n uses", [4_000, 16_000, 64_000])
 def _(count):
-    return {"a.ml": values(1_000), "b.ml": "open A\n" * 64 + "".join(f"let _ = {name_of(number % 1_000)}\n" for number in range(count))}
+    uses = "".join(f"let _ = {name_of(number % 1_000)}\n" for number in range(count))
+    return {"a.ml": values(1_000), "b.ml": "open A\n" * 64 + uses}
 
 
 @family("k openings of 1,000 values", [64, 256, 1_024, 4_096])
