@@ -105,12 +105,18 @@ def check_count(page, text, pattern, there, what):
             found.append(f"{page}: {count} {what}, and there are {there}")
 
 
-def counts_of_kinds(drivers):
-    """For each kind of these drivers, the pattern of its count, its number of rows, and what these are."""
-    for driver in drivers:
-        kinds = collections.Counter(row.split("|")[0] for row in read(f"crates/{driver}/stdin").splitlines())
-        for kind, count in kinds.items():
-            yield rf"^\| `{driver}` \| .*?([\d,]+) (?:rows )?`{kind}`", count, f"rows of the kind {kind}"
+def rows_by_kind(file):
+    """The lines of a file of crates/rows, by the kind that the line `rows KIND` before them names."""
+    pieces = re.split(r"^rows (\w+)\n", read(f"crates/rows/{file}"), flags=re.M)
+    return dict(zip(pieces[1::2], pieces[2::2]))
+
+
+def counts_of_pieces(kinds):
+    """For each first piece of a row of these kinds, the pattern of its count, its number of rows, and what these are."""
+    rows = rows_by_kind("stdin")
+    for kind in kinds:
+        for piece, count in collections.Counter(row.split("|")[0] for row in rows[kind].splitlines()).items():
+            yield rf"^\| `{kind}`, \w+ \| .*?([\d,]+) (?:rows )?`{piece}`", count, f"rows of the kind {piece}"
 
 
 def crates_of(program):
@@ -126,8 +132,8 @@ def crates_of(program):
 
 
 def rows_with(pattern):
-    """The number of rows of the driver `rows` that have such a line."""
-    rows = re.split(r"^run$", read("crates/rows/stdin"), flags=re.M)[:-1]
+    """The number of rows of the kind `commands` that have such a line."""
+    rows = re.split(r"^run$", rows_by_kind("stdin")["commands"], flags=re.M)[:-1]
     return sum(1 for row in rows if re.search(pattern, row, re.M))
 
 
@@ -144,14 +150,16 @@ def check_counts(texts):
     faults = rows_with(r"^(?:call|put|room) ")
     check_count(page, texts[page], r"([\d,]+) of them have calls that fail", faults, "rows with faults")
     check_count(page, texts[page], r"([\d,]+) are of `verify`", rows_with(r"^word verify$"), "rows of verify")
-    resolutions = read("crates/resolutions/stdin")
+    rows = rows_by_kind("stdin")
+    resolutions = rows["resolutions"]
     requests = len(re.findall(r"^(?:facts|looks|fault|respell)\b", resolutions, re.M))
     for pattern, there, what in [
-        (r"^\| `rows` \| ([\d,]+) rows", len(re.findall(r"^run$", read("crates/rows/stdin"), re.M)), "rows"),
-        (r"^\| `resolutions` \| ([\d,]+) folders", len(re.findall(r"^end$", resolutions, re.M)), "folders"),
-        (r"^\| `resolutions` \| .* with ([\d,]+) requests", requests, "requests"),
-        (r"^\| `trees` \| ([\d,]+) rows", lines_of(["crates/trees/stdout"]), "rows of trees"),
-        *counts_of_kinds(["text_rows", "folder_rows"]),
+        (r"^\| `commands`, \w+ \| ([\d,]+) rows", len(re.findall(r"^run$", rows["commands"], re.M)), "rows"),
+        (r"^\| `resolutions`, \w+ \| ([\d,]+) folders", len(re.findall(r"^end$", resolutions, re.M)), "folders"),
+        (r"^\| `resolutions`, \w+ \| .* with ([\d,]+) requests", requests, "requests"),
+        (r"^\| `trees`, \w+ \| ([\d,]+) rows", rows_by_kind("stdout")["trees"].count("\n"), "rows of trees"),
+        (r"^\| `calls`, \w+ \| ([\d,]+) rows", rows["calls"].count("\n"), "rows of calls"),
+        *counts_of_pieces(["texts", "folders"]),
     ]:
         if not re.search(pattern, texts[page], re.M):
             found.append(f"{page}: no count of {what}")

@@ -14,7 +14,7 @@ import sys
 
 PAGE = "docs/TRUSTED.md"
 # the definitions that the clauses of `rotor` and the law of one reply name
-ROOTS = [f"crates/rotor_app/specs/{name}.antt" for name in ("Said", "Done", "Table", "Laws", "Writing", "Status")]
+ROOTS = [f"crates/command_replies/specs/{name}.antt" for name in ("Said", "Done", "Table", "Laws", "Writing", "Status")]
 IN_PLACE_OF_OTHERS = "crates/lexeme_laws/"
 USE = re.compile(r"^(?:pub )?use Rattle\.(\w+)\.specs\.([\w.]+)", re.M)
 

@@ -18,9 +18,9 @@ use Rattle.rename_batch.specs.Reading.{IsBadLine, IsBatch}
 use Rattle.command_answers.proofs.Batches.{batches_are_answered}
 use Rattle.decided_lists.proofs.Known.{Known, bytes_known, within_or_over}
 use Rattle.decided_lists.proofs.Steps.{batch_lines_are_decided}
-use Rattle.rotor_app.specs.Said.{IsBarred, MayWrite, SaysFound, SaysLoaded, SaysPermitted, SaysSteps, pending_reply}
-use Rattle.rotor_app.specs.Said as said
-use Rattle.rotor_app.specs.declared.reply.Reply.{Reply}
+use Rattle.command_replies.specs.Said.{IsBarred, MayWrite, SaysFound, SaysLoaded, SaysPermitted, SaysSteps, pending_reply}
+use Rattle.command_replies.specs.Said as said
+use Rattle.command_replies.specs.declared.reply.Reply.{Reply}
 
 pub open_known : (held : FileMap) → Known (IsOpen held)
 open_known held = by (get held gate_name) refl where

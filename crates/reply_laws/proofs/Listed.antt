@@ -25,9 +25,9 @@ use Rattle.command_answers.proofs.Verdicts.{verdicts_are_answered}
 use Rattle.decided_lists.proofs.Known.{Known}
 use Rattle.decided_lists.proofs.Lists.{lists_are_answered}
 use Rattle.decided_lists.proofs.Plans.{plans_are_decided}
-use Rattle.rotor_app.specs.Said.{RefusesList, SaysAgainst, SaysRecovery, SaysSample, SaysVerify, bad_list, unloaded_reply}
-use Rattle.rotor_app.specs.Said as said
-use Rattle.rotor_app.specs.declared.reply.Reply.{Reply}
+use Rattle.command_replies.specs.Said.{RefusesList, SaysAgainst, SaysRecovery, SaysSample, SaysVerify, bad_list, unloaded_reply}
+use Rattle.command_replies.specs.Said as said
+use Rattle.command_replies.specs.declared.reply.Reply.{Reply}
 use Rattle.reply_laws.proofs.Commands.{open_known}
 
 -- ---- verify

@@ -5,10 +5,10 @@ use Rattle.rotor_base.specs.declared.target.Target.{Target}
 use Rattle.tree_io.specs.Outside.{FileMap}
 use Rattle.cli_words.specs.declared.command.Command.TheVariants as command
 use Rattle.answer_laws.proofs.Answered.{checks_are_answered, footprints_are_answered, renamings_are_answered}
-use Rattle.rotor_app.specs.declared.reply.Reply.{Reply}
-use Rattle.rotor_app.specs.declared.writing.Writing.{Writing}
-use Rattle.rotor_app.specs.Writing.{is_writing, writing_of}
-use Rattle.rotor_app.specs.Said.{Says, SaysBatch, SaysChecked, SaysFound, SaysPermitted, SaysRename, SaysRenaming, SaysShown, batch_in, usage_reply}
+use Rattle.command_replies.specs.declared.reply.Reply.{Reply}
+use Rattle.command_replies.specs.declared.writing.Writing.{Writing}
+use Rattle.command_replies.specs.Writing.{is_writing, writing_of}
+use Rattle.command_replies.specs.Said.{Says, SaysBatch, SaysChecked, SaysFound, SaysPermitted, SaysRename, SaysRenaming, SaysShown, batch_in, usage_reply}
 use Rattle.reply_laws.specs.Laws.{RepliesAreGiven}
 use Rattle.reply_laws.proofs.Commands.{found_replied, loaded_replied, permitted_replied}
 use Rattle.reply_laws.proofs.Listed.{recovery_replied, sample_replied, verify_replied}

@@ -5,13 +5,13 @@ use Rattle.tree_io.specs.declared.outside.TreeError.TheVariants as variant
 use Rattle.tree_io.specs.Outside.{FileMap, Rose, HasCause}
 use Rattle.cli_words.specs.declared.command.Command.{Command}
 use Rattle.cli_words.specs.declared.command.Command.TheVariants as command
-use Rattle.rotor_app.specs.declared.status.Status.{Status}
-use Rattle.rotor_app.specs.declared.status.Status.TheVariants.{Usage, TreeFault, Memory}
-use Rattle.rotor_app.specs.declared.reply.Reply.{Reply}
-use Rattle.rotor_app.specs.Said.{IsReply, Says, SaysAlone, AsksNothing}
-use Rattle.rotor_app.proofs.Saying.{sample_writes}
-use Rattle.rotor_app.specs.Table.{Seen, seen, Ending, unread, wanting, carried, unwritten, unput, Carried, whole, write_failed, put_failed, IsReplyTo}
-use Rattle.rotor_app.specs.Table.{IsComplete}
+use Rattle.command_replies.specs.declared.status.Status.{Status}
+use Rattle.command_replies.specs.declared.status.Status.TheVariants.{Usage, TreeFault, Memory}
+use Rattle.command_replies.specs.declared.reply.Reply.{Reply}
+use Rattle.command_replies.specs.Said.{IsReply, Says, SaysAlone, AsksNothing}
+use Rattle.command_replies.proofs.Saying.{sample_writes}
+use Rattle.command_replies.specs.Table.{Seen, seen, Ending, unread, wanting, carried, unwritten, unput, Carried, whole, write_failed, put_failed, IsReplyTo}
+use Rattle.command_replies.specs.Table.{IsComplete}
 
 pub failed_rose : {T : Type 0} (before now : ℕ) (r : Result T TreeError) → HasCause before now r → r ≡ Err variant.Failed → Rose before now
 failed_rose before now r h e = h.failed e

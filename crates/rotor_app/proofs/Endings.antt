@@ -3,12 +3,12 @@ use Rattle.std.proofs.Common.{◌≡◌, ℕ, ◌<◌, ◌⊎◌, inl, inr, List
 use Rattle.rotor_base.specs.declared.source.SourceFile.{SourceFile}
 use Rattle.tree_io.specs.Outside.{FileMap, Rose, Takes}
 use Rattle.cli_words.specs.declared.command.Command.{Command}
-use Rattle.rotor_app.specs.declared.status.Status.{Status}
-use Rattle.rotor_app.specs.declared.status.Status.TheVariants.{Done, Refused, Usage, Project, TreeFault, SinkFault, Memory}
-use Rattle.rotor_app.specs.declared.reply.Reply.{Reply}
-use Rattle.rotor_app.specs.Said.{IsReply, SaysAlone, AsksNothing, SomeReply}
-use Rattle.rotor_app.specs.Table.{Seen, Ending, unread, wanting, carried, unwritten, unput, IsQuiet, IsAsSaid, IsFault, TreeStopped, SinkStopped}
-use Rattle.rotor_app.specs.Table.{IsRefusal, AnsweredAlone, CutAlone}
+use Rattle.command_replies.specs.declared.status.Status.{Status}
+use Rattle.command_replies.specs.declared.status.Status.TheVariants.{Done, Refused, Usage, Project, TreeFault, SinkFault, Memory}
+use Rattle.command_replies.specs.declared.reply.Reply.{Reply}
+use Rattle.command_replies.specs.Said.{IsReply, SaysAlone, AsksNothing, SomeReply}
+use Rattle.command_replies.specs.Table.{Seen, Ending, unread, wanting, carried, unwritten, unput, IsQuiet, IsAsSaid, IsFault, TreeStopped, SinkStopped}
+use Rattle.command_replies.specs.Table.{IsRefusal, AnsweredAlone, CutAlone}
 use Rattle.tree_io.specs.Writes.{after, Written, StoppedWriting}
 
 module _ (request : Option Command) (before now : Seen) (tree_same sink_same : Type 0) (status : Status) where

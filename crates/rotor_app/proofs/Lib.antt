@@ -1,10 +1,2 @@
 pub mod Concluded
 pub mod Endings
-pub mod NoMemory
-pub mod Saying
-pub mod Beside
-pub mod Undoing
-pub mod Batching
-pub mod Verifying
-pub mod OneReply
-pub mod Accepting

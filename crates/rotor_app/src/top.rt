@@ -3,28 +3,12 @@ ghost use Rattle.std.specs.Prelude.{◌≡◌, ◌⊎◌, [], None, map, string_
 ghost use Rattle.std.specs.Option.{ForSome};
 ghost use Rattle.tree_io.specs.Outside.{Rose};
 ghost use Rattle.cli_words.specs.Words.{command_of};
-ghost use Rattle.rotor_app.specs.Said.{AsksNothing, SomeReply};
-ghost use Rattle.rotor_app.specs.Done.{IsDoneIfAccepted, IsDoneSo, IsRecoverable};
-ghost use Rattle.rotor_app.specs.Laws.{HasLaws};
-ghost use Rattle.rotor_app.specs.Table.{Ending, seen, IsComplete, Carried, Put, IsQuiet, IsAsSaid, IsFault, TreeStopped, SinkStopped, IsRefusal, AnsweredAlone, CutAlone};
+ghost use Rattle.command_replies.specs.Said.{AsksNothing, SomeReply};
+ghost use Rattle.command_replies.specs.Done.{IsDoneIfAccepted, IsDoneSo, IsRecoverable};
+ghost use Rattle.command_replies.specs.Table.{Ending, seen, IsComplete, Carried, Put, IsQuiet, IsAsSaid, IsFault, TreeStopped, SinkStopped, IsRefusal, AnsweredAlone, CutAlone};
 ghost use Rattle.tree_io.specs.Writes.{HasRoom};
 
-use crate::decide::decide;
-use crate::reply::Reply;
-use crate::status::Status;
-use cli_words::undos_are_read;
-use project_load::{
-    lists_are_one, loaded_files_are_a_project, new_sources_are_loaded, old_sources_are_restored,
-};
-use rename_batch::{
-    batches_are_undone, batches_keep_runs, batches_rewrite, undos_are_read as batch_undos_are_read,
-};
-use rename_laws::{
-    changes_are_listed, footprints_are_least, renamings_are_undone, renamings_are_valid,
-    renamings_keep_facts, renamings_keep_runs, renamings_rewrite, shown_footprints_are_least,
-    undos_have_places,
-};
-use rename_verify::yes_is_valid;
+use command_replies::{Reply, Status, decide, recall_laws};
 use std::alloc::Global;
 use tree_io::{Sink, Tree, TreeError, write_all};
 
@@ -99,31 +83,6 @@ pub fn rotor<T: Tree, S: Sink>(alloc: Global, words: &[String], tree: &mut T, ou
 {
     recall_laws();
     conclude(alloc, words, tree, out)
-}
-
-/// The laws of the crates below that the contract of [`rotor`] rests on.
-fn recall_laws()
-    ensures { HasLaws }
-{
-    loaded_files_are_a_project();
-    new_sources_are_loaded();
-    old_sources_are_restored();
-    undos_are_read();
-    renamings_rewrite();
-    renamings_are_undone();
-    undos_have_places();
-    renamings_are_valid();
-    renamings_keep_facts();
-    renamings_keep_runs();
-    footprints_are_least();
-    shown_footprints_are_least();
-    changes_are_listed();
-    batches_rewrite();
-    batches_are_undone();
-    batch_undos_are_read();
-    batches_keep_runs();
-    yes_is_valid();
-    lists_are_one();
 }
 
 /// Runs the command of the words over a folder and an output.

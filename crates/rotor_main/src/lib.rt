@@ -1,12 +1,14 @@
 //! The program over a runtime: its words, its current folder and its standard output.
 #![tactic(auto)]
 
-ghost use Rattle.std.specs.Prelude.{◌≡◌, ◌⊎◌};
+ghost use Rattle.std.specs.Prelude.{◌≡◌, ◌⊎◌, None, map, string_bytes};
 ghost use Rattle.std.specs.Process.{exit_status};
-ghost use Rattle.rotor_app.specs.declared.status.Status.{Status};
-ghost use Rattle.rotor_app.specs.Status.{code_of};
+ghost use Rattle.cli_words.specs.Words.{command_of};
+ghost use Rattle.command_replies.specs.declared.status.Status.{Status};
+ghost use Rattle.command_replies.specs.Status.{code_of};
+ghost use Rattle.rotor_run.specs.Run.{IsRun};
 
-use rotor_app::Status;
+use command_replies::Status;
 use rotor_run::run_command;
 use std::fs::File;
 use std::process::ExitCode;
@@ -23,15 +25,19 @@ const NO_WORDS: u8 = 7;
 pub fn run<R: Env + Files<File = File> + Print + AllocGlobal>(rt: &R) -> ExitCode
     ensures { (exit_status result ≡ 7) ⊎ ((status : Status) × (exit_status result ≡ code_of status)) }
 {
-    let words = match words_of(rt) {
-        Ok(words) => words,
-        Err(error) if error.kind() == io::ErrorKind::OutOfMemory => {
-            return exit_code(Status::Memory);
-        }
-        Err(_) => return ExitCode::from(NO_WORDS),
-    };
+    match words_of(rt) {
+        Ok(words) => run_words(rt, &words),
+        Err(error) if error.kind() == io::ErrorKind::OutOfMemory => exit_code(Status::Memory),
+        Err(_) => ExitCode::from(NO_WORDS),
+    }
+}
+
+/// Runs the command of the words over the current folder and the standard output, and returns the code of its status.
+fn run_words<R: Files<File = File> + Print + AllocGlobal>(rt: &R, words: &[String]) -> ExitCode
+    ensures { (status : Status) × IsRun (command_of (map string_bytes words.now)) None None None None status × (exit_status result ≡ code_of status) }
+{
     let mut out = HostSink::new(rt);
-    let ended = run_command(rt.alloc(), &words, HostTree::new(rt), &mut out);
+    let ended = run_command(rt.alloc(), words, HostTree::new(rt), &mut out);
     exit_code(ended.status)
 }
 

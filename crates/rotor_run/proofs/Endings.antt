@@ -5,11 +5,11 @@ use Rattle.tree_io.specs.Writes.{after}
 use Rattle.known.specs.Known.{files_of}
 use Rattle.tree_io.specs.Outside.{FileMap, Rose}
 use Rattle.cli_words.specs.declared.command.Command.{Command}
-use Rattle.rotor_app.specs.declared.status.Status.{Status}
-use Rattle.rotor_app.specs.declared.status.Status.TheVariants.{Done, Refused, Usage, Project, TreeFault, SinkFault, Memory}
-use Rattle.rotor_app.specs.Said.{AsksNothing, SomeReply}
-use Rattle.rotor_app.specs.Done.{IsDoneSo}
-use Rattle.rotor_app.specs.Table.{AnsweredAlone, IsAsSaid, IsFault, IsQuiet, Seen, TreeStopped, seen}
+use Rattle.command_replies.specs.declared.status.Status.{Status}
+use Rattle.command_replies.specs.declared.status.Status.TheVariants.{Done, Refused, Usage, Project, TreeFault, SinkFault, Memory}
+use Rattle.command_replies.specs.Said.{AsksNothing, SomeReply}
+use Rattle.command_replies.specs.Done.{IsDoneSo}
+use Rattle.command_replies.specs.Table.{AnsweredAlone, IsAsSaid, IsFault, IsQuiet, Seen, TreeStopped, seen}
 use Rattle.rotor_run.specs.Run.{AreFilesOf, IsCarriedOut, IsRun, IsRunOver, IsUnseen}
 
 -- a count from 0 on rose only if the status says so

@@ -3,11 +3,11 @@ use Rattle.std.specs.Prelude.{◌≡◌, ◌⊎◌, ℕ, List, Option, IfSome}
 use Rattle.tree_io.specs.Outside.{FileMap, Takes}
 use Rattle.tree_io.specs.Writes.{after}
 use Rattle.cli_words.specs.declared.command.Command.{Command}
-use Rattle.rotor_app.specs.declared.status.Status.{Status}
-use Rattle.rotor_app.specs.declared.status.Status.TheVariants.{Done, TreeFault, SinkFault, Memory}
-use Rattle.rotor_app.specs.declared.reply.Reply.{Reply}
-use Rattle.rotor_app.specs.Said.{AsksNothing, SaysAlone, SomeReply}
-use Rattle.rotor_app.specs.Done.{IsDoneSo}
+use Rattle.command_replies.specs.declared.status.Status.{Status}
+use Rattle.command_replies.specs.declared.status.Status.TheVariants.{Done, TreeFault, SinkFault, Memory}
+use Rattle.command_replies.specs.declared.reply.Reply.{Reply}
+use Rattle.command_replies.specs.Said.{AsksNothing, SaysAlone, SomeReply}
+use Rattle.command_replies.specs.Done.{IsDoneSo}
 
 -- the folder or the output failed, or there was no memory
 abbrev pub IsStopped : Status → Type 0

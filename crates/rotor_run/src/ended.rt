@@ -2,7 +2,7 @@
 ghost use Rattle.std.specs.Prelude.{◌≡◌};
 ghost use Rattle.rotor_run.specs.Run.{IsUnseen};
 
-use rotor_app::Status;
+use command_replies::Status;
 use tree_io::TreeError;
 
 /// How a run ended: the status, and the folder that it was given.

@@ -3,15 +3,16 @@ ghost use Rattle.std.specs.Prelude.{◌≡◌, ◌⊎◌, map, string_bytes, IfN
 ghost use Rattle.std.specs.Option.{ForSome};
 ghost use Rattle.cli_words.specs.Words.{command_of};
 ghost use Rattle.known.specs.Known.{files_of, known_faults, known_files, known_tree};
-ghost use Rattle.rotor_app.specs.Said.{AsksNothing};
-ghost use Rattle.rotor_app.specs.Table.{IsRefusal, TreeStopped};
+ghost use Rattle.command_replies.specs.Said.{AsksNothing};
+ghost use Rattle.command_replies.specs.Table.{IsRefusal, TreeStopped};
 ghost use Rattle.rotor_run.specs.Run.{IsRun, IsRunOver};
 
 use crate::ended::Ended;
 use crate::seeing::read_for_command;
 use cli_words::{Command, WordsError, read_words};
+use command_replies::Status;
 use known::{Known, Outer};
-use rotor_app::{Status, rotor};
+use rotor_app::rotor;
 use rotor_base::Memory;
 use std::alloc::Global;
 use tree_io::{Sink, TreeError};

@@ -1,9 +1,6 @@
-//! What drivers share that read rows: the pieces of a row, and the loop that prints an answer to each. A row is a line.
-//! `|` separates its pieces, and texts are percent-encoded.
+//! The pieces of a row. A row is a line. `|` separates its pieces, and texts are percent-encoded.
 #![tactic(auto)]
 
-mod answers;
 mod pieces;
 
-pub use answers::print_answers;
-pub use pieces::{decode_bytes, decode_source, decode_text, encode_bytes, read_number};
+pub use pieces::{cut_pieces, decode_bytes, decode_source, decode_text, encode_bytes, read_number};

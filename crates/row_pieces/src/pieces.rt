@@ -8,6 +8,15 @@ use percent_encoding::{NON_ALPHANUMERIC, percent_decode, percent_encode};
 use rotor_base::{Memory, Row, SourceFile, Text};
 use std::alloc::Global;
 
+/// The pieces of a row. `Memory` is the only error.
+pub fn cut_pieces(alloc: Global, row: &str) -> Result<Vec<&str>, Memory> {
+    let mut pieces = Vec::new(alloc);
+    for piece in row.split('|') {
+        pieces.push(piece)?;
+    }
+    Ok(pieces)
+}
+
 /// The bytes of a percent-encoded text. `Memory` is the only error.
 pub fn decode_bytes(alloc: Global, text: &str) -> Result<Vec<u8>, Memory>
     ensures { IfOk result (λ bytes. bytes.items ≡ percent.percent_decode text.now) }

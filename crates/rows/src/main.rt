@@ -1,39 +1,27 @@
-//! Runs the rows of its input over folders in memory, and prints how each ends. `run` ends a row; `cuts` ends one that
-//! is run with each beginning of its last file.
+//! Answers the rows of its input, and prints the answers. A line `rows KIND` says what the lines behind it are, up to
+//! the next such line: rows of `commands`, `trees`, `resolutions`, `texts`, `folders` or `calls`. The program prints the
+//! line too. The crate of a kind says what its rows are.
 #![tactic(auto)]
 
-mod row;
+mod kinds;
 
-use row::Row;
-use std::alloc::{AllocError, Global};
+use kinds::Rows;
 use std::io;
 
 fn main(rt: HostRuntime) -> io::Result<()> {
     let alloc = rt.alloc();
-    let mut row = Row::new(alloc);
+    let mut rows = Rows::Unknown;
     for line in rt.lines(alloc) {
         let line = line?;
-        match line.as_str() {
-            "run" => {
-                print!(rt; "{}", run_row(alloc, &row)?)?;
-                row = Row::new(alloc);
-            }
-            "cuts" => {
-                for len in 0..row.last_len() {
-                    print!(rt; "{}", run_row(alloc, &row.cut(alloc, len)?)?)?;
-                }
-                row = Row::new(alloc);
-            }
-            line => row.read(alloc, line)?,
+        if let Some(kind) = line.as_str().strip_prefix("rows ") {
+            rows = Rows::new(alloc, kind);
+            print!(rt; "rows {kind}\n")?;
+            continue;
+        }
+        match rows.answer_line(alloc, line.as_str()) {
+            Ok(answer) => print!(rt; "{answer}")?,
+            Err(_) => print!(rt; "no memory\n")?,
         }
     }
     Ok(())
-}
-
-/// How a row ends.
-fn run_row(alloc: Global, row: &Row) -> Result<String, AllocError> {
-    match row.run(alloc) {
-        Ok(ended) => Ok(ended),
-        Err(_) => String::from_str(alloc, "no memory\n"),
-    }
 }

@@ -1,5 +1,5 @@
 use Rattle.std.proofs.Common.{inr}
-use Rattle.rotor_app.specs.declared.status.Status.TheVariants.{Memory}
+use Rattle.command_replies.specs.declared.status.Status.TheVariants.{Memory}
 use Rattle.rotor_main.proofs.run.Goals as goal
 
 pub returns-in-Err : goal.returns-in-Err

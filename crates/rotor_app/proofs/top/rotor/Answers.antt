@@ -1,12 +1,12 @@
 use Rattle.std.proofs.Common.{◌≡◌, map, string_bytes, Option, subst}
 use Rattle.tree_io.specs.Outside.{FileMap}
 use Rattle.cli_words.specs.Words.{command_of}
-use Rattle.rotor_app.specs.Table.{seen, IsAsSaid, TreeStopped}
+use Rattle.command_replies.specs.Table.{seen, IsAsSaid, TreeStopped}
 use Rattle.rotor_app.proofs.Endings.{answers, usage_only, alone_same, alone_said, alone_cut, tree_fault, sink_fault, tree_stopped, sink_stopped}
 use Rattle.rotor_app.proofs.Endings.{unchanged, quiet_sink, done_said}
 use Rattle.rotor_app.proofs.Concluded.{alone_writes}
-use Rattle.rotor_app.proofs.Accepting.{done_if_accepted}
-use Rattle.rotor_app.proofs.Undoing.{done_so, recoverable}
+use Rattle.command_replies.proofs.Accepting.{done_if_accepted}
+use Rattle.command_replies.proofs.Undoing.{done_so, recoverable}
 use Rattle.rotor_app.proofs.top.rotor.Goals as goal
 
 pub returns-clause-answer : goal.returns-clause-answer

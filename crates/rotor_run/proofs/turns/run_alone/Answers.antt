@@ -1,6 +1,6 @@
 use Rattle.std.proofs.Common.{map, string_bytes, ap}
 use Rattle.cli_words.specs.Words.{command_of}
-use Rattle.rotor_app.specs.Table.{seen}
+use Rattle.command_replies.specs.Table.{seen}
 use Rattle.rotor_run.proofs.Endings.{alone_is}
 use Rattle.rotor_run.proofs.turns.run_alone.Goals as goal
 

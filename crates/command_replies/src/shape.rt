@@ -1,0 +1,41 @@
+//! The reply to `footprint`.
+ghost use Rattle.std.specs.Prelude.{◌≡◌, [], IfOk, IfSome, IsErrOf};
+ghost use Rattle.tree_io.specs.Outside.{HasCause, StaysSteady};
+ghost use Rattle.command_replies.specs.Said.{IsCommandReply, SaysShape, SaysShown};
+
+use crate::folder::load_project;
+use crate::reply::{Reply, refused_reply, silent_reply, source_names, unloaded_reply};
+use rename_files::foot;
+use rotor_base::{Files, Memory, Outcome, Target};
+use std::alloc::Global;
+use tree_io::{Tree, TreeError};
+
+/// The reply to `footprint`, which writes nothing. The errors are `Failed` and `Memory`.
+pub fn reply_to_shape<T: Tree>(
+    alloc: Global,
+    target: &Target,
+    tree: &mut T,
+) -> Result<Reply, TreeError>
+    ensures kind { IfOk result IsCommandReply }
+    ensures silent { IfOk result (λ reply. reply.writes ≡ []) }
+    ensures said { IfOk result (λ reply. IfSome (T.content tree.old) (λ held. SaysShape target.now held reply)) }
+    ensures content { T.content tree.new ≡ T.content tree.old }
+    ensures cause { HasCause (T.faults tree.old) (T.faults tree.new) result }
+    ensures steady { StaysSteady (T.is_steady tree.old) (T.is_steady tree.new) (IsErrOf result TreeError.Failed) }
+{
+    match load_project(alloc, tree)? {
+        Ok(files) => Ok(shown_reply(alloc, target, &files)?),
+        Err(error) => Ok(unloaded_reply(alloc, false, error)?),
+    }
+}
+
+/// The reply to `footprint` over the files of a project.
+fn shown_reply(alloc: Global, target: &Target, files: &Files) -> Result<Reply, Memory>
+    ensures { IfOk result (SaysShown target.now files.now) }
+{
+    let names = source_names(alloc, files.entries())?;
+    match foot(alloc, files, target) {
+        Ok(shown) => silent_reply(alloc, false, &names, &Outcome::Shown(shown)),
+        Err(refusal) => refused_reply(alloc, false, &names, refusal),
+    }
+}

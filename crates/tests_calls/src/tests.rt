@@ -1,0 +1,5 @@
+mod bounds;
+mod graph;
+mod lexemes;
+mod reading;
+mod spans;

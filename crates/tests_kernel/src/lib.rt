@@ -1,5 +1,0 @@
-//! The tests of the lexer, of replaced spans, of footprints and of names.
-#![tactic(auto)]
-
-#[cfg(test)]
-mod tests;

@@ -1,5 +1,0 @@
-mod faults;
-mod limits;
-mod outside;
-mod run;
-mod system;
