@@ -54,11 +54,11 @@ def make_source(folder):
 
 LOADS = [
     ("one source, 1 MB", make_source, [
-        ["check"], ["footprint", "A.base"], ["rename", "A.base", "fresh"], ["rename", "A.base", "fresh", "--write"]]),
+        ["check"], ["footprint", "A.base"], ["rename", "A.base", "root"], ["rename", "A.base", "root", "--write"]]),
     ("1,000 sources, 4 MB", lambda folder: make_units(folder, 1_000, 4_000), [
-        ["check"], ["footprint", "U0000.base"], ["rename", "U0000.base", "fresh"]]),
+        ["check"], ["footprint", "U0000.base"], ["rename", "U0000.base", "root"]]),
     ("2,000 sources, 8 MB", lambda folder: make_units(folder, 2_000, 4_000), [
-        ["check"], ["rename", "U0000.base", "fresh"], ["rename", "U0000.base", "fresh", "--write"]]),
+        ["check"], ["rename", "U0000.base", "root"], ["rename", "U0000.base", "root", "--write"]]),
     ("two versions of 1,000 sources", lambda folder: make_versions(folder, 1_000, 4_000), [
         ["verify", "old.list", "new.list"]]),
     ("none", lambda folder: None, [["sample", "500"]]),
