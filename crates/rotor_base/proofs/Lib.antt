@@ -5,3 +5,4 @@ pub mod Loads
 pub mod Places
 pub mod Rising
 pub mod SpaceCuts
+pub mod Twins

@@ -5,13 +5,14 @@ ghost use Rattle.std.specs.Option.{ForSome, option_copied, option_map};
 ghost use Rattle.std.specs.Str.{bytes_eq};
 ghost use Rattle.std.specs.Str.Lines.{lines};
 ghost use Rattle.rotor_base.specs.Limits.{max_file_bytes};
-ghost use Rattle.rotor_base.specs.Files.{IsRefusedBy, too_many, too_large, long_manifest, double_unit, bad_manifest, bad_line, least_word, lesser, doubled_units, are_twins};
+ghost use Rattle.rotor_base.specs.Files.{IsRefusedBy, too_many, too_large, long_manifest, double_unit, bad_manifest, bad_line, least_word, lesser, doubled_units};
 
 use crate::lines::next_line;
 use crate::unit::SourceUnit;
 use crate::{LoadError, MAX_FILE_BYTES, MAX_SOURCES, MAX_TOTAL_BYTES, Memory, Name, SourceFile};
 use std::alloc::Global;
 use std::cmp::Ordering;
+use std::collections::BTreeSet;
 
 /// Whether there are not too many sources.
 #[tactic(auto, unfolding(crate::specs::Files::too_many))]
@@ -77,7 +78,7 @@ pub(crate) fn check_units(alloc: Global, units: &[SourceUnit]) -> Result<(), Loa
     ensures passed { OnOk result (double_unit units.now ≡ None) }
     ensures refused { IfErr result (IsRefusedBy (double_unit units.now)) }
 {
-    match least_double(units) {
+    match least_double(alloc, units)? {
         None => Ok(()),
         Some(unit) => Err(LoadError::DoubleUnit {
             unit: Name::new(alloc, unit)?,
@@ -85,25 +86,26 @@ pub(crate) fn check_units(alloc: Global, units: &[SourceUnit]) -> Result<(), Loa
     }
 }
 
-/// The least unit that two sources of one kind give.
-fn least_double<'a>(units: &'a [SourceUnit]) -> Option<&'a [u8]>
-    ensures { option_copied result ≡ least_word (doubled_units units.now) }
+/// The least unit that two sources of one kind give. `Memory` is the only error.
+fn least_double<'a>(alloc: Global, units: &'a [SourceUnit]) -> Result<Option<&'a [u8]>, Memory>
+    ensures { IfOk result (λ least. option_copied least ≡ least_word (doubled_units units.now)) }
 {
+    let mut bodies: BTreeSet<&[u8]> = BTreeSet::new(alloc);
+    let mut faces: BTreeSet<&[u8]> = BTreeSet::new(alloc);
     let mut least: Option<&[u8]> = None;
-    for (at, unit) in units.iter().enumerate() {
-        if has_twin(&units[at + 1..], unit) {
-            least = Some(lesser_of(least, unit.name.as_bytes()));
+    for at in (0..units.len()).rev() {
+        let unit = &units[at];
+        let name = unit.name.as_bytes();
+        let is_new = if unit.is_body {
+            bodies.insert(name)?
+        } else {
+            faces.insert(name)?
+        };
+        if !is_new {
+            least = Some(lesser_of(least, name));
         }
     }
-    least
-}
-
-/// Whether one of these sources is of the same kind as one, and gives its unit.
-fn has_twin(units: &[SourceUnit], unit: &SourceUnit) -> bool
-    ensures { result ≡ list_any (are_twins unit.now) units.now }
-{
-    units.iter().any(|other| unit.is_body == other.is_body
-        && unit.name.as_bytes() == other.name.as_bytes())
+    Ok(least)
 }
 
 /// The lesser of two words in byte order; if there is but one, that one.
