@@ -19,8 +19,8 @@ use ml_trees::{Argument, Expr, Fixed, Part};
 use rotor_base::Class;
 use std::alloc::Global;
 use token_reading::{
-    Kind, ReadError, TokenTable, boxed, expect, kind_at, lower_word, number, qualifiers, take_path,
-    take_word, text, word,
+    Kind, ReadError, TokenTable, boxed, expect, fit, kind_at, lower_word, number, qualifiers,
+    take_path, take_word, text, word,
 };
 
 impl<
@@ -103,11 +103,11 @@ impl<
                     push_boxed(&mut found, next)?;
                     at = after;
                 }
-                Err(ReadError::Syntax) => return Ok((found, at)),
+                Err(ReadError::Syntax) => return Ok((fit(found), at)),
                 Err(ReadError::Memory) => return Err(ReadError::Memory),
             }
         }
-        Ok((found, at))
+        Ok((fit(found), at))
     }
 
     /// An expression of level 16, and the parts behind it, but none behind a constructor.
@@ -203,11 +203,11 @@ impl<
                     found.push(next)?;
                     at = after;
                 }
-                Err(ReadError::Syntax) => return Ok((found, at)),
+                Err(ReadError::Syntax) => return Ok((fit(found), at)),
                 Err(ReadError::Memory) => return Err(ReadError::Memory),
             }
         }
-        Ok((found, at))
+        Ok((fit(found), at))
     }
 
     /// What it is applied to: a constructor or a tag to one expression at most.

@@ -19,7 +19,9 @@ use expr_parts::{
 use expr_reading::Wanted;
 use ml_trees::{Bracket, Expr, Fixed, ValueName};
 use std::alloc::Global;
-use token_reading::{ReadError, TokenTable, boxed, expect, expect_at, has_fixed, number, operator};
+use token_reading::{
+    ReadError, TokenTable, boxed, expect, expect_at, fit, has_fixed, number, operator,
+};
 
 impl<
     F: Copy
@@ -67,14 +69,14 @@ impl<
                     found.push(next)?;
                     at = after;
                     if !goes_on {
-                        return Ok((found, at));
+                        return Ok((fit(found), at));
                     }
                 }
-                Err(ReadError::Syntax) => return Ok((found, at)),
+                Err(ReadError::Syntax) => return Ok((fit(found), at)),
                 Err(ReadError::Memory) => return Err(ReadError::Memory),
             }
         }
-        Ok((found, at))
+        Ok((fit(found), at))
     }
 
     /// What follows the first item: further ones, and whether there is a last `;`.

@@ -15,7 +15,7 @@ use expr_parts::{Edge, on_edge};
 use expr_reading::Wanted;
 use ml_trees::{Branch, Expr, Fixed};
 use std::alloc::Global;
-use token_reading::{ReadError, TokenTable, boxed, expect, has_fixed, number};
+use token_reading::{ReadError, TokenTable, boxed, expect, fit, has_fixed, number};
 
 /// What follows an `else`.
 #[derive(Drop)]
@@ -96,22 +96,22 @@ impl<
             match self.else_branch(tokens, at) {
                 Ok((part, after)) => match part {
                     Otherwise::Last(last) => {
-                        return Ok(((found, Some(last)), after));
+                        return Ok(((fit(found), Some(last)), after));
                     }
                     Otherwise::If(next) => {
                         let goes_on = !on_edge(Edge::OpenIf, &next.then);
                         found.push(next)?;
                         at = after;
                         if !goes_on {
-                            return Ok(((found, None), at));
+                            return Ok(((fit(found), None), at));
                         }
                     }
                 },
-                Err(ReadError::Syntax) => return Ok(((found, None), at)),
+                Err(ReadError::Syntax) => return Ok(((fit(found), None), at)),
                 Err(ReadError::Memory) => return Err(ReadError::Memory),
             }
         }
-        Ok(((found, None), at))
+        Ok(((fit(found), None), at))
     }
 
     /// The same behind a branch, if it cannot take them. `Memory` is the only error.

@@ -22,8 +22,8 @@ use pattern_reading::{pattern, simple_pattern};
 use rotor_base::Class;
 use std::alloc::Global;
 use token_reading::{
-    Kind, ReadError, TokenTable, boxed, expect, expect_at, has_fixed, kind_at, lower_word, number,
-    optional_type, text, word,
+    Kind, ReadError, TokenTable, boxed, expect, expect_at, fit, has_fixed, kind_at, lower_word,
+    number, optional_type, text, word,
 };
 
 impl<
@@ -266,11 +266,11 @@ impl<
                     found.push(next)?;
                     at = after;
                 }
-                Err(ReadError::Syntax) => return Ok((found, at)),
+                Err(ReadError::Syntax) => return Ok((fit(found), at)),
                 Err(ReadError::Memory) => return Err(ReadError::Memory),
             }
         }
-        Ok((found, at))
+        Ok((fit(found), at))
     }
 
     /// After the names of types behind the `(` at `start`.
@@ -362,11 +362,11 @@ impl<
                     push_boxed(&mut found, next)?;
                     at = after;
                 }
-                Err(ReadError::Syntax) => return Ok((found, at)),
+                Err(ReadError::Syntax) => return Ok((fit(found), at)),
                 Err(ReadError::Memory) => return Err(ReadError::Memory),
             }
         }
-        Ok((found, at))
+        Ok((fit(found), at))
     }
 }
 

@@ -12,7 +12,7 @@ ghost use Rattle.expr_parts.specs.Rows.{local_of};
 use crate::pieces::path;
 use ml_trees::{Fixed, LocalArgument, LocalModule};
 use std::alloc::Global;
-use token_reading::{ReadError, TokenTable, expect, has_fixed, number};
+use token_reading::{ReadError, TokenTable, expect, fit, has_fixed, number};
 
 /// A module in parentheses, or `()`.
 #[cycle(local)]
@@ -66,11 +66,11 @@ fn local_arguments(
                 found.push(next)?;
                 at = after;
             }
-            Err(ReadError::Syntax) => return Ok((found, at)),
+            Err(ReadError::Syntax) => return Ok((fit(found), at)),
             Err(ReadError::Memory) => return Err(ReadError::Memory),
         }
     }
-    Ok((found, at))
+    Ok((fit(found), at))
 }
 
 /// The module of a `let module`, nested at most so deep and over at most so many levels. The errors are `Syntax` and

@@ -39,5 +39,6 @@ pub fn lex<'a>(alloc: Global, src: &'a [u8]) -> Result<Vec<Token<'a>>, LexError>
         };
         rest = skip(rest, len);
     }
+    tokens.shrink_to_fit();
     Ok(tokens)
 }

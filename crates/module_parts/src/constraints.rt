@@ -12,7 +12,9 @@ ghost use Rattle.module_reading.specs.ModReading as r;
 use ml_trees::{Constraint, Fixed, WithClause, Word};
 use rotor_base::Class;
 use std::alloc::Global;
-use token_reading::{Kind, ReadError, TokenTable, expect, kind_at, text, token_word, type_run};
+use token_reading::{
+    Kind, ReadError, TokenTable, expect, fit, kind_at, text, token_word, type_run,
+};
 
 /// Whether `=` or `:=` is at a place.
 fn is_sign(tokens: &TokenTable<'_>, at: usize) -> bool
@@ -106,11 +108,11 @@ fn more_constraints(
                 found.push(next)?;
                 at = after;
             }
-            Err(ReadError::Syntax) => return Ok((found, at)),
+            Err(ReadError::Syntax) => return Ok((fit(found), at)),
             Err(ReadError::Memory) => return Err(ReadError::Memory),
         }
     }
-    Ok((found, at))
+    Ok((fit(found), at))
 }
 
 /// A `with` and constraints between `and`.
@@ -148,9 +150,9 @@ pub fn with_clauses(
                 found.push(next)?;
                 at = after;
             }
-            Err(ReadError::Syntax) => return Ok((found, at)),
+            Err(ReadError::Syntax) => return Ok((fit(found), at)),
             Err(ReadError::Memory) => return Err(ReadError::Memory),
         }
     }
-    Ok((found, at))
+    Ok((fit(found), at))
 }

@@ -14,7 +14,8 @@ use ml_trees::{External, Fixed, ModuleName, Path, Run, ValueName, Word};
 use rotor_base::Class;
 use std::alloc::Global;
 use token_reading::{
-    Kind, ReadError, TokenTable, expect, expect_at, kind_at, number, type_run, value_name, word,
+    Kind, ReadError, TokenTable, expect, expect_at, fit, kind_at, number, type_run, value_name,
+    word,
 };
 
 /// The name of a module, or `_`. The errors are `Syntax` and `Memory`.
@@ -65,11 +66,11 @@ fn more_texts(
                 found.push(next)?;
                 at = after;
             }
-            Err(ReadError::Syntax) => return Ok((found, at)),
+            Err(ReadError::Syntax) => return Ok((fit(found), at)),
             Err(ReadError::Memory) => return Err(ReadError::Memory),
         }
     }
-    Ok((found, at))
+    Ok((fit(found), at))
 }
 
 /// After the texts of an `external`, of which there is one at least.

@@ -13,7 +13,7 @@ use crate::modules::Modules;
 use crate::names::module_name;
 use ml_trees::{Fixed, FunctorParam, ModExpr, ModType};
 use std::alloc::Global;
-use token_reading::{Kind, ReadError, TokenTable, boxed, expect, has_fixed, kind_at, number};
+use token_reading::{Kind, ReadError, TokenTable, boxed, expect, fit, has_fixed, kind_at, number};
 
 impl<
     F: Copy
@@ -93,11 +93,11 @@ impl<
                     found.push(next)?;
                     at = after;
                 }
-                Err(ReadError::Syntax) => return Ok((found, at)),
+                Err(ReadError::Syntax) => return Ok((fit(found), at)),
                 Err(ReadError::Memory) => return Err(ReadError::Memory),
             }
         }
-        Ok((found, at))
+        Ok((fit(found), at))
     }
 
     /// A `:` and a module type, or none. The errors are `Syntax` and `Memory`.

@@ -19,8 +19,8 @@ use ml_trees::{Fixed, ModExpr, ModType, Open, SigItem};
 use rotor_base::Class;
 use std::alloc::Global;
 use token_reading::{
-    Kind, ReadError, TokenTable, declaration_run, expect, expect_at, has_fixed, kind_at, number,
-    type_run, value_name,
+    Kind, ReadError, TokenTable, declaration_run, expect, expect_at, fit, has_fixed, kind_at,
+    number, type_run, value_name,
 };
 
 /// After the `module` at `start`: a name, `=` and the path of a module.
@@ -216,10 +216,10 @@ impl<
                     found.push(next)?;
                     at = after;
                 }
-                Err(ReadError::Syntax) => return Ok((found, at)),
+                Err(ReadError::Syntax) => return Ok((fit(found), at)),
                 Err(ReadError::Memory) => return Err(ReadError::Memory),
             }
         }
-        Ok((found, at))
+        Ok((fit(found), at))
     }
 }

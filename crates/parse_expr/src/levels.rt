@@ -27,7 +27,8 @@ use ml_trees::{Expr, Fixed, Word};
 use rotor_base::Class;
 use std::alloc::Global;
 use token_reading::{
-    Kind, ReadError, TokenTable, boxed, expect, is_minus, kind_at, lacks_in, text, token_word, word,
+    Kind, ReadError, TokenTable, boxed, expect, fit, is_minus, kind_at, lacks_in, text, token_word,
+    word,
 };
 
 impl<
@@ -146,14 +147,14 @@ impl<
                     found.push((next.0, next.1))?;
                     at = after;
                     if !goes_on {
-                        return Ok((found, at));
+                        return Ok((fit(found), at));
                     }
                 }
-                Err(ReadError::Syntax) => return Ok((found, at)),
+                Err(ReadError::Syntax) => return Ok((fit(found), at)),
                 Err(ReadError::Memory) => return Err(ReadError::Memory),
             }
         }
-        Ok((found, at))
+        Ok((fit(found), at))
     }
 
     /// An expression of the levels above, and the operators of one level behind it with their operands.
@@ -261,14 +262,14 @@ impl<
                     found.push(next.0)?;
                     at = after;
                     if !goes_on {
-                        return Ok((found, at));
+                        return Ok((fit(found), at));
                     }
                 }
-                Err(ReadError::Syntax) => return Ok((found, at)),
+                Err(ReadError::Syntax) => return Ok((fit(found), at)),
                 Err(ReadError::Memory) => return Err(ReadError::Memory),
             }
         }
-        Ok((found, at))
+        Ok((fit(found), at))
     }
 
     /// An expression of any level.
@@ -321,14 +322,14 @@ impl<
                     found.push(next)?;
                     at = after;
                     if !goes_on {
-                        return Ok((found, at));
+                        return Ok((fit(found), at));
                     }
                 }
-                Err(ReadError::Syntax) => return Ok((found, at)),
+                Err(ReadError::Syntax) => return Ok((fit(found), at)),
                 Err(ReadError::Memory) => return Err(ReadError::Memory),
             }
         }
-        Ok((found, at))
+        Ok((fit(found), at))
     }
 
     /// What follows the first expression: further ones, and whether there is a last `;`.

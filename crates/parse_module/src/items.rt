@@ -20,7 +20,7 @@ use ml_trees::{Fixed, Item, ModExpr, ModType, Open};
 use module_parts::{external, module_name, read_opened};
 use std::alloc::Global;
 use token_reading::{
-    Kind, ReadError, TokenTable, declaration_run, expect_at, has_fixed, kind_at, number,
+    Kind, ReadError, TokenTable, declaration_run, expect_at, fit, has_fixed, kind_at, number,
 };
 
 /// Whether an item is `;;`.
@@ -222,10 +222,10 @@ impl<
                     found.push(next)?;
                     at = after;
                 }
-                Err(ReadError::Syntax) => return Ok((found, at)),
+                Err(ReadError::Syntax) => return Ok((fit(found), at)),
                 Err(ReadError::Memory) => return Err(ReadError::Memory),
             }
         }
-        Ok((found, at))
+        Ok((fit(found), at))
     }
 }

@@ -14,7 +14,7 @@ use expr_parts::path;
 use ml_trees::{Fixed, FunctorParam, ModArgument, ModExpr, ModType};
 use rotor_base::Class;
 use std::alloc::Global;
-use token_reading::{Kind, ReadError, TokenTable, boxed, expect, has_fixed, kind_at, number};
+use token_reading::{Kind, ReadError, TokenTable, boxed, expect, fit, has_fixed, kind_at, number};
 
 /// A module and what is given to it, if anything is.
 #[tactic(auto, using(crate::proofs::Rows::applications, ml_trees::proofs::Variants::mod_expr_views))]
@@ -192,11 +192,11 @@ impl<
                     found.push(next)?;
                     at = after;
                 }
-                Err(ReadError::Syntax) => return Ok((found, at)),
+                Err(ReadError::Syntax) => return Ok((fit(found), at)),
                 Err(ReadError::Memory) => return Err(ReadError::Memory),
             }
         }
-        Ok((found, at))
+        Ok((fit(found), at))
     }
 
     /// A module and the arguments behind it.

@@ -27,7 +27,7 @@ use ml_trees::{Bracket, Fixed, Pat, PatField, Path, ValueName, Word};
 use rotor_base::Class;
 use std::alloc::Global;
 use token_reading::{
-    Kind, ReadError, TokenTable, boxed, expect, expect_at, has_fixed, is_minus, kind_at,
+    Kind, ReadError, TokenTable, boxed, expect, expect_at, fit, has_fixed, is_minus, kind_at,
     lower_word, more_uppers, number, operator, optional_type, qualifiers, take_path, take_word,
     text, type_run, value_name, word,
 };
@@ -209,11 +209,11 @@ impl<
                     found.push(next)?;
                     at = after;
                 }
-                Err(ReadError::Syntax) => return Ok((found, at)),
+                Err(ReadError::Syntax) => return Ok((fit(found), at)),
                 Err(ReadError::Memory) => return Err(ReadError::Memory),
             }
         }
-        Ok((found, at))
+        Ok((fit(found), at))
     }
 
     /// After the `[` or `[|` at a place.
@@ -325,11 +325,11 @@ impl<
                     found.push(next)?;
                     at = after;
                 }
-                Err(ReadError::Syntax) => return Ok((found, at)),
+                Err(ReadError::Syntax) => return Ok((fit(found), at)),
                 Err(ReadError::Memory) => return Err(ReadError::Memory),
             }
         }
-        Ok((found, at))
+        Ok((fit(found), at))
     }
 
     /// After the `{` at a place.
@@ -582,11 +582,11 @@ impl<
                     found.push(next)?;
                     at = after;
                 }
-                Err(ReadError::Syntax) => return Ok((found, at)),
+                Err(ReadError::Syntax) => return Ok((fit(found), at)),
                 Err(ReadError::Memory) => return Err(ReadError::Memory),
             }
         }
-        Ok((found, at))
+        Ok((fit(found), at))
     }
 
     /// Patterns between `::`.
@@ -626,11 +626,11 @@ impl<
                     found.push(next)?;
                     at = after;
                 }
-                Err(ReadError::Syntax) => return Ok((found, at)),
+                Err(ReadError::Syntax) => return Ok((fit(found), at)),
                 Err(ReadError::Memory) => return Err(ReadError::Memory),
             }
         }
-        Ok((found, at))
+        Ok((fit(found), at))
     }
 
     /// Patterns between `,`.
@@ -674,11 +674,11 @@ impl<
                     found.push(next)?;
                     at = after;
                 }
-                Err(ReadError::Syntax) => return Ok((found, at)),
+                Err(ReadError::Syntax) => return Ok((fit(found), at)),
                 Err(ReadError::Memory) => return Err(ReadError::Memory),
             }
         }
-        Ok((found, at))
+        Ok((fit(found), at))
     }
 
     /// Patterns between `|`.
@@ -721,11 +721,11 @@ impl<
                     found.push(next)?;
                     at = after;
                 }
-                Err(ReadError::Syntax) => return Ok((found, at)),
+                Err(ReadError::Syntax) => return Ok((fit(found), at)),
                 Err(ReadError::Memory) => return Err(ReadError::Memory),
             }
         }
-        Ok((found, at))
+        Ok((fit(found), at))
     }
 
     /// A pattern and the names behind it.

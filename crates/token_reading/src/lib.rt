@@ -15,7 +15,7 @@ mod table;
 mod taking;
 mod tokens;
 
-pub use boxes::boxed;
+pub use boxes::{boxed, fit};
 pub use error::ReadError;
 pub use names::{is_minus, is_operator, lower_word, more_uppers, operator, qualifiers, value_name};
 pub use runs::{declaration_run, optional_type, type_run};

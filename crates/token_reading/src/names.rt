@@ -10,6 +10,7 @@ ghost use Rattle.token_reading.specs.Gives.{text_at, Gives};
 ghost use Rattle.token_reading.specs.Tokens.{from};
 ghost use Rattle.token_reading.specs.Rows.{first_is, keyword_operator};
 
+use crate::boxes::fit;
 use crate::error::ReadError;
 use crate::table::{TokenTable, kind_at};
 use crate::tokens::{Kind, has_fixed, number, text, token_word, word};
@@ -49,11 +50,11 @@ pub fn more_uppers(
                 found.push(next)?;
                 at = after;
             }
-            Err(ReadError::Syntax) => return Ok((found, at)),
+            Err(ReadError::Syntax) => return Ok((fit(found), at)),
             Err(ReadError::Memory) => return Err(ReadError::Memory),
         }
     }
-    Ok((found, at))
+    Ok((fit(found), at))
 }
 
 /// The name of a module and a `.`.
@@ -90,11 +91,11 @@ pub fn qualifiers(
                 found.push(next)?;
                 at = after;
             }
-            Err(ReadError::Syntax) => return Ok((found, at)),
+            Err(ReadError::Syntax) => return Ok((fit(found), at)),
             Err(ReadError::Memory) => return Err(ReadError::Memory),
         }
     }
-    Ok((found, at))
+    Ok((fit(found), at))
 }
 
 /// A lower-case name. The errors are `Syntax` and `Memory`.

@@ -10,6 +10,7 @@ ghost use Rattle.token_reading.specs.Rows.{first_is};
 ghost use Rattle.token_reading.specs.Gives.{Gives};
 ghost use Rattle.token_reading.specs.Tokens.{from};
 
+use crate::boxes::fit;
 use crate::error::ReadError;
 use crate::table::{TokenTable, kind_at};
 use crate::tokens::{Kind, has_fixed, is_same, text, token_word};
@@ -295,7 +296,7 @@ fn words(alloc: Global, tokens: &TokenTable<'_>, count: usize, at: usize) -> Res
     for next in at..at + count {
         words.push(token_word(alloc, tokens, next)?)?;
     }
-    Ok(Run { words })
+    Ok(Run { words: fit(words) })
 }
 
 /// The longest type from a place. The errors are `Syntax` and `Memory`.

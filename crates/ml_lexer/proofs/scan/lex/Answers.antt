@@ -27,7 +27,8 @@ loop-rest-preserved c = elim c.match-piece_at.branch [
 ]
 
 pub returns-clause-found : goal.returns-clause-found
-returns-clause-found c = left_end c.loop-rest.invariant (grind (arith, common_steps))
+returns-clause-found c = rw (c.shrink_to_fit.ensures.items) (left_end c.loop-rest.invariant (grind (arith, common_steps)))
 
 pub returns-clause-few : goal.returns-clause-few
-returns-clause-few c = tokens_are_few _ _ (left_end c.loop-rest.invariant (grind (arith, common_steps)))
+returns-clause-few c = rw (c.shrink_to_fit.ensures.items)
+    (tokens_are_few _ _ (left_end c.loop-rest.invariant (grind (arith, common_steps))))

@@ -9,11 +9,12 @@ use Rattle.module_parts.proofs.names.more_texts.Goals as goal
 
 pub returns-in-Err-Syntax : goal.returns-in-Err-Syntax
 returns-in-Err-Syntax c =
+    rw (c.fit.ensures) (
     let part = text_word in
     let here = from c.args.tokens.now c.loop-turn.at in
     let failed : part here ≡ None = rw c.in-Err-Syntax.field-0-is at c.in-Err-Syntax.ensures in
     ap Some (turn_none [] ◌∷◌ always part (map view_word c.loop-turn.found.items) c.args.depth c.loop-turn._turn here _ c.loop-turn-test.true failed
-    c.loop-turn.invariant ∙ ap (λ (l : List Name). (l, here)) (list_before view_word c.loop-turn.found.items))
+    c.loop-turn.invariant ∙ ap (λ (l : List Name). (l, here)) (list_before view_word c.loop-turn.found.items)))
 
 pub loop-turn-preserved : goal.loop-turn-preserved
 loop-turn-preserved c =
@@ -24,7 +25,8 @@ loop-turn-preserved c =
 
 pub returns : goal.returns
 returns c =
+    rw (c.fit-2.ensures) (
     let part = text_word in
     let here = from c.args.tokens.now c.loop-turn.at in
     ap Some (turn_end [] ◌∷◌ always part (map view_word c.loop-turn.found.items) c.args.depth c.loop-turn._turn here _ c.loop-turn-test.false
-    c.loop-turn.invariant ∙ ap (λ (l : List Name). (l, here)) (list_before view_word c.loop-turn.found.items))
+    c.loop-turn.invariant ∙ ap (λ (l : List Name). (l, here)) (list_before view_word c.loop-turn.found.items)))

@@ -12,8 +12,9 @@ returns-in-Err-Syntax c =
     let part = dot_upper in
     let here = from c.args.tokens.now c.loop-turn.at in
     let failed : part here ≡ None = rw c.in-Err-Syntax.field-0-is at c.in-Err-Syntax.ensures in
-    ap Some (turn_none [] ◌∷◌ always part (map view_word c.loop-turn.found.items) c.args.depth c.loop-turn._turn here _ c.loop-turn-test.true failed
-    c.loop-turn.invariant ∙ ap (λ (l : List Name). (l, here)) (list_before view_word c.loop-turn.found.items))
+    rw (c.fit.ensures)
+    (ap Some (turn_none [] ◌∷◌ always part (map view_word c.loop-turn.found.items) c.args.depth c.loop-turn._turn here _ c.loop-turn-test.true failed
+    c.loop-turn.invariant ∙ ap (λ (l : List Name). (l, here)) (list_before view_word c.loop-turn.found.items)))
 
 pub loop-turn-preserved : goal.loop-turn-preserved
 loop-turn-preserved c =
@@ -26,5 +27,6 @@ pub returns : goal.returns
 returns c =
     let part = dot_upper in
     let here = from c.args.tokens.now c.loop-turn.at in
-    ap Some (turn_end [] ◌∷◌ always part (map view_word c.loop-turn.found.items) c.args.depth c.loop-turn._turn here _ c.loop-turn-test.false
-    c.loop-turn.invariant ∙ ap (λ (l : List Name). (l, here)) (list_before view_word c.loop-turn.found.items))
+    rw (c.fit-2.ensures)
+    (ap Some (turn_end [] ◌∷◌ always part (map view_word c.loop-turn.found.items) c.args.depth c.loop-turn._turn here _ c.loop-turn-test.false
+    c.loop-turn.invariant ∙ ap (λ (l : List Name). (l, here)) (list_before view_word c.loop-turn.found.items)))

@@ -11,12 +11,13 @@ use Rattle.expr_forms.proofs.readers.Forms.more_params.Goals as goal
 
 pub returns-in-Err-Syntax : goal.returns-in-Err-Syntax
 returns-in-Err-Syntax g c =
+    rw (c.fit.ensures) (
     let part = r.param (read_expr c.args.self.now.grammar.depth) c.args.self.now.grammar.depth in
     let here = from c.args.tokens.now c.loop-turn.at in
     let failed : part here ≡ None = rw c.in-Err-Syntax.field-0-is at c.in-Err-Syntax.ensures in
     ap Some (turn_none pure.no_param pure.more_param always part (map view_param c.loop-turn.found.items) c.args.self.now.grammar.depth
     c.loop-turn._turn here
-    _ c.loop-turn-test.true failed c.loop-turn.invariant ∙ ap (λ (l : pure.Params). (l, here)) (params_before c.loop-turn.found.items))
+    _ c.loop-turn-test.true failed c.loop-turn.invariant ∙ ap (λ (l : pure.Params). (l, here)) (params_before c.loop-turn.found.items)))
 
 pub loop-turn-preserved : goal.loop-turn-preserved
 loop-turn-preserved g c =
@@ -28,8 +29,9 @@ loop-turn-preserved g c =
 
 pub returns : goal.returns
 returns g c =
+    rw (c.fit-2.ensures) (
     let part = r.param (read_expr c.args.self.now.grammar.depth) c.args.self.now.grammar.depth in
     let here = from c.args.tokens.now c.loop-turn.at in
     ap Some (turn_end pure.no_param pure.more_param always part (map view_param c.loop-turn.found.items) c.args.self.now.grammar.depth
     c.loop-turn._turn here
-    _ c.loop-turn-test.false c.loop-turn.invariant ∙ ap (λ (l : pure.Params). (l, here)) (params_before c.loop-turn.found.items))
+    _ c.loop-turn-test.false c.loop-turn.invariant ∙ ap (λ (l : pure.Params). (l, here)) (params_before c.loop-turn.found.items)))

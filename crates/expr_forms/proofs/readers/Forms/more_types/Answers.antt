@@ -9,12 +9,13 @@ use Rattle.expr_forms.proofs.readers.Forms.more_types.Goals as goal
 
 pub returns-in-Err-Syntax : goal.returns-in-Err-Syntax
 returns-in-Err-Syntax g c =
+    rw (c.fit.ensures) (
     let part = lower_word in
     let here = from c.args.tokens.now c.loop-turn.at in
     let failed : part here ≡ None = rw c.in-Err-Syntax.field-0-is at c.in-Err-Syntax.ensures in
     ap Some (turn_none [] ◌∷◌ always part (map view_word c.loop-turn.found.items) c.args.self.now.grammar.depth c.loop-turn._turn here _
     c.loop-turn-test.true
-    failed c.loop-turn.invariant ∙ ap (λ (l : List Name). (l, here)) (list_before view_word c.loop-turn.found.items))
+    failed c.loop-turn.invariant ∙ ap (λ (l : List Name). (l, here)) (list_before view_word c.loop-turn.found.items)))
 
 pub loop-turn-preserved : goal.loop-turn-preserved
 loop-turn-preserved g c =
@@ -25,8 +26,9 @@ loop-turn-preserved g c =
 
 pub returns : goal.returns
 returns g c =
+    rw (c.fit-2.ensures) (
     let part = lower_word in
     let here = from c.args.tokens.now c.loop-turn.at in
     ap Some (turn_end [] ◌∷◌ always part (map view_word c.loop-turn.found.items) c.args.self.now.grammar.depth c.loop-turn._turn here _
     c.loop-turn-test.false
-    c.loop-turn.invariant ∙ ap (λ (l : List Name). (l, here)) (list_before view_word c.loop-turn.found.items))
+    c.loop-turn.invariant ∙ ap (λ (l : List Name). (l, here)) (list_before view_word c.loop-turn.found.items)))

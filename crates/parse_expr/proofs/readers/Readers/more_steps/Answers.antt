@@ -11,13 +11,14 @@ use Rattle.parse_expr.proofs.readers.Readers.more_steps.Goals as goal
 
 pub returns-in-Err-Syntax : goal.returns-in-Err-Syntax
 returns-in-Err-Syntax g c =
+    rw (c.fit-in-Err-Syntax.ensures) (
     let part = r.semicolon_part (read_expr c.args.self.now.grammar.depth) c.args.self.now.grammar.depth
     (item_of c.args.self.now.grammar.depth false) in
     let here = from c.args.tokens.now c.loop-turn.at in
     let failed : part here ≡ None = rw c.in-Err-Syntax.field-0-is at c.in-Err-Syntax.ensures in
     ap Some (turn_none pure.no_link r.cons_link (λ x. r.no_form x.1) part (map link_of c.loop-turn.found.items) c.args.self.now.grammar.depth
     c.loop-turn._turn here _ c.loop-turn-test.true failed c.loop-turn.invariant
-    ∙ ap (λ (l : pure.Links). (l, here)) (links_before c.loop-turn.found.items))
+    ∙ ap (λ (l : pure.Links). (l, here)) (links_before c.loop-turn.found.items)))
 
 pub loop-turn-preserved : goal.loop-turn-preserved
 loop-turn-preserved g c =
@@ -30,19 +31,21 @@ loop-turn-preserved g c =
 
 pub returns : goal.returns
 returns g c =
+    rw (c.fit-2.ensures) (
     let part = r.semicolon_part (read_expr c.args.self.now.grammar.depth) c.args.self.now.grammar.depth
     (item_of c.args.self.now.grammar.depth false) in
     let here = from c.args.tokens.now c.loop-turn.at in
     ap Some (turn_end pure.no_link r.cons_link (λ x. r.no_form x.1) part (map link_of c.loop-turn.found.items) c.args.self.now.grammar.depth
     c.loop-turn._turn here _ c.loop-turn-test.false c.loop-turn.invariant
-    ∙ ap (λ (l : pure.Links). (l, here)) (links_before c.loop-turn.found.items))
+    ∙ ap (λ (l : pure.Links). (l, here)) (links_before c.loop-turn.found.items)))
 
 pub returns-then-not-goes_on : goal.returns-then-not-goes_on
 returns-then-not-goes_on g c =
+    rw (c.fit.ensures) (
     let part = r.semicolon_part (read_expr c.args.self.now.grammar.depth) c.args.self.now.grammar.depth
     (item_of c.args.self.now.grammar.depth false) in
     let after = from c.args.tokens.now c.in-Ok.after in
     ap Some (pushed_last pure.no_link r.cons_link (λ x. r.no_form x.1) part link_of c.loop-turn.found.items c.push.new.self.items c.in-Ok.next
     c.args.self.now.grammar.depth c.loop-turn._turn (from c.args.tokens.now c.loop-turn.at) after _ c.in_ok-push-in-Ok.ensures.items
     c.loop-turn-test.true c.in-Ok.ensures (ap not (sym c.on_edge-goes_on.ensures ∙ c.if-not-goes_on.true)) c.loop-turn.invariant
-    ∙ ap (λ (l : pure.Links). (l, after)) (links_before c.push.new.self.items))
+    ∙ ap (λ (l : pure.Links). (l, after)) (links_before c.push.new.self.items)))

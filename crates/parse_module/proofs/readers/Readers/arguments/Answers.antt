@@ -10,13 +10,14 @@ use Rattle.parse_module.proofs.readers.Readers.arguments.Goals as goal
 
 pub returns-in-Err-Syntax : goal.returns-in-Err-Syntax
 returns-in-Err-Syntax g c =
+    rw (c.fit.ensures) (
     let part = mod_argument (read_mod c.args.self.now.parts.depth) (read_type c.args.self.now.parts.depth) c.args.self.now.parts.depth in
     let here = from c.args.tokens.now c.loop-turn.at in
     let failed : part here ≡ None = rw c.in-Err-Syntax.field-0-is at c.in-Err-Syntax.ensures in
     ap Some (turn_none pure.no_mod_argument pure.more_mod_argument always part (map view_mod_argument c.loop-turn.found.items)
     c.args.self.now.parts.depth
     c.loop-turn._turn here _ c.loop-turn-test.true failed c.loop-turn.invariant
-    ∙ ap (λ (l : pure.ModArguments). (l, here)) (arguments_before c.loop-turn.found.items))
+    ∙ ap (λ (l : pure.ModArguments). (l, here)) (arguments_before c.loop-turn.found.items)))
 
 pub loop-turn-preserved : goal.loop-turn-preserved
 loop-turn-preserved g c =
@@ -27,9 +28,10 @@ loop-turn-preserved g c =
 
 pub returns : goal.returns
 returns g c =
+    rw (c.fit-2.ensures) (
     let part = mod_argument (read_mod c.args.self.now.parts.depth) (read_type c.args.self.now.parts.depth) c.args.self.now.parts.depth in
     let here = from c.args.tokens.now c.loop-turn.at in
     ap Some (turn_end pure.no_mod_argument pure.more_mod_argument always part (map view_mod_argument c.loop-turn.found.items)
     c.args.self.now.parts.depth
     c.loop-turn._turn here _ c.loop-turn-test.false c.loop-turn.invariant
-    ∙ ap (λ (l : pure.ModArguments). (l, here)) (arguments_before c.loop-turn.found.items))
+    ∙ ap (λ (l : pure.ModArguments). (l, here)) (arguments_before c.loop-turn.found.items)))

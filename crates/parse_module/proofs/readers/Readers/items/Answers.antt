@@ -8,11 +8,12 @@ use Rattle.parse_module.proofs.readers.Readers.items.Goals as goal
 
 pub returns-in-Err-Syntax : goal.returns-in-Err-Syntax
 returns-in-Err-Syntax g c =
+    rw (c.fit.ensures) (
     let d = c.args.self.now.parts.depth in
     let here = from c.args.tokens.now c.loop-turn.at in
     let failed : item_of (read_mod d) (read_type d) d c.loop-turn.fresh here ≡ None = rw c.in-Err-Syntax.field-0-is at c.in-Err-Syntax.ensures in
     ap Some (item_none d (map view_item c.loop-turn.found.items) d c.loop-turn._turn c.loop-turn.fresh here _ c.loop-turn-test.true failed
-    c.loop-turn.invariant ∙ ap (λ (l : pure.Items). (l, here)) (items_before c.loop-turn.found.items))
+    c.loop-turn.invariant ∙ ap (λ (l : pure.Items). (l, here)) (items_before c.loop-turn.found.items)))
 
 pub loop-turn-preserved : goal.loop-turn-preserved
 loop-turn-preserved g c =
@@ -23,7 +24,8 @@ loop-turn-preserved g c =
 
 pub returns : goal.returns
 returns g c =
+    rw (c.fit-2.ensures) (
     let d = c.args.self.now.parts.depth in
     let here = from c.args.tokens.now c.loop-turn.at in
     ap Some (items_end d (map view_item c.loop-turn.found.items) d c.loop-turn._turn c.loop-turn.fresh here _ c.loop-turn-test.false
-    c.loop-turn.invariant ∙ ap (λ (l : pure.Items). (l, here)) (items_before c.loop-turn.found.items))
+    c.loop-turn.invariant ∙ ap (λ (l : pure.Items). (l, here)) (items_before c.loop-turn.found.items)))

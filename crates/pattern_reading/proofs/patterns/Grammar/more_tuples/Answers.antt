@@ -12,12 +12,13 @@ use Rattle.pattern_reading.proofs.patterns.Grammar.more_tuples.Goals as goal
 
 pub returns-in-Err-Syntax : goal.returns-in-Err-Syntax
 returns-in-Err-Syntax g c =
+    rw (c.fit.ensures) (
     let part = r.next_pat (read_pat c.args.self.now.depth) c.args.self.now.depth key.Bar
     (r.tuple_pat (read_pat c.args.self.now.depth) c.args.self.now.depth) in
     let here = from c.args.tokens.now c.loop-turn.at in
     let failed : part here ≡ None = rw c.in-Err-Syntax.field-0-is at c.in-Err-Syntax.ensures in
     ap Some (turn_none pure.no_pat pure.more_pat always part (map view_pat c.loop-turn.found.items) c.args.self.now.depth c.loop-turn._turn here
-    _ c.loop-turn-test.true failed c.loop-turn.invariant ∙ ap (λ (l : pure.Pats). (l, here)) (pats_before c.loop-turn.found.items))
+    _ c.loop-turn-test.true failed c.loop-turn.invariant ∙ ap (λ (l : pure.Pats). (l, here)) (pats_before c.loop-turn.found.items)))
 
 pub loop-turn-preserved : goal.loop-turn-preserved
 loop-turn-preserved g c =
@@ -29,8 +30,9 @@ loop-turn-preserved g c =
 
 pub returns : goal.returns
 returns g c =
+    rw (c.fit-2.ensures) (
     let part = r.next_pat (read_pat c.args.self.now.depth) c.args.self.now.depth key.Bar
     (r.tuple_pat (read_pat c.args.self.now.depth) c.args.self.now.depth) in
     let here = from c.args.tokens.now c.loop-turn.at in
     ap Some (turn_end pure.no_pat pure.more_pat always part (map view_pat c.loop-turn.found.items) c.args.self.now.depth c.loop-turn._turn here
-    _ c.loop-turn-test.false c.loop-turn.invariant ∙ ap (λ (l : pure.Pats). (l, here)) (pats_before c.loop-turn.found.items))
+    _ c.loop-turn-test.false c.loop-turn.invariant ∙ ap (λ (l : pure.Pats). (l, here)) (pats_before c.loop-turn.found.items)))
